@@ -25,7 +25,7 @@ def debug(start: list[str], words: list[str], name: str) -> int:
     except OSError:
         return DEVICE
     if os.isatty(0) and os.isatty(1) and "--live" not in words:
-        return at_terminal(start, given, name)
+        return at_terminal(start, words, given, name)
     return on_pipes(start, words, given)
 
 
@@ -57,7 +57,7 @@ def on_pipes(start: list[str], words: list[str], given: bytes) -> int:
         return session.wait()
 
 
-def at_terminal(start: list[str], given: bytes, name: str) -> int:
+def at_terminal(start: list[str], words: list[str], given: bytes, name: str) -> int:
     """Debugs a file at a prompt, and returns the status."""
     # (these are needed here alone, and take some time to load)
     from script.prompt import Prompt
@@ -69,10 +69,10 @@ def at_terminal(start: list[str], given: bytes, name: str) -> int:
     pick_lines = lines.splitlines()
     if status or not all(PICK.match(line) for line in pick_lines):
         # (it refuses this, and says why)
-        return subprocess.run([*start, "debug"], input=whole(given), check=False).returncode
+        return subprocess.run([*start, "debug", *words], input=whole(given), check=False).returncode
     try:
         picks = Picks([line.decode() for line in pick_lines])
-        session = Session(start, first, read_code(told.decode()), picks)
+        session = Session(start, first, read_code(told.decode()), picks, words)
         return Prompt(session, name, is_object(first)).run([it.decode(errors="replace") for it in commands[0].splitlines()])
     except Refused as refused:
         if refused.told:

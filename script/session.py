@@ -38,8 +38,8 @@ class Denied(Exception):
 class Session:
     """The program at a position of a run."""
 
-    def __init__(self, start: list[str], given: bytes, code: Code, picks: Picks) -> None:
-        self.words, self.given, self.code, self.picks = [*start, "debug", "--live"], given, code, picks
+    def __init__(self, start: list[str], given: bytes, code: Code, picks: Picks, options: list[str] | None = None) -> None:
+        self.words, self.given, self.code, self.picks = [*start, "debug", "--live", *(options or [])], given, code, picks
         self.position = 0
         self.open()
 

@@ -37,7 +37,7 @@ _parbegin() {
     bank) options="" ;;
     check) options="--heap --format --jobs" ;;
     claims) options="" ;;
-    debug) options="--live" ;;
+    debug) options="--live --lend" ;;
     draw) options="--lend" ;;
     emit) options="--object" ;;
     exec) options="--workers --quantum --steps" ;;

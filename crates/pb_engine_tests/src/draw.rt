@@ -7,9 +7,10 @@ use pb_engines::replay_engine;
 use pb_options::{DrawOptions, Lend, ReplayOptions};
 use std::alloc::Global;
 
-/// An input, the size that its picture begins with, the shapes behind [`LOOKS`], and the status.
+/// An input, who decides on requests, the size that its picture begins with, the shapes behind [`LOOKS`], and the status.
 struct Case {
     input: &'static [u8],
+    lend: Lend,
     head: &'static [u8],
     shapes: &'static [u8],
     status: Status,
@@ -17,20 +18,22 @@ struct Case {
 
 /// What is in each picture between its size and its shapes.
 const LOOKS: &[u8] =
-    b"\">\n<title>A run, pick by pick</title>\n<style>\ntext{font:11px monospace;fill:#000}\npath{fill:#000}\n.name{font-weight:bold}\n.number,.silent,.note{fill:#555;font-size:10px}\n.amount{font-size:10px}\n.paper{fill:#fff}\n.gap{fill:#eee}\n.going{fill:#999}\n.waiting{fill:url(#hatch);stroke:#000;stroke-width:.5}\n.hatch{stroke:#000}\n.hold{stroke:#000;stroke-width:.5}\n.level{fill:#333}\n.r0{fill:#bfe1f6}\n.r1{fill:#f7dca3}\n.r2{fill:#a3dccb}\n.r3{fill:#edcbdd}\n.r4{fill:#f9f5b9}\n.r5{fill:#8fb8dc}\n.r6{fill:#f1c4a6}\n.r7{fill:#d9d9d9}\n.print path{fill:#fff;stroke:#000;stroke-width:1.5}\n.fault path{stroke:#c00;stroke-width:2.5}\n@media (prefers-color-scheme:dark){\ntext{fill:#eee}\npath{fill:#eee}\n.number,.silent,.note{fill:#aaa}\n.paper{fill:#1b1b1b}\n.gap{fill:#333}\n.going{fill:#888}\n.waiting{stroke:#eee}\n.hatch{stroke:#eee}\n.hold{stroke:#eee}\n.level{fill:#ddd}\n.r0{fill:#1f5f86}\n.r1{fill:#7a5600}\n.r2{fill:#00604a}\n.r3{fill:#74405d}\n.r4{fill:#6b6600}\n.r5{fill:#00436a}\n.r6{fill:#7d3800}\n.r7{fill:#555}\n.print path{fill:#1b1b1b;stroke:#eee}\n.fault path{stroke:#f66}\n}\n</style>\n<defs><pattern id=\"hatch\" width=\"5\" height=\"5\" patternUnits=\"userSpaceOnUse\"><path class=\"hatch\" d=\"M0 5L5 0\"/></pattern></defs>\n<rect class=\"paper\" width=\"100%\" height=\"100%\"/>\n";
+    b"\">\n<title>A run, pick by pick</title>\n<style>\ntext{font:11px monospace;fill:#000}\npath{fill:#000}\n.name{font-weight:bold}\n.number,.silent,.note{fill:#555;font-size:10px}\n.amount{font-size:10px}\n.paper{fill:#fff}\n.gap{fill:#eee}\n.going{fill:#999}\n.short{fill:url(#hatch);stroke:#000;stroke-width:.5}\n.kept{fill:url(#dots);stroke:#000;stroke-width:.5}\n.hatch{stroke:#000}\n.deadlock{fill:#c00;font-weight:bold}\n.hold{stroke:#000;stroke-width:.5}\n.level{fill:#333}\n.r0{fill:#bfe1f6}\n.r1{fill:#f7dca3}\n.r2{fill:#a3dccb}\n.r3{fill:#edcbdd}\n.r4{fill:#f9f5b9}\n.r5{fill:#8fb8dc}\n.r6{fill:#f1c4a6}\n.r7{fill:#d9d9d9}\n.print path{fill:#fff;stroke:#000;stroke-width:1.5}\n.fault path{stroke:#c00;stroke-width:2.5}\n@media (prefers-color-scheme:dark){\ntext{fill:#eee}\npath{fill:#eee}\n.number,.silent,.note{fill:#aaa}\n.paper{fill:#1b1b1b}\n.gap{fill:#333}\n.going{fill:#888}\n.short,.kept{stroke:#eee}\n.hatch{stroke:#eee}\n.deadlock{fill:#f66}\n.hold{stroke:#eee}\n.level{fill:#ddd}\n.r0{fill:#1f5f86}\n.r1{fill:#7a5600}\n.r2{fill:#00604a}\n.r3{fill:#74405d}\n.r4{fill:#6b6600}\n.r5{fill:#00436a}\n.r6{fill:#7d3800}\n.r7{fill:#555}\n.print path{fill:#1b1b1b;stroke:#eee}\n.fault path{stroke:#f66}\n}\n</style>\n<defs><pattern id=\"hatch\" width=\"5\" height=\"5\" patternUnits=\"userSpaceOnUse\"><path class=\"hatch\" d=\"M0 5L5 0\"/></pattern><pattern id=\"dots\" width=\"8\" height=\"8\" patternUnits=\"userSpaceOnUse\"><path d=\"M2 4a2 2 0 1 0 4 0a2 2 0 1 0-4 0z\"/></pattern></defs>\n<rect class=\"paper\" width=\"100%\" height=\"100%\"/>\n";
 
 /// A run to its end, and a run whose hold is not given back.
 const RUNS: [Case; 2] = [
     Case {
         input: b"process p begin print 1 end\n%%\np.0 3\n",
-        head: b"<svg xmlns=\"http://www.w3.org/2000/svg\" width=\"680\" height=\"128\" viewBox=\"0 0 680 128",
-        shapes: b"<rect class=\"going\" x=\"107\" y=\"58\" width=\"119\" height=\"8\"/>\n<text class=\"number\" x=\"161\" y=\"28\">1</text>\n<text class=\"number\" x=\"226\" y=\"28\">2</text>\n<text class=\"name\" x=\"8\" y=\"66\">p.0</text>\n<text class=\"note\" x=\"8\" y=\"102\">time goes from left to right, pick by pick, with the numbers of picks above. line: an arm; hatched: it asks</text>\n<text class=\"note\" x=\"8\" y=\"116\">bar: what it holds. triangle: taken or given back, circle: print, cross: fault, square: end. grey: shortened</text>\n<g class=\"print\"><title>p.0 print 1</title><path d=\"M161 62m-4 0a4 4 0 1 0 8 0a4 4 0 1 0-8 0z\"/><text x=\"157\" y=\"53\">print 1</text></g>\n<g class=\"end\"><title>p end</title><path d=\"M226 62m-4-4h8v8h-8z\"/><text x=\"222\" y=\"53\">end</text></g>\n</svg>\n",
+        lend: Lend::Banker,
+        head: b"<svg xmlns=\"http://www.w3.org/2000/svg\" width=\"680\" height=\"158\" viewBox=\"0 0 680 158",
+        shapes: b"<rect class=\"going\" x=\"107\" y=\"58\" width=\"119\" height=\"8\"/>\n<text class=\"number\" x=\"161\" y=\"28\">1</text>\n<text class=\"number\" x=\"226\" y=\"28\">2</text>\n<text class=\"name\" x=\"8\" y=\"66\">p.0</text>\n<text class=\"note\" x=\"8\" y=\"102\">time goes from left to right, pick by pick, with the numbers of picks above. grey: shortened</text>\n<text class=\"note\" x=\"8\" y=\"116\">line: an arm. hatched: it asks for more than is there. dotted: the banker keeps back what is there</text>\n<text class=\"note\" x=\"8\" y=\"130\">bar: what it holds. triangle: taken or given back, circle: print, cross: fault, square: end</text>\n<g class=\"print\"><title>p.0 print 1</title><path d=\"M161 62m-4 0a4 4 0 1 0 8 0a4 4 0 1 0-8 0z\"/><text x=\"157\" y=\"53\">print 1</text></g>\n<g class=\"end\"><title>p end</title><path d=\"M226 62m-4-4h8v8h-8z\"/><text x=\"222\" y=\"53\">end</text></g>\n</svg>\n",
         status: Status::Done,
     },
     Case {
         input: b"resource tape = 1;\nprocess a begin hold 1 of tape do print 1 od end\n%%\na.0 3\n",
-        head: b"<svg xmlns=\"http://www.w3.org/2000/svg\" width=\"680\" height=\"222\" viewBox=\"0 0 680 222",
-        shapes: b"<rect class=\"waiting\" x=\"128\" y=\"58\" width=\"48\" height=\"8\"/>\n<rect class=\"going\" x=\"176\" y=\"58\" width=\"129\" height=\"8\"/>\n<rect class=\"hold r0\" x=\"176\" y=\"68\" width=\"129\" height=\"15\"/>\n<rect class=\"cash r0\" x=\"128\" y=\"124\" width=\"48\" height=\"48\"/>\n<rect class=\"level\" x=\"128\" y=\"123\" width=\"48\" height=\"2\"/>\n<rect class=\"cash r0\" x=\"176\" y=\"172\" width=\"129\" height=\"0\"/>\n<rect class=\"level\" x=\"176\" y=\"171\" width=\"129\" height=\"2\"/>\n<text class=\"number\" x=\"176\" y=\"28\">0</text>\n<text class=\"number\" x=\"240\" y=\"28\">2</text>\n<text class=\"name\" x=\"8\" y=\"66\">a.0</text>\n<text class=\"bundle\" x=\"183\" y=\"79\">1 tape</text>\n<text class=\"name\" x=\"8\" y=\"172\">tape of 1</text>\n<text class=\"amount\" x=\"130\" y=\"120\">1</text>\n<text class=\"amount\" x=\"178\" y=\"168\">0</text>\n<text class=\"note\" x=\"8\" y=\"196\">time goes from left to right, pick by pick, with the numbers of picks above. line: an arm; hatched: it asks</text>\n<text class=\"note\" x=\"8\" y=\"210\">bar: what it holds. triangle: taken or given back, circle: print, cross: fault, square: end. grey: shortened</text>\n<g class=\"grant\"><title>a.0 grant 1 tape</title><path d=\"M176 62m0-6v12l7-6z\"/><text x=\"172\" y=\"53\"></text></g>\n<g class=\"print\"><title>a.0 print 1</title><path d=\"M240 62m-4 0a4 4 0 1 0 8 0a4 4 0 1 0-8 0z\"/><text x=\"236\" y=\"53\">print 1</text></g>\n</svg>\n",
+        lend: Lend::Banker,
+        head: b"<svg xmlns=\"http://www.w3.org/2000/svg\" width=\"680\" height=\"252\" viewBox=\"0 0 680 252",
+        shapes: b"<rect class=\"going\" x=\"128\" y=\"58\" width=\"177\" height=\"8\"/>\n<rect class=\"hold r0\" x=\"176\" y=\"68\" width=\"129\" height=\"15\"/>\n<rect class=\"cash r0\" x=\"128\" y=\"124\" width=\"48\" height=\"48\"/>\n<rect class=\"level\" x=\"128\" y=\"123\" width=\"48\" height=\"2\"/>\n<rect class=\"cash r0\" x=\"176\" y=\"172\" width=\"129\" height=\"0\"/>\n<rect class=\"level\" x=\"176\" y=\"171\" width=\"129\" height=\"2\"/>\n<text class=\"number\" x=\"176\" y=\"28\">0</text>\n<text class=\"number\" x=\"240\" y=\"28\">2</text>\n<text class=\"name\" x=\"8\" y=\"66\">a.0</text>\n<text class=\"bundle\" x=\"183\" y=\"79\">1 tape</text>\n<text class=\"name\" x=\"8\" y=\"172\">tape of 1</text>\n<text class=\"amount\" x=\"130\" y=\"120\">1</text>\n<text class=\"amount\" x=\"178\" y=\"168\">0</text>\n<text class=\"note\" x=\"8\" y=\"196\">time goes from left to right, pick by pick, with the numbers of picks above. grey: shortened</text>\n<text class=\"note\" x=\"8\" y=\"210\">line: an arm. hatched: it asks for more than is there. dotted: the banker keeps back what is there</text>\n<text class=\"note\" x=\"8\" y=\"224\">bar: what it holds. triangle: taken or given back, circle: print, cross: fault, square: end</text>\n<g class=\"grant\"><title>a.0 grant 1 tape</title><path d=\"M176 62m0-6v12l7-6z\"/><text x=\"172\" y=\"53\"></text></g>\n<g class=\"print\"><title>a.0 print 1</title><path d=\"M240 62m-4 0a4 4 0 1 0 8 0a4 4 0 1 0-8 0z\"/><text x=\"236\" y=\"53\">print 1</text></g>\n</svg>\n",
         status: Status::Done,
     },
 ];
@@ -38,10 +41,29 @@ const RUNS: [Case; 2] = [
 /// A run that ends with a fault, which gives its hold back.
 const FAULT: Case = Case {
     input: b"resource tape = 1;\nprocess a begin hold 1 of tape do print 1 div 0 od end\n%%\na.0 4\n",
-    head: b"<svg xmlns=\"http://www.w3.org/2000/svg\" width=\"680\" height=\"222\" viewBox=\"0 0 680 222",
-    shapes: b"<rect class=\"waiting\" x=\"128\" y=\"58\" width=\"48\" height=\"8\"/>\n<rect class=\"going\" x=\"176\" y=\"58\" width=\"70\" height=\"8\"/>\n<rect class=\"hold r0\" x=\"176\" y=\"68\" width=\"70\" height=\"15\"/>\n<rect class=\"cash r0\" x=\"128\" y=\"124\" width=\"48\" height=\"48\"/>\n<rect class=\"level\" x=\"128\" y=\"123\" width=\"48\" height=\"2\"/>\n<rect class=\"cash r0\" x=\"176\" y=\"172\" width=\"70\" height=\"0\"/>\n<rect class=\"level\" x=\"176\" y=\"171\" width=\"70\" height=\"2\"/>\n<rect class=\"cash r0\" x=\"246\" y=\"124\" width=\"100\" height=\"48\"/>\n<rect class=\"level\" x=\"246\" y=\"123\" width=\"100\" height=\"2\"/>\n<text class=\"number\" x=\"176\" y=\"28\">0</text>\n<text class=\"number\" x=\"246\" y=\"28\">3</text>\n<text class=\"name\" x=\"8\" y=\"66\">a.0</text>\n<text class=\"bundle\" x=\"183\" y=\"79\">1 tape</text>\n<text class=\"name\" x=\"8\" y=\"172\">tape of 1</text>\n<text class=\"amount\" x=\"130\" y=\"120\">1</text>\n<text class=\"amount\" x=\"178\" y=\"168\">0</text>\n<text class=\"amount\" x=\"248\" y=\"120\">1</text>\n<text class=\"note\" x=\"8\" y=\"196\">time goes from left to right, pick by pick, with the numbers of picks above. line: an arm; hatched: it asks</text>\n<text class=\"note\" x=\"8\" y=\"210\">bar: what it holds. triangle: taken or given back, circle: print, cross: fault, square: end. grey: shortened</text>\n<g class=\"grant\"><title>a.0 grant 1 tape</title><path d=\"M176 62m0-6v12l7-6z\"/><text x=\"172\" y=\"53\"></text></g>\n<g class=\"fault\"><title>a.0 fault divide</title><path d=\"M246 62m-5-5l10 10m0-10l-10 10\"/><text x=\"242\" y=\"53\">fault divide</text></g>\n</svg>\n",
+    lend: Lend::Banker,
+    head: b"<svg xmlns=\"http://www.w3.org/2000/svg\" width=\"680\" height=\"252\" viewBox=\"0 0 680 252",
+    shapes: b"<rect class=\"going\" x=\"128\" y=\"58\" width=\"118\" height=\"8\"/>\n<rect class=\"hold r0\" x=\"176\" y=\"68\" width=\"70\" height=\"15\"/>\n<rect class=\"cash r0\" x=\"128\" y=\"124\" width=\"48\" height=\"48\"/>\n<rect class=\"level\" x=\"128\" y=\"123\" width=\"48\" height=\"2\"/>\n<rect class=\"cash r0\" x=\"176\" y=\"172\" width=\"70\" height=\"0\"/>\n<rect class=\"level\" x=\"176\" y=\"171\" width=\"70\" height=\"2\"/>\n<rect class=\"cash r0\" x=\"246\" y=\"124\" width=\"100\" height=\"48\"/>\n<rect class=\"level\" x=\"246\" y=\"123\" width=\"100\" height=\"2\"/>\n<text class=\"number\" x=\"176\" y=\"28\">0</text>\n<text class=\"number\" x=\"246\" y=\"28\">3</text>\n<text class=\"name\" x=\"8\" y=\"66\">a.0</text>\n<text class=\"bundle\" x=\"183\" y=\"79\">1 tape</text>\n<text class=\"name\" x=\"8\" y=\"172\">tape of 1</text>\n<text class=\"amount\" x=\"130\" y=\"120\">1</text>\n<text class=\"amount\" x=\"178\" y=\"168\">0</text>\n<text class=\"amount\" x=\"248\" y=\"120\">1</text>\n<text class=\"note\" x=\"8\" y=\"196\">time goes from left to right, pick by pick, with the numbers of picks above. grey: shortened</text>\n<text class=\"note\" x=\"8\" y=\"210\">line: an arm. hatched: it asks for more than is there. dotted: the banker keeps back what is there</text>\n<text class=\"note\" x=\"8\" y=\"224\">bar: what it holds. triangle: taken or given back, circle: print, cross: fault, square: end</text>\n<g class=\"grant\"><title>a.0 grant 1 tape</title><path d=\"M176 62m0-6v12l7-6z\"/><text x=\"172\" y=\"53\"></text></g>\n<g class=\"fault\"><title>a.0 fault divide</title><path d=\"M246 62m-5-5l10 10m0-10l-10 10\"/><text x=\"242\" y=\"53\">fault divide</text></g>\n</svg>\n",
     status: Status::Fault,
 };
+
+/// A run into a deadlock, by the cash alone, and the same up to where the banker keeps back what is there.
+const WAITS: [Case; 2] = [
+    Case {
+        input: b"resource r = 1; resource s = 1; process p begin hold 1 of r do hold 1 of s do skip od od end process q begin hold 1 of s do hold 1 of r do skip od od end\n%%\np.0 1\nq.0 1\n",
+        lend: Lend::Cash,
+        head: b"<svg xmlns=\"http://www.w3.org/2000/svg\" width=\"680\" height=\"384\" viewBox=\"0 0 680 384",
+        shapes: b"<rect class=\"going\" x=\"107\" y=\"58\" width=\"85\" height=\"8\"/>\n<rect class=\"short\" x=\"192\" y=\"58\" width=\"37\" height=\"8\"/>\n<rect class=\"going\" x=\"107\" y=\"114\" width=\"85\" height=\"8\"/>\n<rect class=\"short\" x=\"192\" y=\"114\" width=\"37\" height=\"8\"/>\n<rect class=\"hold r0\" x=\"155\" y=\"68\" width=\"74\" height=\"15\"/>\n<rect class=\"hold r1\" x=\"192\" y=\"124\" width=\"37\" height=\"15\"/>\n<rect class=\"cash r0\" x=\"107\" y=\"180\" width=\"48\" height=\"48\"/>\n<rect class=\"level\" x=\"107\" y=\"179\" width=\"48\" height=\"2\"/>\n<rect class=\"cash r0\" x=\"155\" y=\"228\" width=\"74\" height=\"0\"/>\n<rect class=\"level\" x=\"155\" y=\"227\" width=\"74\" height=\"2\"/>\n<rect class=\"cash r1\" x=\"107\" y=\"256\" width=\"85\" height=\"48\"/>\n<rect class=\"level\" x=\"107\" y=\"255\" width=\"85\" height=\"2\"/>\n<rect class=\"cash r1\" x=\"192\" y=\"304\" width=\"37\" height=\"0\"/>\n<rect class=\"level\" x=\"192\" y=\"303\" width=\"37\" height=\"2\"/>\n<text class=\"number\" x=\"155\" y=\"28\">0</text>\n<text class=\"number\" x=\"192\" y=\"28\">1</text>\n<text class=\"name\" x=\"8\" y=\"66\">p.0</text>\n<text class=\"name\" x=\"8\" y=\"122\">q.0</text>\n<text class=\"bundle\" x=\"162\" y=\"79\">1 r</text>\n<text class=\"bundle\" x=\"199\" y=\"135\">1 s</text>\n<text class=\"name\" x=\"8\" y=\"228\">r of 1</text>\n<text class=\"amount\" x=\"109\" y=\"176\">1</text>\n<text class=\"amount\" x=\"157\" y=\"224\">0</text>\n<text class=\"name\" x=\"8\" y=\"304\">s of 1</text>\n<text class=\"amount\" x=\"109\" y=\"252\">1</text>\n<text class=\"amount\" x=\"194\" y=\"300\">0</text>\n<text class=\"note\" x=\"8\" y=\"328\">time goes from left to right, pick by pick, with the numbers of picks above. grey: shortened</text>\n<text class=\"note\" x=\"8\" y=\"342\">line: an arm. hatched: it asks for more than is there. dotted: the banker keeps back what is there</text>\n<text class=\"note\" x=\"8\" y=\"356\">bar: what it holds. triangle: taken or given back, circle: print, cross: fault, square: end</text>\n<text class=\"deadlock\" x=\"8\" y=\"372\">deadlock: no arm can go on</text>\n<g class=\"grant\"><title>p.0 grant 1 r</title><path d=\"M155 62m0-6v12l7-6z\"/><text x=\"151\" y=\"53\"></text></g>\n<g class=\"grant\"><title>q.0 grant 1 s</title><path d=\"M192 118m0-6v12l7-6z\"/><text x=\"188\" y=\"109\"></text></g>\n</svg>\n",
+        status: Status::Deadlock,
+    },
+    Case {
+        input: b"resource r = 1; resource s = 1; process p begin hold 1 of r do hold 1 of s do skip od od end process q begin hold 1 of s do hold 1 of r do skip od od end\n%%\np.0 1\n",
+        lend: Lend::Banker,
+        head: b"<svg xmlns=\"http://www.w3.org/2000/svg\" width=\"680\" height=\"366\" viewBox=\"0 0 680 366",
+        shapes: b"<rect class=\"going\" x=\"107\" y=\"58\" width=\"85\" height=\"8\"/>\n<rect class=\"going\" x=\"107\" y=\"114\" width=\"48\" height=\"8\"/>\n<rect class=\"kept\" x=\"155\" y=\"114\" width=\"37\" height=\"8\"/>\n<rect class=\"hold r0\" x=\"155\" y=\"68\" width=\"37\" height=\"15\"/>\n<rect class=\"cash r0\" x=\"107\" y=\"162\" width=\"48\" height=\"48\"/>\n<rect class=\"level\" x=\"107\" y=\"161\" width=\"48\" height=\"2\"/>\n<rect class=\"cash r0\" x=\"155\" y=\"210\" width=\"37\" height=\"0\"/>\n<rect class=\"level\" x=\"155\" y=\"209\" width=\"37\" height=\"2\"/>\n<rect class=\"cash r1\" x=\"107\" y=\"238\" width=\"85\" height=\"48\"/>\n<rect class=\"level\" x=\"107\" y=\"237\" width=\"85\" height=\"2\"/>\n<text class=\"number\" x=\"155\" y=\"28\">0</text>\n<text class=\"name\" x=\"8\" y=\"66\">p.0</text>\n<text class=\"name\" x=\"8\" y=\"122\">q.0</text>\n<text class=\"bundle\" x=\"162\" y=\"79\">1 r</text>\n<text class=\"name\" x=\"8\" y=\"210\">r of 1</text>\n<text class=\"amount\" x=\"109\" y=\"158\">1</text>\n<text class=\"amount\" x=\"157\" y=\"206\">0</text>\n<text class=\"name\" x=\"8\" y=\"286\">s of 1</text>\n<text class=\"amount\" x=\"109\" y=\"234\">1</text>\n<text class=\"note\" x=\"8\" y=\"310\">time goes from left to right, pick by pick, with the numbers of picks above. grey: shortened</text>\n<text class=\"note\" x=\"8\" y=\"324\">line: an arm. hatched: it asks for more than is there. dotted: the banker keeps back what is there</text>\n<text class=\"note\" x=\"8\" y=\"338\">bar: what it holds. triangle: taken or given back, circle: print, cross: fault, square: end</text>\n<g class=\"grant\"><title>p.0 grant 1 r</title><path d=\"M155 62m0-6v12l7-6z\"/><text x=\"151\" y=\"53\"></text></g>\n</svg>\n",
+        status: Status::Done,
+    },
+];
 
 /// An input that is refused, and its refusal line.
 struct Refusal {
@@ -79,7 +101,7 @@ fn draws(alloc: Global, case: &Case) -> Option<bool> {
     let mut output = MemoryOutput::new(alloc, 16_384).ok()?;
     let status = draw_engine(
         alloc,
-        BY_BANKER,
+        DrawOptions { lend: case.lend },
         &mut MemoryInput::new(case.input),
         &mut output,
     );
@@ -110,6 +132,13 @@ fn runs_are_drawn(rt: HostRuntime) {
 #[test]
 fn a_fault_is_drawn_with_its_status(rt: HostRuntime) {
     assert!(rt; draws(rt.alloc(), &FAULT) == Some(true));
+}
+
+#[test]
+fn both_kinds_of_waiting_are_drawn(rt: HostRuntime) {
+    for case in &WAITS {
+        assert!(rt; draws(rt.alloc(), case) == Some(true));
+    }
 }
 
 #[test]
