@@ -134,10 +134,13 @@ def inputs():
         yield f"states {name}", ["states"], recorded(text)
         yield f"debug {name}", ["debug"], debugged(text)
         yield f"debug --live {name}", ["debug", "--live"], debugged(text)
+        yield f"debug --lend cash {name}", ["debug", "--lend", "cash"], debugged(text)
         yield f"outcomes {name}", ["outcomes"], text
         yield f"outcomes --lend cash {name}", ["outcomes", "--lend", "cash"], text
         yield f"outcomes --prints {name}", ["outcomes", "--prints", "--states", "2000"], text
         wanted = text + b"\n%%\n" + first_process(text) + b".0 print 1\n"
+        yield f"outcomes --run 1 {name}", ["outcomes", "--run", "1", "--states", "2000"], text
+        yield f"outcomes --deadlock 1 {name}", ["outcomes", "--deadlock", "1", "--lend", "cash", "--states", "2000"], text
         yield f"outcomes --expect {name}", ["outcomes", "--expect", "--states", "2000"], wanted
         yield f"outcomes --expect --any-order {name}", ["outcomes", "--expect", "--any-order", "--states", "2000"], wanted
         yield f"exec {name}", ["exec"], object_of(text)
