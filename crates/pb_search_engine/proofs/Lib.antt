@@ -3,6 +3,7 @@ pub mod ExpectLemmas
 pub mod ExpectedLaw
 pub mod ExpectedSource
 pub mod LineLemmas
+pub mod OneRunLemmas
 pub mod OutcomeLemmas
 pub mod PrintedOutcomes
 pub mod PrintLemmas

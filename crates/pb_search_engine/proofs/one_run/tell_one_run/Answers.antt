@@ -1,0 +1,28 @@
+use Rattle.pb_accept.specs.Refusals.{SaysOfRefusedText}
+use Rattle.pb_command_io.proofs.InputLemmas.{replied_too, said_too, told_reply}
+use Rattle.pb_search_engine.specs.SaysOfOne.{SaysOfOne, SaysOfOneRun, accepted, refused}
+use Rattle.pb_search_engine.specs.SaysOutcomes.{mode_for, until_for}
+use Rattle.pb_search_engine.proofs.one_run.tell_one_run.Goals as goal
+
+pub reply-requires : goal.reply-requires
+reply-requires g c = c.in-Ok.ensures.compiled.fit
+
+pub returns-in-Ok-clause-text : goal.returns-in-Ok-clause-text
+returns-in-Ok-clause-text g c =
+    let code = c.in-Ok.compiled.verified.code in
+    let labels = c.in-Ok.compiled.labels in
+    let target = c.args.target in
+    let lend = c.args.options.lend in
+    let first = c.args.options.first_deadlock in
+    let prints = c.args.options.prints in
+    let states = c.args.options.states in
+    told_reply (SaysOfOne target lend first prints states) c.args.text.now c.reply.result _ _ c.tell.result c.requires
+    (replied_too (SaysOfOneRun target (mode_for lend prints) (until_for first) code states c.args.text.now)
+    (SaysOfOne target lend first prints states c.args.text.now) c.reply.result (accepted code labels c.in-Ok.ensures.compiled) c.reply.ensures)
+    c.tell.ensures.said c.tell.ensures.memory
+
+pub returns-in-Err-clause-text : goal.returns-in-Err-clause-text
+returns-in-Err-clause-text g c =
+    said_too SaysOfRefusedText
+    (SaysOfOne c.args.target c.args.options.lend c.args.options.first_deadlock c.args.options.prints c.args.options.states) c.args.text.now _ _
+    c.refuse.result refused (c.refuse.ensures.text c.args.text.now c.requires c.in-Err.ensures.refused)
