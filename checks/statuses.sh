@@ -46,6 +46,10 @@ echo "process p begin" | {
 expect 2 /dev/null fly </dev/null
 expect 2 /dev/null --version </dev/null
 expect 9 /dev/null replay --lend cash <"$top/examples/5-deadlock/circle.run"
+expect 9 /dev/null draw --lend cash <"$top/examples/5-deadlock/circle.run"
+expect 0 /dev/null debug --lend cash <"$top/examples/5-deadlock/circle.run"
+expect 0 /dev/null outcomes --lend cash --deadlock 1 <"$top/examples/devices.pb"
+expect 1 /dev/null outcomes --run 2 <"$top/examples/devices.pb"
 expect 9 /dev/null record --seed 3 --lend cash <"$top/examples/devices.pb"
 expect 0 /dev/null record --seed 3 <"$top/examples/devices.pb"
 expect 2 /dev/null record --lend cash <"$top/examples/devices.pb"

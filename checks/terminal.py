@@ -33,6 +33,7 @@ except ImportError:
 PROMPT = r"\d+/\d+> "
 LOST = TOP / "examples/lost.run"
 DEVICES = TOP / "examples/devices.pb"
+CIRCLE = TOP / "examples/5-deadlock/circle.run"
 # A run with more picks is followed so far.
 MOST_PICKS = 300
 # An interrupt that has no effect is sent so often.
@@ -184,6 +185,19 @@ def try_devices(tally: Tally, script: str, folder: str) -> None:
     tally.expect(saved == DEVICES.read_bytes() + b"%%\na.0 3\n", "what was saved", saved)
 
 
+def try_circle(tally: Tally, script: str, folder: str) -> None:
+    """Goes into a deadlock by the cash alone, asks for the circle, and comes back."""
+    it = Player(script, "debug", "--lend", "cash", str(CIRCLE), folder=folder)
+    it.shown()
+    for command, wanted in [
+        ("to 2", "2/2"), ("circle", "a.0 waits for disk, some of which b holds"), ("why a", "disk"),
+        ("arms", "a.0 line"), ("back", "1/2 before b.0"), ("circle", "no processes wait for one another in a circle"),
+    ]:
+        answer = it.type(command)
+        tally.expect(wanted in answer, repr(command), "shows", answer)
+    tally.expect(it.end() == DONE, "the status of a session by the cash")
+
+
 def try_long(tally: Tally, script: str, folder: str) -> None:
     """Interrupts a command that may take long: the session goes on where it was."""
     text = "process p begin integer x; while 1 do x := x + 1 od end\n%%\np.0 9000000\n"
@@ -240,7 +254,7 @@ def main() -> None:
     with tempfile.TemporaryDirectory(prefix="parbegin-terminal-") as folder:
         script = installed(f"{folder}/installed")
         try_pipes(tally, script, folder)
-        for play in (try_lost, try_devices, try_long, try_others) if pexpect else ():
+        for play in (try_lost, try_devices, try_circle, try_long, try_others) if pexpect else ():
             play(tally, script, folder)
     if not pexpect:
         print("no session was played, since Python has no module pexpect")
