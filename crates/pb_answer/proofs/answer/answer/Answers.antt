@@ -64,7 +64,7 @@ pub returns-in-Ok-Draw-clause-text : goal.returns-in-Ok-Draw-clause-text
 returns-in-Ok-Draw-clause-text g c = search rules fits 100
 
 pub returns-in-Ok-Run-clause-faults : goal.returns-in-Ok-Run-clause-faults
-returns-in-Ok-Run-clause-faults g c = search rules fits 100
+returns-in-Ok-Run-clause-faults g c = inl c.run_engine.ensures.faults
 
 pub returns-in-Ok-Bank-clause-text : goal.returns-in-Ok-Bank-clause-text
 returns-in-Ok-Bank-clause-text g c =
@@ -83,3 +83,12 @@ returns-in-Ok-States-clause-text g c =
     Tells (SaysOfInput (SaysOfStates shown) bytes) (g.O.Output.written c.args.output.now)
     (g.O.Output.written c.states_engine.new.output) c.states_engine.result)) c.shown.ensures c.states_engine.ensures.text in
     inl (States c.in-Ok-States.numbers, read, text)
+
+pub returns-in-Ok-Outcomes-clause-faults : goal.returns-in-Ok-Outcomes-clause-faults
+returns-in-Ok-Outcomes-clause-faults g c = inl c.outcomes_engine.ensures.faults
+
+pub returns-in-Ok-Record-clause-faults : goal.returns-in-Ok-Record-clause-faults
+returns-in-Ok-Record-clause-faults g c = inl c.record_engine.ensures.faults
+
+pub returns-in-Ok-States-clause-faults : goal.returns-in-Ok-States-clause-faults
+returns-in-Ok-States-clause-faults g c = inl c.states_engine.ensures.faults

@@ -1,4 +1,4 @@
-use Rattle.std.proofs.Common.{Bool, IfSome, subst, sym}
+use Rattle.std.proofs.Common.{Bool, true, false, IfSome, subst, sym}
 use Rattle.pb_base.specs.declared.lending.Lending.{Lending}
 use Rattle.pb_command_io.specs.Answers.{Tells}
 use Rattle.pb_options.specs.Lends.{lending_for}
@@ -13,7 +13,7 @@ returns-then-flags-clause-text g c =
     (sym c.if-flags.true)
     (subst (λ (l : Lending). IfSome (g.I.Input.rest c.args.input.now) (λ bytes.
     Tells (SaysOfSession true l bytes) (g.O.Output.written c.args.output.now)
-    (g.O.Output.written c.debug_live_engine.new.output) c.debug_live_engine.result)) c.lending.ensures c.debug_live_engine.ensures.text)
+    (g.O.Output.written c.debug_live_engine.new.output) c.debug_live_engine.result)) c.lending-lending.ensures c.debug_live_engine.ensures.text)
 
 pub returns-else-flags-clause-text : goal.returns-else-flags-clause-text
 returns-else-flags-clause-text g c =
@@ -23,7 +23,7 @@ returns-else-flags-clause-text g c =
     (sym c.if-flags.false)
     (subst (λ (l : Lending). IfSome (g.I.Input.rest c.args.input.now) (λ bytes.
     Tells (SaysOfSession false l bytes) (g.O.Output.written c.args.output.now)
-    (g.O.Output.written c.debug_engine.new.output) c.debug_engine.result)) c.lending.ensures c.debug_engine.ensures.text)
+    (g.O.Output.written c.debug_engine.new.output) c.debug_engine.result)) c.lending-lending.ensures c.debug_engine.ensures.text)
 
 pub returns-then-flags-clause-answered : goal.returns-then-flags-clause-answered
 returns-then-flags-clause-answered g c =
@@ -49,7 +49,7 @@ returns-then-flags-clause-answered g c =
       reads = g.I.Input.failures c.debug_live_engine.new.input;
       writes = g.O.Output.failures c.debug_live_engine.new.output;
       written = g.O.Output.written c.debug_live_engine.new.output;
-    })) c.lending.ensures c.debug_live_engine.ensures.answered)
+    })) c.lending-lending.ensures c.debug_live_engine.ensures.answered)
 
 pub returns-else-flags-clause-answered : goal.returns-else-flags-clause-answered
 returns-else-flags-clause-answered g c =
