@@ -23,7 +23,7 @@ pub returns-in-Debug-2 : goal.returns-in-Debug-2
 returns-in-Debug-2 c =
     let flags = c.in-Debug-2.flags in
     let bytes = c.args.bytes.now in
-    let live : flags.live ≡ false = ap (λ (f : DebugOptions). f.live) c.in-Debug-2.flags-is ∙ c.if-flags.false in
+    let live : flags.live ≡ false = sym (ap (λ (f : DebugOptions). f.live) c.in-Debug-2.flags-is) ∙ c.if-flags.false in
     subst (λ (o : Options). IfOk c.message_of-in-Debug-2.result (λ message. TellsRefused o bytes message.items)) (sym c.in-Debug-2.is)
     (subst (λ (b : Bool). IfOk c.message_of-in-Debug-2.result (λ message. TellsDebugged b (lending_for flags.lend) bytes message.items))
     (sym live)
