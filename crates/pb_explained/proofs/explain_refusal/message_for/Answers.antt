@@ -7,6 +7,7 @@ use Rattle.pb_messages.specs.declared.message.Reading.TheVariants.{Debugged}
 use Rattle.pb_options.specs.Lends.{lending_for}
 use Rattle.pb_options.specs.declared.options.DebugOptions.{DebugOptions}
 use Rattle.pb_words.specs.declared.words.Options.{Options}
+use Rattle.pb_words.specs.declared.words.Options.TheVariants.{Debug}
 use Rattle.pb_explained.proofs.explain_refusal.message_for.Goals as goal
 
 pub returns-in-Debug : goal.returns-in-Debug
@@ -23,7 +24,9 @@ pub returns-in-Debug-2 : goal.returns-in-Debug-2
 returns-in-Debug-2 c =
     let flags = c.in-Debug-2.flags in
     let bytes = c.args.bytes.now in
-    let live : flags.live ≡ false = sym (ap (λ (f : DebugOptions). f.live) c.in-Debug-2.flags-is) ∙ c.if-flags.false in
+    let both : Debug c.in-Debug.flags ≡ Debug flags = sym c.in-Debug.is ∙ c.in-Debug-2.is in
+    let same : c.in-Debug.flags ≡ flags = cc in
+    let live : flags.live ≡ false = sym (ap (λ (f : DebugOptions). f.live) same) ∙ c.if-flags.false in
     subst (λ (o : Options). IfOk c.message_of-in-Debug-2.result (λ message. TellsRefused o bytes message.items)) (sym c.in-Debug-2.is)
     (subst (λ (b : Bool). IfOk c.message_of-in-Debug-2.result (λ message. TellsDebugged b (lending_for flags.lend) bytes message.items))
     (sym live)
