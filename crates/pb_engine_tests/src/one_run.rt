@@ -6,11 +6,12 @@ use pb_options::{Lend, OutcomesOptions};
 use pb_search_engine::outcomes_engine;
 use std::alloc::Global;
 
-/// A text, which run is asked for, what is said, and the status.
+/// A text, who decides on requests, whether one configuration is all that may be kept, which run is asked for, what
+/// is said, and the status.
 struct Case {
     text: &'static [u8],
     lend: Lend,
-    states: u32,
+    few: bool,
     first_deadlock: bool,
     run: Option<u32>,
     deadlock: Option<u32>,
@@ -30,7 +31,7 @@ const CASES: [Case; 9] = [
     Case {
         text: LOST,
         lend: Lend::Banker,
-        states: 1_000,
+        few: false,
         first_deadlock: false,
         run: Some(1),
         deadlock: None,
@@ -40,7 +41,7 @@ const CASES: [Case; 9] = [
     Case {
         text: LOST,
         lend: Lend::Banker,
-        states: 1_000,
+        few: false,
         first_deadlock: false,
         run: Some(2),
         deadlock: None,
@@ -50,7 +51,7 @@ const CASES: [Case; 9] = [
     Case {
         text: LOST,
         lend: Lend::Banker,
-        states: 1_000,
+        few: false,
         first_deadlock: false,
         run: Some(3),
         deadlock: None,
@@ -60,7 +61,7 @@ const CASES: [Case; 9] = [
     Case {
         text: LOST,
         lend: Lend::Banker,
-        states: 1,
+        few: true,
         first_deadlock: false,
         run: Some(1),
         deadlock: None,
@@ -70,7 +71,7 @@ const CASES: [Case; 9] = [
     Case {
         text: LOST,
         lend: Lend::Banker,
-        states: 1_000,
+        few: false,
         first_deadlock: false,
         run: None,
         deadlock: Some(1),
@@ -80,7 +81,7 @@ const CASES: [Case; 9] = [
     Case {
         text: CIRCLE,
         lend: Lend::Cash,
-        states: 1_000,
+        few: false,
         first_deadlock: true,
         run: None,
         deadlock: Some(1),
@@ -90,7 +91,7 @@ const CASES: [Case; 9] = [
     Case {
         text: CIRCLE,
         lend: Lend::Cash,
-        states: 1_000,
+        few: false,
         first_deadlock: true,
         run: None,
         deadlock: Some(2),
@@ -100,7 +101,7 @@ const CASES: [Case; 9] = [
     Case {
         text: CIRCLE,
         lend: Lend::Cash,
-        states: 1_000,
+        few: false,
         first_deadlock: false,
         run: Some(2),
         deadlock: Some(1),
@@ -110,7 +111,7 @@ const CASES: [Case; 9] = [
     Case {
         text: b"process p begin print y end\n",
         lend: Lend::Banker,
-        states: 1_000,
+        few: false,
         first_deadlock: false,
         run: Some(1),
         deadlock: None,
@@ -119,10 +120,22 @@ const CASES: [Case; 9] = [
     },
 ];
 
-/// Returns whether this is said of a text.
-fn says(alloc: Global, case: &Case) -> Option<bool> {
-    let options = OutcomesOptions {
-        states: case.states,
+/// Returns the options of a case.
+fn options_of(case: &Case) -> OutcomesOptions {
+    if case.few {
+        return OutcomesOptions {
+            states: 1,
+            lend: case.lend,
+            first_deadlock: case.first_deadlock,
+            prints: false,
+            expect: false,
+            any_order: false,
+            run: case.run,
+            deadlock: case.deadlock,
+        };
+    }
+    OutcomesOptions {
+        states: 1_000,
         lend: case.lend,
         first_deadlock: case.first_deadlock,
         prints: false,
@@ -130,10 +143,14 @@ fn says(alloc: Global, case: &Case) -> Option<bool> {
         any_order: false,
         run: case.run,
         deadlock: case.deadlock,
-    };
+    }
+}
+
+/// Returns whether this is said of a text.
+fn says(alloc: Global, case: &Case) -> Option<bool> {
     let mut input = MemoryInput::new(case.text);
     let mut output = MemoryOutput::new(alloc, 4_096).ok()?;
-    let status = outcomes_engine(alloc, options, &mut input, &mut output);
+    let status = outcomes_engine(alloc, options_of(case), &mut input, &mut output);
     Some(status == case.status && output.as_slice() == case.said)
 }
 
