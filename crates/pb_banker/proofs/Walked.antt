@@ -1,10 +1,10 @@
 -- The walk along an order that somebody gives.
-use Rattle.std.proofs.Common.{◌≡◌, ◌≢◌, ℕ, ◌+◌, ◌<◌, ◌≤◌, Bool, true, false, not, List, [], ◌∷◌, ◌++◌, length, get_or, set, take}
+use Rattle.std.proofs.Common.{◌≡◌, ◌≢◌, ℕ, ◌+◌, ◌<◌, ◌≤◌, Bool, true, false, not, List, [], ◌∷◌, ◌++◌, length, get_or, set, take, drop}
 use Rattle.std.proofs.Common.{arith, sym, ap, subst, ◌∙◌, refl, inl, inr, replicate}
 use Rattle.std.specs.Prelude.{Contains}
 use Rattle.std.specs.List.Sorted.{IsPermutation}
 use Rattle.std.proofs.lemmas.Bool.{false≢true, cases_eq, eq-eqb}
-use Rattle.std.proofs.lemmas.List.{length-append, get_or_append_left, get_or_at, take-append-le, take_at, take_more}
+use Rattle.std.proofs.lemmas.List.{length-append, get_or_append_left, get_or_at, take-append-le, take-append-drop, take_at, take_more, length-take-le, get_or-take}
 use Rattle.std.proofs.lemmas.List.{get_or-set_same, get_or-set_other, length-set, get_or-replicate, length-replicate}
 use Rattle.std.proofs.lemmas.List.Sums.{sum_by-append, get_or-le-sum_by}
 use Rattle.std.proofs.lemmas.List.Sorted.{IsPermutation-pop_more, sum_by-IsPermutation}
@@ -14,7 +14,7 @@ use Rattle.pb_base.proofs.Groups.{mark, times, times-range, range_below}
 use Rattle.pb_banker.specs.declared.accounts.Accounts.{Accounts}
 use Rattle.pb_banker.specs.Accounts.{state_of, FitsIn, IsSound}
 use Rattle.pb_banker.specs.Jobs.{IsUsed}
-use Rattle.pb_banker.specs.Orders.{free_slots, IsFinishingOrder, IsFirstShort}
+use Rattle.pb_banker.specs.Orders.{free_slots, GoesWell, IsFinishingOrder, IsFirstShort}
 use Rattle.pb_banker.proofs.TableCells.{processes_of, resources_of}
 use Rattle.pb_banker.proofs.Search.{marked, EachFits, in_order, Progress, Progress-start}
 use Rattle.pb_banker.proofs.SetMembers.{filter-without, filter-same, filter-has, Contains-range}
@@ -27,6 +27,8 @@ pub record Walked (s : BankerState) (used : List Bool) (order : List ℕ) (waiti
   pub have : IsAvailable s order available
   pub taken : (q : ℕ) → q < 64 → marked waiting q ≡ false → IsUsed used q
   pub long : length waiting ≡ 64
+  pub jobs : (i : ℕ) → i < length order → IsUsed used (get_or order i 0)
+  pub once : (i : ℕ) → i < length order → ¬ Contains (take i order) (get_or order i 0)
 
 pub Walked-start : (a : Accounts) → IsSound a → (used : List Bool) → Walked (state_of a) used [] (replicate {A = Bool} 64 true) a.cash
 Walked-start a h used =
@@ -41,7 +43,31 @@ Walked-start a h used =
       have = IsAvailable-start a h;
       taken = λ q l gone. absurd (false≢true (sym gone ∙ all q l));
       long = length-replicate {A = Bool} 64 true;
+      jobs = λ i l. absurd (let no : ⊥ = omega (arith, l) in no);
+      once = λ i l. absurd (let no : ⊥ = omega (arith, l) in no);
     }
+
+some_times : (xs : List ℕ) (p : ℕ) → Contains xs p → 1 ≤ times p xs
+some_times xs p h =
+    let f : ℕ → ℕ = mark p in
+    let c : f (get_or xs h.0 p) ≤ times p xs = get_or-le-sum_by (mark p) xs h.0 p h.1 in
+    let one : mark p (get_or xs h.0 p) ≡ 1 = ap (mark p) h.2 ∙ (let e : mark p p ≡ 1 = rw (eq-eqb p p refl) refl in e) in
+    omega (arith, c, one)
+
+-- who waits is not in the order
+pub Walked-out : (s : BankerState) (used : List Bool) (order : List ℕ) (waiting : List Bool) (available : List ℕ) (p : ℕ)
+    → Walked s used order waiting available → p < processes s → marked waiting p ≡ true → ¬ Contains order p
+Walked-out s used order waiting available p w l waits h =
+    let there : Contains (members s (marked waiting)) p =
+    filter-has (marked waiting) (everyone s) p waits (Contains-range (processes s) p l) in
+    let a = some_times order p h in
+    let b = some_times (members s (marked waiting)) p there in
+    let most : times p (everyone s) ≤ 1 = times-range p 0 (processes s) in
+    let same : times p (order ++ members s (marked waiting)) ≡ times p (everyone s) =
+    sum_by-IsPermutation (mark p) (everyone s) (order ++ members s (marked waiting)) w.parts in
+    let split : times p (order ++ members s (marked waiting)) ≡ times p order + times p (members s (marked waiting)) =
+    sum_by-append (mark p) order (members s (marked waiting)) in
+    omega (arith, a, b, most, same, split)
 
 below_or_at : (k n : ℕ) → k < n + 1 → k ≢ n → k < n
 below_or_at k n l ne = omega (arith, l, ne)
@@ -77,6 +103,23 @@ Walked-more s used order waiting available next p h l small has waits fits have 
             | inr ne ↦ h.taken q lq (sym (kept q ne) ∙ free)
           ];
       long = length-set waiting p false ∙ wide;
+      jobs = λ k b.
+          elim (cases_eq k (length order)) [
+            | inl at ↦ rw (at, last) has
+            | inr ne ↦
+                (let lt : k < length order = below_or_at k (length order) (omega (arith, b, many)) ne in
+                let g : get_or (order ++ p ∷ []) k 0 ≡ get_or order k 0 = get_or_append_left order (p ∷ []) 0 k lt in
+                rw g (h.jobs k lt))
+          ];
+      once = λ k b.
+          elim (cases_eq k (length order)) [
+            | inl at ↦ rw (at, front, last) (Walked-out s used order waiting available p h l waits)
+            | inr ne ↦
+                (let lt : k < length order = below_or_at k (length order) (omega (arith, b, many)) ne in
+                let t : take k (order ++ p ∷ []) ≡ take k order = take-append-le k order (p ∷ []) (omega (arith, lt)) in
+                let g : get_or (order ++ p ∷ []) k 0 ≡ get_or order k 0 = get_or_append_left order (p ∷ []) 0 k lt in
+                rw (t, g) (h.once k lt))
+          ];
     }
 
 -- the next of the order
@@ -113,28 +156,6 @@ Walked-in s used order waiting available p w l gone =
       | inr h ↦ h
     ]
 
-some_times : (xs : List ℕ) (p : ℕ) → Contains xs p → 1 ≤ times p xs
-some_times xs p h =
-    let f : ℕ → ℕ = mark p in
-    let c : f (get_or xs h.0 p) ≤ times p xs = get_or-le-sum_by (mark p) xs h.0 p h.1 in
-    let one : mark p (get_or xs h.0 p) ≡ 1 = ap (mark p) h.2 ∙ (let e : mark p p ≡ 1 = rw (eq-eqb p p refl) refl in e) in
-    omega (arith, c, one)
-
--- and who waits is not
-pub Walked-out : (s : BankerState) (used : List Bool) (order : List ℕ) (waiting : List Bool) (available : List ℕ) (p : ℕ)
-    → Walked s used order waiting available → p < processes s → marked waiting p ≡ true → ¬ Contains order p
-Walked-out s used order waiting available p w l waits h =
-    let there : Contains (members s (marked waiting)) p =
-    filter-has (marked waiting) (everyone s) p waits (Contains-range (processes s) p l) in
-    let a = some_times order p h in
-    let b = some_times (members s (marked waiting)) p there in
-    let most : times p (everyone s) ≤ 1 = times-range p 0 (processes s) in
-    let same : times p (order ++ members s (marked waiting)) ≡ times p (everyone s) =
-    sum_by-IsPermutation (mark p) (everyone s) (order ++ members s (marked waiting)) w.parts in
-    let split : times p (order ++ members s (marked waiting)) ≡ times p order + times p (members s (marked waiting)) =
-    sum_by-append (mark p) order (members s (marked waiting)) in
-    omega (arith, a, b, most, same, split)
-
 -- if no job waits, the order finishes
 pub Walked-all : (s : BankerState) (used : List Bool) (order : List ℕ) (waiting : List Bool) (available : List ℕ)
     → Walked s used order waiting available → processes s ≤ 64 → ((p : ℕ) → p < 64 → IsUsed used p → marked waiting p ≡ false)
@@ -155,6 +176,23 @@ Walked-all s used order waiting available w few none =
     ]) in
     record {
       jobs = subst (λ (xs : List ℕ). IsPermutation (everyone s) (order ++ xs)) same w.parts;
+      fits = w.fits;
+    }
+
+-- nothing is wrong in the places that were walked
+pub Walked-well : (s : BankerState) (used : List Bool) (order : List ℕ) (k : ℕ) (waiting : List Bool) (available : List ℕ)
+    → Walked s used (take k order) waiting available → k ≤ length order → GoesWell s used order k
+Walked-well s used order k waiting available w l =
+    let long : length (take k order) ≡ k = length-take-le k order l in
+    record {
+      jobs = λ i b. subst (λ (j : ℕ). IsUsed used j) (get_or-take k order i 0 b) (w.jobs i (omega (arith, long, b)));
+      once = λ i b.
+          (let g : get_or (take k order) i 0 ≡ get_or order i 0 = get_or-take k order i 0 b in
+          let t : take i (take k order) ≡ take i order =
+          sym (take-append-le i (take k order) (drop k order) (omega (arith, long, b)))
+          ∙ ap (take i) (take-append-drop k order) in
+          let apart : ¬ Contains (take i (take k order)) (get_or (take k order) i 0) = w.once i (omega (arith, long, b)) in
+          rw (sym t, sym g) apart);
       fits = w.fits;
     }
 

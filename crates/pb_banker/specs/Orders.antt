@@ -26,13 +26,26 @@ pub record IsFirstShort (s : BankerState) (available : ℕ → ℕ) (p r : ℕ) 
   pub short : available r < remaining_claim s p r
   pub first : (q : ℕ) → q < r → remaining_claim s p q ≤ available q
 
--- what is said of an order: it finishes; or what is in this place is no job, or a job that is there before; or
--- those before this place fit, and the one there lacks this resource; or this job is not in it
+-- nothing is wrong before place k: each place there names a job, which is in no place before it, and fits after those
+pub record GoesWell (s : BankerState) (used : List Bool) (order : List ℕ) (k : ℕ) : Type 0 where
+  pub jobs : (i : ℕ) → i < k → IsUsed used (slice_index order i)
+  pub once : (i : ℕ) → i < k → ¬ Contains (take i order) (slice_index order i)
+  pub fits : FitInTurn s (take k order)
+
+-- the first job that the order lacks
+pub record IsFirstMissing (used : List Bool) (order : List ℕ) (p : ℕ) : Type 0 where
+  pub job : IsUsed used p
+  pub missing : ¬ Contains order p
+  pub first : (q : ℕ) → q < p → IsUsed used q → Contains order q
+
+-- what is said of an order: it finishes; or of the first place at which something is wrong, that it names no job, a
+-- job that is in a place before it, or one that lacks this resource; or nothing is wrong, and this job is not in it
 abbrev pub SaysOfOrder : BankerState → List Bool → List ℕ → OrderSaid → Type 0
 SaysOfOrder s used order Finishing = IsFinishingOrder s used order
-SaysOfOrder s used order (NoJob k) = (k < length order) × ¬ IsUsed used (slice_index order k)
-SaysOfOrder s used order (Twice k) = (k < length order) × Contains (take k order) (slice_index order k)
+SaysOfOrder s used order (NoJob k) = (k < length order) × GoesWell s used order k × ¬ IsUsed used (slice_index order k)
+SaysOfOrder s used order (Twice k) =
+    (k < length order) × GoesWell s used order k × Contains (take k order) (slice_index order k)
 SaysOfOrder s used order (Lacks k r) =
-    (k < length order) × FitInTurn s (take k order)
+    (k < length order) × GoesWell s used order k
     × IsFirstShort s (λ q. cash s q + held_by s (take k order) q) (slice_index order k) r
-SaysOfOrder s used order (Missing p) = IsUsed used p × ¬ Contains order p
+SaysOfOrder s used order (Missing p) = GoesWell s used order (length order) × IsFirstMissing used order p

@@ -10,13 +10,13 @@ use pb_base::limits::MAX_PROCESSES;
 pub enum OrderSaid {
     /// All finish in it.
     Finishing,
-    /// No job is in this place.
+    /// No job is in this place, and nothing is wrong before it.
     NoJob(usize),
-    /// The job in this place is also before it.
+    /// The job in this place is also before it, and nothing else is wrong there.
     Twice(usize),
-    /// The job in this place lacks this resource.
+    /// The job in this place lacks this resource, the first of those that it lacks; nothing is wrong before it.
     Lacks(usize, usize),
-    /// This job is not in it.
+    /// This job is not in it, the first of those that are not; nothing else is wrong.
     Missing(usize),
 }
 
@@ -78,6 +78,8 @@ fn first_waiting(used: &[bool; MAX_PROCESSES], waiting: &[bool; MAX_PROCESSES]) 
         → slice_index_or waiting.now p false ≡ false) }
     ensures used { IfSome result (λ p. IsTrue (slice_index_or used.now p false)) }
     ensures waits { IfSome result (λ p. IsTrue (slice_index_or waiting.now p false)) }
+    ensures first { IfSome result (λ p. (q : ℕ) → q < p → IsTrue (slice_index_or used.now q false)
+        → slice_index_or waiting.now q false ≡ false) }
 {
     for p in 0..MAX_PROCESSES {
         if used[p] {
