@@ -37,9 +37,9 @@ pauses_are : (code : ProcessCode) (n k p q : ℕ) → Skips code k p q → Stops
 pauses_are code zero zero p q skips stops few = refl
 pauses_are code zero (suc k) p q skips stops few = absurd (omega (arith, few))
 pauses_are code (suc n) zero p q skips stops few =
-    ap (λ o. elim o [ | None ↦ 0 | Some t ↦ suc (pauses code n t) ]) (ap (next_place code) skips ∙ stops)
+    ap (λ o. elim o [ None ↦ 0 | Some t ↦ suc (pauses code n t) ]) (ap (next_place code) skips ∙ stops)
 pauses_are code (suc n) (suc k) p q skips stops few =
-    ap (λ o. elim o [ | None ↦ 0 | Some t ↦ suc (pauses code n t) ]) skips.1
+    ap (λ o. elim o [ None ↦ 0 | Some t ↦ suc (pauses code n t) ]) skips.1
     ∙ ap suc (pauses_are code n k skips.0 q skips.2 stops (omega (arith, few)))
 
 thread_rank : ProcessCode → Thread → ℕ
@@ -244,12 +244,12 @@ moves_on code zero p more = absurd (omega (arith, more))
 moves_on code (suc n) p more = go (slice_get code.instrs p) refl
   where
     at : (o : Option Instr) → slice_get code.instrs p ≡ o
-        → pauses code (suc n) p ≡ (elim (option_and_then (λ i. after_skip i p) o) [ | None ↦ 0 | Some q ↦ suc (pauses code n q) ])
-    at o is = ap (λ o. elim (option_and_then (λ i. after_skip i p) o) [ | None ↦ 0 | Some q ↦ suc (pauses code n q) ]) is
+        → pauses code (suc n) p ≡ (elim (option_and_then (λ i. after_skip i p) o) [ None ↦ 0 | Some q ↦ suc (pauses code n q) ])
+    at o is = ap (λ o. elim (option_and_then (λ i. after_skip i p) o) [ None ↦ 0 | Some q ↦ suc (pauses code n q) ]) is
 
     nothing : (o : Option Instr) → slice_get code.instrs p ≡ o → option_and_then (λ i. after_skip i p) o ≡ None → ⊥
     nothing o is none =
-        let zero_is = at o is ∙ ap (λ o. elim o [ | None ↦ 0 | Some q ↦ suc (pauses code n q) ]) none in
+        let zero_is = at o is ∙ ap (λ o. elim o [ None ↦ 0 | Some q ↦ suc (pauses code n q) ]) none in
         omega (arith, more, zero_is)
 
     go : (o : Option Instr) → slice_get code.instrs p ≡ o → instr_skips (slice_get code.instrs p) ≡ true
