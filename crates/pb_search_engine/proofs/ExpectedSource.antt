@@ -38,7 +38,7 @@ found_stuck : (lending : Lending) (code : Code) (deadlocks : List FoundDeadlock)
 found_stuck lending code deadlocks some d there =
     let one = subst (λ (g : FoundDeadlock). (s : Trace) × IsFoundAt (printing lending) code g s) (get_or_from_slice_get deadlocks 0 d d there)
     (each_at (printing lending) code deadlocks some.stuck some.each 0 d (slice_get_within deadlocks 0 d there)) in
-    (record { processes = outcome_of one.0.state; loans = one.0.state.loans }, d.picks, one.0, one.1.0, refl)
+    (record { processes = outcome_of one.0.state; loans = one.0.state.loans }, (d.picks, one.0, one.1.0, refl))
 
 module _ (lending : Lending) (any_order : Bool) (wanted : List Print) (program : Program) (code : Code) (labels : List ProcessLabels) (states : ℕ)
     (same : (outcome : Outcome) → IsPrintedByCodeBy lending code outcome ↔ IsPrintedBySource lending program code.claims outcome)

@@ -1,13 +1,13 @@
 -- The outcomes of code with their prints are those of its program.
-use Rattle.std.proofs.Common.{◌≡◌, ◌↔◌, ℕ, List, [], ◌∷◌, ◌++◌, append_assoc, append-nil, map, option_to_list, refl, sym, ap, ◌∙◌, subst}
+use Rattle.std.proofs.Common.{◌≡◌, ◌↔◌, List, [], ◌∷◌, ◌++◌, append_assoc, append-nil, map, option_to_list, refl, sym, ap, ◌∙◌, subst}
 use Rattle.std.specs.Prelude.{Contains, slice_index_or}
 use Rattle.std.proofs.lemmas.List.Elements.{All-contains, All-map}
 use Rattle.pb_base.specs.declared.event.Event.{Event}
 use Rattle.pb_base.specs.declared.pick.Pick.{Pick}
-use Rattle.pb_base.specs.Steppers.{Bank, Effect, Silent, Prints, Takes, Returns, Faults, Finishes, IsGranted, Makes, State, Table, event_of, opening}
+use Rattle.pb_base.specs.Steppers.{Bank, Effect, Silent, Prints, Takes, Returns, Faults, Finishes, Makes, State, Table, event_of, opening}
 use Rattle.pb_base.specs.declared.lending.Lending.{Lending}
 use Rattle.pb_code.specs.Code.{CodeProcess, code_process, code_step}
-use Rattle.pb_code.specs.Whole.{Code, bank_by, bank_of}
+use Rattle.pb_code.specs.Whole.{Code, bank_by}
 use Rattle.pb_codegen.specs.Correct.{generated}
 use Rattle.pb_codegen.proofs.SimulationBack.{followed}
 use Rattle.pb_codegen.proofs.SimulationRuns.{opening_alike, shadowed}
@@ -17,7 +17,6 @@ use Rattle.pb_names.specs.Program.{AllWellNumbered, Program}
 use Rattle.pb_names.specs.Source.{SourceProcess, source_process}
 use Rattle.pb_search.specs.Outcomes.{AreOutcomes, Found}
 use Rattle.pb_search_stages.specs.Configurations.{Comes}
-use Rattle.pb_search_stages.specs.Reaching.{IsLent}
 use Rattle.pb_search_stages.specs.Traces.{Configuration, Outcome, Trace, TraceLeads, prints_of, trace_opening}
 use Rattle.pb_search_stages.specs.declared.print.Print.{Print}
 use Rattle.pb_search_engine.specs.Expected.{printing}

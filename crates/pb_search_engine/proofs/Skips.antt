@@ -1,17 +1,17 @@
 -- Picks of code that the source does not see: as long as no other comes between, there are only so many of them.
-use Rattle.std.proofs.Common.{◌≡◌, ◌⊎◌, inl, inr, ℕ, zero, suc, ◌+◌, ◌<◌, ◌≤◌, ℤ, Bool, true, false, List, [], ◌∷◌, length}
+use Rattle.std.proofs.Common.{◌≡◌, ◌⊎◌, inl, inr, ℕ, zero, suc, ◌+◌, ◌<◌, ◌≤◌, ℤ, true, false, List, [], ◌∷◌, length}
 use Rattle.std.proofs.Common.{get_or, set, Option, Some, None, option_and_then, option_map, unwrap_or, refl, sym, ap, ◌∙◌, subst, arith, true≢false}
 use Rattle.std.specs.Prelude.{slice_get, slice_set}
 use Rattle.std.specs.List.{sum_by}
-use Rattle.std.proofs.lemmas.List.Sums.{sum_by-set}
+use Rattle.std.proofs.lemmas.List.Sums.{sum_by-cons, sum_by-set}
 use Rattle.std.proofs.lemmas.Bool.{cases_lt}
 use Rattle.pb_base.proofs.Cases.{bool_cases}
 use Rattle.pb_base.specs.declared.pick.Pick.{Pick}
-use Rattle.pb_base.specs.Steppers.{Bank, Effect, Silent, IsGranted, State, moved, move_of}
+use Rattle.pb_base.specs.Steppers.{Bank, Silent, IsGranted, Move, State, move_of}
 use Rattle.pb_code.specs.Code.{Instr, Push, Load, Store, Compute1, Compute2, Jump, JumpIfZero, PrintTop, Take, Give, Fork, Join, End}
 use Rattle.pb_code.specs.Code.{ProcessCode, CodeProcess, Thread, Idle, Live, thread, code_step, step_process, step_thread, act, apply_step}
 use Rattle.pb_code.specs.Code.{instr_skips, is_at_skip, is_skipped, skips_at}
-use Rattle.pb_code.proofs.Chains.{Chain, Skips, Stops, after_skip, chain_short, chain_skips, chain_stops, next_place}
+use Rattle.pb_code.proofs.Chains.{Chain, Skips, Stops, after_skip, chain_short, chain_stops, next_place}
 use Rattle.pb_generator.specs.Generate.{process_code}
 use Rattle.pb_names.specs.Program.{Process}
 use Rattle.pb_names.specs.Source.{SourceProcess}
@@ -26,7 +26,7 @@ use Rattle.pb_search_stages.specs.Reduction.{LeadsTo}
 use Rattle.pb_verifier.proofs.Threads.{live_within}
 
 -- how often an arm at a place skips before it stops, if that is no more often than this
-pauses : ProcessCode → (most place : ℕ) → ℕ
+abbrev pauses : ProcessCode → (most place : ℕ) → ℕ
 pauses code zero p = 0
 pauses code (suc n) p = elim (next_place code p) [
   | None ↦ 0
@@ -42,15 +42,15 @@ pauses_are code (suc n) (suc k) p q skips stops few =
     ap (λ o. elim o [ None ↦ 0 | Some t ↦ suc (pauses code n t) ]) skips.1
     ∙ ap suc (pauses_are code n k skips.0 q skips.2 stops (omega (arith, few)))
 
-thread_rank : ProcessCode → Thread → ℕ
+abbrev thread_rank : ProcessCode → Thread → ℕ
 thread_rank code Idle = 0
 thread_rank code (Live p s) = pauses code (length code.instrs) p
 thread_rank code Thread.Ended = 0
 
-process_rank : ProcessCode → CodeProcess → ℕ
+abbrev process_rank : ProcessCode → CodeProcess → ℕ
 process_rank code cp = sum_by (thread_rank code) cp.threads
 
-pub rank : List ProcessCode → List CodeProcess → ℕ
+abbrev pub rank : List ProcessCode → List CodeProcess → ℕ
 rank [] cps = 0
 rank (code ∷ codes) [] = 0
 rank (code ∷ codes) (cp ∷ cps) = process_rank code cp + rank codes cps
@@ -159,11 +159,11 @@ module _ (program : List Process) (cs : State CodeProcess) (ss : State SourcePro
   known : (next : State CodeProcess) → move_of (code_step (generated program)) cs pick ≡ Some (record { next = next; effect = Silent })
       → rank (generated program) next.processes + 1 ≡ rank (generated program) cs.processes → PicksAlike program cs ss pick
       → SkipsOn program cs ss pick
-  known next moves falls (not_enabled c s) = let w : None ≡ Some (record { next = next; effect = Silent }) = sym c ∙ moves in cc
+  known next moves falls (not_enabled c s) = let w : ◌≡◌ {A = Option (Move CodeProcess)} None (Some (record { next = next; effect = Silent })) = sym c ∙ moves in cc
   known next moves falls (together cs' ss' effect stays c s alike) = elim (true≢false (sym skips ∙ stays)) [ ]
   known next moves falls (code_alone cs' alone c alike on) =
-      let same : Some (record { next = cs'; effect = Silent }) ≡ Some (record { next = next; effect = Silent }) = sym c ∙ moves in
-      let same' : record { next = cs'; effect = Silent } ≡ record { next = next; effect = Silent } = cc in
+      let same : ◌≡◌ {A = Option (Move CodeProcess)} (Some (record { next = cs'; effect = Silent })) (Some (record { next = next; effect = Silent })) = sym c ∙ moves in
+      let same' : ◌≡◌ {A = Move CodeProcess} (record { next = cs'; effect = Silent }) (record { next = next; effect = Silent }) = cc in
       record {
         next = next;
         moves = moves;
@@ -209,11 +209,13 @@ module _ (program : List Process) (cs : State CodeProcess) (ss : State SourcePro
 -- some thread counts
 some_thread : (f : Thread → ℕ) (xs : List Thread) → f Idle ≡ 0 → 0 < sum_by f xs → (a : ℕ) × (0 < f (thread xs a))
 some_thread f [] idle more = absurd (omega (arith, more))
-some_thread f (x ∷ xs) idle more = go (cases_lt 0 (f x))
+some_thread f (x ∷ xs) idle more = go (cases_lt 0 (f x)) (λ rest. some_thread f xs idle rest)
   where
-    go : (0 < f x) ⊎ (f x ≤ 0) → (a : ℕ) × (0 < f (thread (x ∷ xs) a))
-    go (inl some) = (0, some)
-    go (inr none) = let r = some_thread f xs idle (omega (arith, more, none)) in (suc r.0, r.1)
+    go : (0 < f x) ⊎ (f x ≤ 0) → (0 < sum_by f xs → (a : ℕ) × (0 < f (thread xs a))) → (a : ℕ) × (0 < f (thread (x ∷ xs) a))
+    go (inl some) rest = (0, some)
+    go (inr none) rest =
+        let both = sum_by-cons f x xs in
+        let r = rest (omega (arith, more, both, none)) in (suc r.0, r.1)
 
 -- some arm of some process skips
 record SomeSkips (codes : List ProcessCode) (cps : List CodeProcess) : Type 0 where
@@ -228,14 +230,15 @@ record SomeSkips (codes : List ProcessCode) (cps : List CodeProcess) : Type 0 wh
 some_skips : (codes : List ProcessCode) (cps : List CodeProcess) → 0 < rank codes cps → SomeSkips codes cps
 some_skips [] cps more = absurd (omega (arith, more))
 some_skips (code ∷ codes) [] more = absurd (omega (arith, more))
-some_skips (code ∷ codes) (cp ∷ cps) more = go (cases_lt 0 (process_rank code cp))
+some_skips (code ∷ codes) (cp ∷ cps) more = go (cases_lt 0 (process_rank code cp)) (λ rest. some_skips codes cps rest)
   where
-    go : (0 < process_rank code cp) ⊎ (process_rank code cp ≤ 0) → SomeSkips (code ∷ codes) (cp ∷ cps)
-    go (inl some) =
+    go : (0 < process_rank code cp) ⊎ (process_rank code cp ≤ 0) → (0 < rank codes cps → SomeSkips codes cps)
+        → SomeSkips (code ∷ codes) (cp ∷ cps)
+    go (inl some) rest =
         let r = some_thread (thread_rank code) cp.threads refl some in
         record { p = 0; a = r.0; code = code; cp = cp; at = refl; there = refl; counts = r.1 }
-    go (inr none) =
-        let r = some_skips codes cps (omega (arith, more, none)) in
+    go (inr none) rest =
+        let r = rest (omega (arith, more, none)) in
         record { p = suc r.p; a = r.a; code = r.code; cp = r.cp; at = r.at; there = r.there; counts = r.counts }
 
 -- a place at which an arm goes on is that of a skip

@@ -1,10 +1,10 @@
 -- The runs of code are those of its program: its deadlocks, and whether they end.
 use Rattle.std.proofs.Common.{◌≡◌, ◌⊎◌, inl, inr, ℕ, zero, suc, ◌+◌, ◌<◌, ◌≤◌, List, [], ◌∷◌, ◌++◌, length, length-append, map}
-use Rattle.std.proofs.Common.{Some, None, refl, sym, ap, ◌∙◌, subst, arith, false, true≢false}
+use Rattle.std.proofs.Common.{Option, Some, None, refl, sym, ap, ◌∙◌, subst, arith, false, true≢false}
 use Rattle.pb_base.specs.declared.lending.Lending.{Lending}
 use Rattle.pb_base.specs.declared.pick.Pick.{Pick}
-use Rattle.pb_base.specs.Steppers.{Bank, Silent, IsFinished, IsGranted, State, Table, opening}
-use Rattle.pb_code.specs.Code.{CodeProcess, code_over, code_process, code_step, is_skipped}
+use Rattle.pb_base.specs.Steppers.{Bank, Silent, IsGranted, Move, State, Table, opening}
+use Rattle.pb_code.specs.Code.{CodeProcess, code_process, code_step, is_skipped}
 use Rattle.pb_code.specs.Whole.{Code}
 use Rattle.pb_codegen.specs.Correct.{generated}
 use Rattle.pb_codegen.proofs.SimulationBack.{followed}
@@ -12,12 +12,12 @@ use Rattle.pb_codegen.proofs.SimulationRuns.{PicksAlike, StatesAlike, code_alone
 use Rattle.pb_generator.specs.Generate.{program_code}
 use Rattle.pb_names.specs.Meaning.{source_bank_by}
 use Rattle.pb_names.specs.Program.{AllWellNumbered, Process, Program}
-use Rattle.pb_names.specs.Source.{SourceProcess, source_over, source_process, source_step}
+use Rattle.pb_names.specs.Source.{SourceProcess, source_process, source_step}
 use Rattle.pb_search.specs.Outcomes.{HasEndlessRun, IsBounded}
 use Rattle.pb_search_stages.specs.Configurations.{Comes}
 use Rattle.pb_search_stages.specs.Reaching.{CodeLeads, Configuration, IsDeadlock, outcome_of}
 use Rattle.pb_search_stages.specs.Reduction.{LeadsTo}
-use Rattle.pb_search_stages.specs.Traces.{Trace, TraceDeadlocks, TraceLeads, TraceReaches, trace_opening}
+use Rattle.pb_search_stages.specs.Traces.{Trace, TraceLeads, TraceReaches, trace_opening}
 use Rattle.pb_search_stages.specs.declared.print.Mode.{Mode}
 use Rattle.pb_search_stages.proofs.ClosedSets.{comes_on}
 use Rattle.pb_search_stages.proofs.ReachedByBanker.{come, make}
@@ -65,11 +65,11 @@ mirrored bank program cs ss (pick ∷ picks) end h (next, (effect, moves, leave)
   where
     go : PicksAlike program cs ss pick → ((ss' : State SourceProcess) → StatesAlike program next ss' → Mirrored bank program next ss' picks end)
         → Mirrored bank program cs ss (pick ∷ picks) end
-    go (not_enabled c s) rest = let w : None ≡ Some (record { next = next; effect = effect }) = sym c ∙ moves in cc
+    go (not_enabled c s) rest = let w : ◌≡◌ {A = Option (Move CodeProcess)} None (Some (record { next = next; effect = effect })) = sym c ∙ moves in cc
     go (code_alone cs' skips c alike on) rest =
         let skip = skips_on program cs ss pick h skips in
-        let same : Some (record { next = skip.next; effect = Silent }) ≡ Some (record { next = next; effect = effect }) = sym skip.moves ∙ moves in
-        let same' : record { next = skip.next; effect = Silent } ≡ record { next = next; effect = effect } = cc in
+        let same : ◌≡◌ {A = Option (Move CodeProcess)} (Some (record { next = skip.next; effect = Silent })) (Some (record { next = next; effect = effect })) = sym skip.moves ∙ moves in
+        let same' : ◌≡◌ {A = Move CodeProcess} (record { next = skip.next; effect = Silent }) (record { next = next; effect = effect }) = cc in
         let is : skip.next ≡ next = ap (λ m. m.next) same' in
         let more = rest ss (subst (λ s. StatesAlike program s ss) is skip.alike) in
         let falls : rank (generated program) next.processes + 1 ≡ rank (generated program) cs.processes =
@@ -85,8 +85,8 @@ mirrored bank program cs ss (pick ∷ picks) end h (next, (effect, moves, leave)
           ];
         }
     go (together cs' ss' by stays c s alike) rest =
-        let same : Some (record { next = cs'; effect = by }) ≡ Some (record { next = next; effect = effect }) = sym c ∙ moves in
-        let same' : record { next = cs'; effect = by } ≡ record { next = next; effect = effect } = cc in
+        let same : ◌≡◌ {A = Option (Move CodeProcess)} (Some (record { next = cs'; effect = by })) (Some (record { next = next; effect = effect })) = sym c ∙ moves in
+        let same' : ◌≡◌ {A = Move CodeProcess} (record { next = cs'; effect = by }) (record { next = next; effect = effect }) = cc in
         let is : cs' ≡ next = ap (λ m. m.next) same' in
         let by_is : effect ≡ by = sym (ap (λ m. m.effect) same') in
         let more = rest ss' (subst (λ x. StatesAlike program x ss') is alike) in
@@ -154,19 +154,19 @@ module _ (mode : Mode) (program : Program) (claims : Table) (numbered : AllWellN
 
   module _ (cs : State CodeProcess) (ss : State SourceProcess) (h : StatesAlike program.processes cs ss) where
     stuck_source : IsDeadlock lending code cs → IsSourceDeadlock lending program claims ss
-    stuck_source dead = record {
-      unfinished = λ over. dead.0 (code_finished program.processes cs ss h over);
-      stuck = λ pick next leads. go pick next leads (picks_alike program.processes cs ss pick h);
-    }
+    stuck_source dead = (
+      λ over. dead.0 (code_finished program.processes cs ss h over),
+      λ goes. go goes.0 goes.1.next (goes.1.effect, goes.2, goes.3) (picks_alike program.processes cs ss goes.0 h),
+    )
       where
         go : (pick : Pick) (next : State SourceProcess) → SourceLeads lending program claims ss pick next
             → PicksAlike program.processes cs ss pick → ⊥
-        go pick next (effect, moves, leave) (not_enabled c s) = let w : None ≡ Some (record { next = next; effect = effect }) = sym s ∙ moves in cc
+        go pick next (effect, moves, leave) (not_enabled c s) = let w : ◌≡◌ {A = Option (Move SourceProcess)} None (Some (record { next = next; effect = effect })) = sym s ∙ moves in cc
         go pick next (effect, moves, leave) (code_alone cs' skips c alike on) =
             dead.1 pick cs' (Silent, c, lent lending code cs.loans pick.process Silent tt)
         go pick next (effect, moves, leave) (together cs' ss' by stays c s alike) =
-            let same : Some (record { next = ss'; effect = by }) ≡ Some (record { next = next; effect = effect }) = sym s ∙ moves in
-            let same' : record { next = ss'; effect = by } ≡ record { next = next; effect = effect } = cc in
+            let same : ◌≡◌ {A = Option (Move SourceProcess)} (Some (record { next = ss'; effect = by })) (Some (record { next = next; effect = effect })) = sym s ∙ moves in
+            let same' : ◌≡◌ {A = Move SourceProcess} (record { next = ss'; effect = by }) (record { next = next; effect = effect }) = cc in
             let by_is : effect ≡ by = sym (ap (λ m. m.effect) same') in
             let leave' : IsGranted bank cs.loans pick.process by =
             subst (λ e. IsGranted bank cs.loans pick.process e) by_is (subst (λ l. IsGranted bank l pick.process effect) (sym h.loans) leave) in
@@ -175,21 +175,21 @@ module _ (mode : Mode) (program : Program) (claims : Table) (numbered : AllWellN
     stuck_code : ((pick : Pick) → is_skipped (generated program.processes) cs pick ≡ false) → IsSourceDeadlock lending program claims ss
         → IsDeadlock lending code cs
     stuck_code none dead = (
-      λ over. dead.unfinished (source_finished program.processes cs ss h over),
+      λ over. dead.0 (source_finished program.processes cs ss h over),
       λ pick next leads. go pick next leads (picks_alike program.processes cs ss pick h),
     )
       where
         go : (pick : Pick) (next : Configuration) → CodeLeads lending code cs pick next → PicksAlike program.processes cs ss pick → ⊥
-        go pick next (effect, moves, leave) (not_enabled c s) = let w : None ≡ Some (record { next = next; effect = effect }) = sym c ∙ moves in cc
+        go pick next (effect, moves, leave) (not_enabled c s) = let w : ◌≡◌ {A = Option (Move CodeProcess)} None (Some (record { next = next; effect = effect })) = sym c ∙ moves in cc
         go pick next (effect, moves, leave) (code_alone cs' skips c alike on) = elim (true≢false (sym skips ∙ none pick)) [ ]
         go pick next (effect, moves, leave) (together cs' ss' by stays c s alike) =
-            let same : Some (record { next = cs'; effect = by }) ≡ Some (record { next = next; effect = effect }) = sym c ∙ moves in
-            let same' : record { next = cs'; effect = by } ≡ record { next = next; effect = effect } = cc in
+            let same : ◌≡◌ {A = Option (Move CodeProcess)} (Some (record { next = cs'; effect = by })) (Some (record { next = next; effect = effect })) = sym c ∙ moves in
+            let same' : ◌≡◌ {A = Move CodeProcess} (record { next = cs'; effect = by }) (record { next = next; effect = effect }) = cc in
             let by_is : effect ≡ by = sym (ap (λ m. m.effect) same') in
             let leave' : IsGranted bank ss.loans pick.process by =
             subst (λ e. IsGranted bank ss.loans pick.process e) by_is
             (subst (λ l. IsGranted bank l pick.process effect) h.loans (granted lending code cs.loans pick.process effect leave)) in
-            dead.stuck pick ss' (by, s, leave')
+            dead.1 (pick, record { next = ss'; effect = by }, s, leave')
 
     -- what is there is the same
     stuck_alike : ◌≡◌ {A = Stuck} (record { processes = outcome_of cs; loans = cs.loans }) (record { processes = source_outcome_of ss; loans = ss.loans })

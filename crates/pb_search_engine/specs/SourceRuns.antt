@@ -3,22 +3,23 @@
 use Rattle.std.specs.Prelude.{◌≡◌, ◌↔◌, ℕ, ◌<◌, ◌≤◌, List, length}
 use Rattle.pb_base.specs.declared.lending.Lending.{Lending}
 use Rattle.pb_base.specs.declared.pick.Pick.{Pick}
-use Rattle.pb_base.specs.Steppers.{Table, IsFinished, State}
+use Rattle.pb_base.specs.Steppers.{CanGoOn, IsFinished, State, Table}
 use Rattle.pb_code.specs.Whole.{Code, ProcessLabels}
 use Rattle.pb_codegen.specs.Compiled.{IsCompiled}
 use Rattle.pb_codegen.specs.Numbered.{IsReadAs}
+use Rattle.pb_names.specs.Meaning.{source_bank_by}
 use Rattle.pb_names.specs.Program.{Program}
-use Rattle.pb_names.specs.Source.{SourceProcess, source_over}
+use Rattle.pb_names.specs.Source.{SourceProcess, source_over, source_step}
 use Rattle.pb_search.specs.Outcomes.{HasEndlessRun, IsBounded}
 use Rattle.pb_search_stages.specs.Reaching.{ProcessOutcome, outcome_of}
 use Rattle.pb_search_stages.specs.Traces.{Trace, TraceDeadlocks}
 use Rattle.pb_search_stages.specs.declared.print.Mode.{Mode}
-use Rattle.pb_search_engine.specs.SourceOutcomes.{SourceComes, SourceLeads, source_outcome_of}
+use Rattle.pb_search_engine.specs.SourceOutcomes.{SourceComes, source_outcome_of}
 
 -- some process has neither ended nor faulted, and no pick is enabled
-pub record IsSourceDeadlock (lending : Lending) (program : Program) (claims : Table) (s : State SourceProcess) : Type 0 where
-  pub unfinished : ¬ IsFinished source_over s
-  pub stuck : (pick : Pick) (next : State SourceProcess) → ¬ SourceLeads lending program claims s pick next
+abbrev pub IsSourceDeadlock : Lending → Program → Table → State SourceProcess → Type 0
+IsSourceDeadlock lending program claims s =
+    (¬ IsFinished source_over s) × (¬ CanGoOn (source_bank_by lending program claims) source_step s)
 
 -- what there is in a deadlock: the integers of each process and whether it has faulted, and what each holds
 pub record Stuck : Type 0 where
