@@ -1,5 +1,13 @@
 pub mod Columns
 pub mod Free
 pub mod Granted
+pub mod OrderedClaims
+pub mod OrderedDeadlocks
+pub mod OrderedItems
+pub mod OrderedLaw
+pub mod OrderedLoans
+pub mod OrderedPlaces
+pub mod OrderedRuns
+pub mod OrderedSteps
 pub mod Walks
 pub mod Weights

@@ -1,3 +1,4 @@
 pub mod Needs
+pub mod Orders
 pub mod Parts
 pub mod Waiting

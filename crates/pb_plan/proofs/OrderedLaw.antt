@@ -1,0 +1,169 @@
+-- If every process follows an order, the source comes to no deadlock by the cash alone.
+use Rattle.std.proofs.Common.{◌≡◌, ◌∙◌, inl, inr, ⊎_elim, ℕ, zero, suc, ◌+◌, ◌<◌, ◌≤◌, false, cond, eqb}
+use Rattle.std.proofs.Common.{List, [], ◌∷◌, length, Option, Some, None, option_map, option_and_then, refl, sym, ap}
+use Rattle.std.proofs.Common.{subst, arith}
+use Rattle.std.specs.Prelude.{slice_get, slice_index, sum_by}
+use Rattle.std.proofs.lemmas.Bool.{cases_lt}
+use Rattle.std.proofs.lemmas.List.Sums.{sum_by-cons}
+use Rattle.std.proofs.lemmas.Option.{get_or_from_slice_get, slice_get_within}
+use Rattle.pb_base.proofs.Cases.{bool_cases}
+use Rattle.pb_base.specs.Banker.{BankerState, capital, cash, everyone, loan}
+use Rattle.pb_base.specs.declared.lending.Lending.TheVariants.{ByCash}
+use Rattle.pb_base.specs.declared.pick.Pick.{Pick}
+use Rattle.pb_base.specs.Steppers.{Bank, Silent, Prints, Takes, Returns, Faults, Finishes, ending, IsGranted, IsLent}
+use Rattle.pb_base.specs.Steppers.{IsFinished, State, CanGoOn, banker_state, moved}
+use Rattle.pb_names.proofs.Holds.{zip_at}
+use Rattle.pb_names.specs.Meaning.{source_bank_by}
+use Rattle.pb_names.specs.Program.{Process, IsWellNumbered}
+use Rattle.pb_names.specs.Resolves.{ResolvesProcess, resource_names}
+use Rattle.pb_names.specs.Source.{Arm, Doing, Waiting, Ended, is_ended, ArmStep, Goes, Breaks, Ends, step_arm, find}
+use Rattle.pb_names.specs.Source.{SourceProcess, settle, step_run, source_step, source_over}
+use Rattle.pb_plan.proofs.OrderedClaims.{most_held, ordered}
+use Rattle.pb_plan.proofs.OrderedDeadlocks.{IsOrdered, IsStuck, Waits, lacking_or_not, stuck, arm_short}
+use Rattle.pb_plan.proofs.OrderedDeadlocks.{IsShortPast, holder_short}
+use Rattle.pb_plan.proofs.OrderedRuns.{IsKept, held_at, held_by_run, kept}
+use Rattle.pb_plan.specs.Orders.{ComesLater, EachHold, place, OrdersPreventDeadlocks}
+
+some_positive : (f : ℕ → ℕ) (xs : List ℕ) → 0 < sum_by f xs → (x : ℕ) × (0 < f x)
+some_positive f [] u = absurd (omega (arith, u))
+some_positive f (x ∷ xs) u =
+    let sum = sum_by-cons f x xs in
+    ⊎_elim (λ here. (x, here)) (λ none. some_positive f xs (omega (arith, u, none, sum))) (cases_lt 0 (f x))
+
+place_le : (order : List ℕ) (r : ℕ) → place order r ≤ length order
+place_le [] r = omega arith
+place_le (first ∷ order) r = ⊎_elim
+    (λ same. let e : place (first ∷ order) r ≡ 0 = ap (λ b. cond b 0 (suc (place order r))) same in omega (arith, e))
+    (λ other.
+    let e : place (first ∷ order) r ≡ suc (place order r) = ap (λ b. cond b 0 (suc (place order r))) other in
+    let rest = place_le order r in
+    omega (arith, e, rest))
+    (bool_cases (eqb first r))
+
+module _ (bank : Bank) (by : bank.lends ≡ ByCash) (order : List ℕ) (s : State SourceProcess) where
+  abbrev b : BankerState
+  b = banker_state bank s.loans
+
+  module _ (k : IsKept (IsOrdered order (capital b)) s) (still : CanGoOn bank source_step s → ⊥) where
+    cannot : (p a : ℕ) (process : SourceProcess) (root found : Arm) (st : ArmStep)
+        → slice_get s.processes p ≡ Some process → process.run ≡ Some root → find a 0 root ≡ Some found
+        → step_arm process.vars found ≡ Some st
+        → IsGranted bank s.loans p (settle process.vars root a st).1 → ⊥
+    cannot p a process root found st at runs is_found steps granted =
+        let pick : Pick = record { process = p; arm = a } in
+        let stepped : source_step p process a ≡ Some (settle process.vars root a st) =
+        ap (option_and_then (step_run process.vars a)) runs
+        ∙ ap (option_and_then (λ arm. option_map (settle process.vars root a) (step_arm process.vars arm))) is_found
+        ∙ ap (option_map (settle process.vars root a)) steps in
+        still (
+          pick,
+          moved s pick (settle process.vars root a st),
+          ap (option_and_then (λ x. option_map (moved s pick) (source_step p x a))) at
+              ∙ ap (option_map (moved s pick)) stepped,
+          granted,
+        )
+
+    ending_granted : (p a : ℕ) → IsGranted bank s.loans p (ending a)
+    ending_granted p zero = tt
+    ending_granted p (suc a) = tt
+
+    -- all that an arm could do is to take what the cash does not suffice for
+    waits : (p a : ℕ) (process : SourceProcess) (root found : Arm) (st : ArmStep)
+        → slice_get s.processes p ≡ Some process → process.run ≡ Some root → find a 0 root ≡ Some found
+        → step_arm process.vars found ≡ Some st → Waits (cash b) st
+    waits p a process root found (Goes vars new Silent) at runs f e =
+        cannot p a process root found (Goes vars new Silent) at runs f e tt
+    waits p a process root found (Goes vars new (Prints v)) at runs f e =
+        cannot p a process root found (Goes vars new (Prints v)) at runs f e tt
+    waits p a process root found (Goes vars new (Takes bundle)) at runs f e = ⊎_elim
+        (λ enough.
+        absurd (cannot p a process root found (Goes vars new (Takes bundle)) at runs f e
+        (subst (λ lends. IsLent lends b p bundle) (sym by) enough)))
+        (λ lacking. lacking) (lacking_or_not (cash b) bundle)
+    waits p a process root found (Goes vars new (Returns bundle)) at runs f e =
+        cannot p a process root found (Goes vars new (Returns bundle)) at runs f e tt
+    waits p a process root found (Goes vars new (Faults kind)) at runs f e =
+        cannot p a process root found (Goes vars new (Faults kind)) at runs f e tt
+    waits p a process root found (Goes vars new Finishes) at runs f e =
+        cannot p a process root found (Goes vars new Finishes) at runs f e tt
+    waits p a process root found (Breaks kind) at runs f e =
+        cannot p a process root found (Breaks kind) at runs f e tt
+    waits p a process root found Ends at runs f e =
+        cannot p a process root found Ends at runs f e (ending_granted p a)
+
+    tree_stuck : (p : ℕ) (process : SourceProcess) (root : Arm) → slice_get s.processes p ≡ Some process
+        → process.run ≡ Some root → IsStuck (cash b) root
+    tree_stuck p process root at runs =
+        let tree = k.trees p process root at runs in
+        stuck (cash b) (IsOrdered order (capital b)) process.vars 0 1 tree.0 [] root (omega arith) tree.1
+        (λ a found st f e. waits p a process root found st at runs f e)
+
+    -- whoever holds some of a resource is short of a later one
+    holder : (r : ℕ) → cash b r < capital b r → IsShortPast (cash b) order (capital b) r
+    holder r short =
+        let some = some_positive (λ p. loan b p r) (everyone b) (omega (arith, short)) in
+        process some.0 some.1 (slice_get s.processes some.0) refl
+      where
+        run : (p : ℕ) (process : SourceProcess) → 0 < held_by_run r process.run
+            → slice_get s.processes p ≡ Some process → (o : Option Arm) → process.run ≡ o
+            → IsShortPast (cash b) order (capital b) r
+        run p process some at None runs =
+            let none = ap (held_by_run r) runs in absurd (omega (arith, some, none))
+        run p process some at (Some root) runs =
+            let is = ap (held_by_run r) runs in
+            let tree = k.trees p process root at runs in
+            holder_short (cash b) order (capital b) r 1 tree.0 [] root (tree_stuck p process root at runs)
+            (omega (arith, some, is)) tree.1
+
+        process : (p : ℕ) → 0 < loan b p r → (o : Option SourceProcess) → slice_get s.processes p ≡ o
+            → IsShortPast (cash b) order (capital b) r
+        process p some None at =
+            let most = k.loans p r in
+            let none = ap (held_at r) at in
+            absurd (omega (arith, some, most, none))
+        process p some (Some sp) at =
+            let most = k.loans p r in
+            let is = ap (held_at r) at in
+            run p sp (omega (arith, some, most, is)) at sp.run refl
+
+    none_short : (m r : ℕ) → length order < place order r + m → cash b r < capital b r → ⊥
+    none_short zero r u short = let l = place_le order r in omega (arith, u, l)
+    none_short (suc m) r u short =
+        let next = holder r short in
+        let later = next.later in
+        none_short m next.resource (omega (arith, u, later)) next.lent
+
+    -- so there is no live arm
+    none_live : (p : ℕ) (process : SourceProcess) (root : Arm) → slice_get s.processes p ≡ Some process
+        → process.run ≡ Some root → is_ended root ≡ false → ⊥
+    none_live p process root at runs live =
+        let tree = k.trees p process root at runs in
+        let short =
+        arm_short (cash b) order (capital b) 1 tree.0 [] root (tree_stuck p process root at runs) live tree.1 in
+        none_short (suc (length order)) short.resource (omega arith) short.lent
+
+    pub all_over : IsFinished source_over s
+    all_over p process at = go process.run refl
+      where
+        go : (o : Option Arm) → process.run ≡ o → source_over process
+        go None runs = inl runs
+        go (Some (Doing items)) runs = absurd (none_live p process (Doing items) at runs refl)
+        go (Some (Waiting line first arms rest)) runs =
+            absurd (none_live p process (Waiting line first arms rest) at runs refl)
+        go (Some Ended) runs = inr runs
+
+pub orders_prevent : OrdersPreventDeadlocks
+orders_prevent tree program claims order h are fit follows picks events s makes deadlock =
+    let bank = source_bank_by ByCash program claims in
+    let each : (p : ℕ) (process : Process) → slice_get program.processes p ≡ Some process
+    → IsWellNumbered process × EachHold (IsOrdered order (λ r. slice_index bank.capital r)) [] process.body =
+    λ p process at. (
+      (zip_at (ResolvesProcess (resource_names program)) tree.processes program.processes p process h.processes at).2.numbered,
+      ordered order (λ r. slice_index bank.capital r) [] process.body
+          (subst (λ (x : Process). EachHold (ComesLater order) [] x.body)
+          (get_or_from_slice_get program.processes p process process at)
+          (follows p process (slice_get_within program.processes p process at)))
+          (most_held tree program claims h are fit p process at),
+    ) in
+    let k = kept (IsOrdered order (λ r. slice_index bank.capital r)) bank program.processes picks events s each makes in
+    deadlock.0 (all_over bank refl order s k deadlock.1)
