@@ -24,3 +24,8 @@ memory_object = line (codes "{\"kind\":\"memory\"}")
 abbrev pub SaysInJson : (bytes : List ℕ) (given : Status) (old new : Option (List ℕ)) → Status → Type 0
 SaysInJson bytes given old new answered =
     ((given ≢ Device) × Says old new (json_lines bytes) given answered) ⊎ Says old new memory_object Memory answered
+
+-- the same, or a read failed: then nothing is written
+abbrev pub TellsInJson : (bytes : List ℕ) (given : Status) (old new : Option (List ℕ)) → Status → Type 0
+TellsInJson bytes given old new answered =
+    SaysInJson bytes given old new answered ⊎ ((given ≡ Device) × (new ≡ old) × (answered ≡ Device))
