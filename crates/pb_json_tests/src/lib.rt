@@ -1,0 +1,7 @@
+//! Tests of JSON lines, by public calls. The texts are those that commands write, and the lines are written by hand.
+#![tactic(auto)]
+
+#[cfg(test)]
+mod lines;
+#[cfg(test)]
+mod replies;
