@@ -127,12 +127,13 @@ pub record Followed (bank : Bank) (program : List Process) (cs : State CodeProce
   pub makes : Makes bank (code_step (generated program)) cs code_picks events last
   pub alike : StatesAlike program last end
   pub short : length code_picks ≤ length picks * (longest (generated program) + 1)
+  pub long : length picks ≤ length code_picks
 
 pub followed : (bank : Bank) (program : List Process) (cs : State CodeProcess) (ss : State SourceProcess)
     (picks : List Pick) (events : List Event) (end : State SourceProcess) → StatesAlike program cs ss
     → Makes bank source_step ss picks events end → Followed bank program cs picks events end
 followed bank program cs ss [] events end h m =
-    record { code_picks = []; last = cs; makes = (m.0, refl); alike = subst (StatesAlike program cs) (sym m.1) h; short = omega arith }
+    record { code_picks = []; last = cs; makes = (m.0, refl); alike = subst (StatesAlike program cs) (sym m.1) h; short = omega arith; long = omega arith }
 followed bank program cs ss (pick ∷ picks) events end h m =
     go (chain_at program ss pick m.0 m.1 cs (at_process program cs.processes ss.processes h.processes pick.process))
     (λ cs' alike. followed bank program cs' m.0.next picks m.3 end alike m.5)
@@ -154,6 +155,7 @@ followed bank program cs ss (pick ∷ picks) events end h m =
               l.0 es r.last) (sym m.4) l.2;
           alike = r.alike;
           short = omega arith;
+          long = (let more : length picks ≤ length r.code_picks = r.long in omega (arith, n, more));
         }
 
 -- what the source can do in n picks, the code can do in n times its length plus one

@@ -8,12 +8,13 @@ use Rattle.pb_base.specs.Steppers.{Effect}
 use Rattle.pb_names.specs.Program.{Expr, Number, Variable, Unary, Binary}
 use Rattle.pb_names.specs.Source.{Item, Arm, Doing, Waiting, Ended, find, step_arm, settle, step_run}
 use Rattle.pb_names.specs.Source.{SourceProcess}
-use Rattle.pb_code.specs.Code.{Instr, Push, Store, Jump, JumpIfZero, PrintTop, Take, Give, End, Live}
-use Rattle.pb_code.specs.Code.{CodeProcess, thread}
+use Rattle.pb_code.specs.Code.{Instr, Push, Store, Jump, JumpIfZero, PrintTop, Take, Give, End, Idle, Live}
+use Rattle.pb_code.specs.Code.{CodeProcess, Thread, thread}
 use Rattle.pb_generator.specs.Generate.{expr_code}
 use Rattle.pb_codegen.proofs.SimulationExpressions.{Left, unpushed, pushed, unloaded, under, on_left, on_right}
 use Rattle.pb_names.specs.HeadLines.{first_line}
 use Rattle.pb_names.proofs.ArmNumbers.{Mine}
+use Rattle.pb_verifier.proofs.Threads.{thread_past}
 use Rattle.pb_codegen.proofs.SimulationListings.{Listing}
 use Rattle.pb_code.proofs.Chains.{after_skip, Stops, Skips, Chain}
 use Rattle.pb_codegen.proofs.SimulationArms.{Has, Reaches, ItemAt, assign, print, choice, loop, hold, give}
@@ -103,17 +104,44 @@ module _ (code : Listing) (cp : CodeProcess) (a : ℕ) where
       → (k : ℕ) × Chain code.code cp a k
   from_pause p s live c = (c.0, (p, s, c.1, live, c.2, c.3))
 
+  live_found : (p : ℕ) (s : List ℤ) (found : Arm) (low high : ℕ) → thread cp.threads a ≡ Live p s
+      → Shows code cp.threads a low high found → (k : ℕ) × Chain code.code cp a k
+  live_found p s (Doing items) low high live h = from_pause h.0 h.1 h.2 (jumps_pause code (first_line
+      items) h.3.jumps h.0 h.3.first h.3.reaches (at_pause code items h.3.first h.1 h.3.stands))
+  live_found p s (Waiting line first arms rest) low high live h = from_pause h.0 [] h.1 (stop_at code h.0 _ h.2 refl)
+  live_found p s Ended low high live h = let w : Thread.Ended ≡ Live p s = sym h.0 ∙ live in cc
+
   found_chain : (vars : List ℤ) (root found : Arm) (low high : ℕ) (r : SourceProcess × Effect)
       → find a 0 root ≡ Some found → step_run vars a root ≡ Some r → Shows code cp.threads a low high found
       → (k : ℕ) × Chain code.code cp a k
-  found_chain vars root (Doing items) low high r f steps h = from_pause h.0 h.1 h.2 (jumps_pause code (first_line
-      items) h.3.jumps h.0 h.3.first h.3.reaches (at_pause code items h.3.first h.1 h.3.stands))
+  found_chain vars root (Doing items) low high r f steps h = live_found h.0 h.1 (Doing items) low high h.2 h
   found_chain vars root (Waiting line first arms rest) low high r f steps h =
-      from_pause h.0 [] h.1 (stop_at code h.0 _ h.2 refl)
+      live_found h.0 [] (Waiting line first arms rest) low high h.1 h
   found_chain vars root Ended low high r f steps h =
       let none : step_run vars a root ≡ None =
       ap (option_and_then (λ arm. option_map (settle vars root a) (step_arm vars arm))) f in
       let w : None ≡ Some r = sym none ∙ steps in cc
+
+  live_run : (p : ℕ) (s : List ℤ) (run : Option Arm) → thread cp.threads a ≡ Live p s
+      → RunAlike code cp.threads cp.faulted run → (k : ℕ) × Chain code.code cp a k
+  live_run p s None live h = let w : Idle ≡ Live p s = sym (h.1 a) ∙ live in cc
+  live_run p s (Some root) live h = go (cases_lt a (length cp.threads))
+    where
+      mine : a < length cp.threads → (0 < a) ⊎ (a ≤ 0) → Mine 0 1 (length cp.threads) a
+      mine u (inl q) = inr (omega arith)
+      mine u (inr q) = inl (omega arith)
+
+      go : (a < length cp.threads) ⊎ (length cp.threads ≤ a) → (k : ℕ) × Chain code.code cp a k
+      go (inl u) =
+          ⊎_elim (λ l. live_found p s l.found l.low l.high live l.shows)
+          (λ none. let w : Idle ≡ Live p s = sym none.1 ∙ live in cc)
+          (locate code cp.threads 0 1 (length cp.threads) root a h.2 (omega arith) (mine u (cases_lt 0 a)))
+      go (inr u) = let w : Idle ≡ Live p s = sym (thread_past cp.threads a u) ∙ live in cc
+
+  -- a live arm skips some number of times, and then no more
+  pub live_chain : (p : ℕ) (s : List ℤ) (sp : SourceProcess) → Alike code cp sp → thread cp.threads a ≡ Live p s
+      → (k : ℕ) × Chain code.code cp a k
+  live_chain p s sp h live = live_run p s sp.run live h.run
 
   pub nowhere : (vars : List ℤ) (root : Arm) (r : SourceProcess × Effect) → find a 0 root ≡ None
       → step_run vars a root ≡ Some r → ⊥
