@@ -84,7 +84,7 @@ pub data PicksAlike (program : List Process) (cs : State CodeProcess) (ss : Stat
       → StatesAlike program cs' ss' → PicksAlike program cs ss pick
 
 module _ (program : List Process) (cs : State CodeProcess) (ss : State SourceProcess) (pick : Pick) (h : StatesAlike program cs ss) where
-  pick_code_move : (code : ProcessCode) (cp : CodeProcess) (r : Option (CodeProcess × Effect))
+  pub pick_code_move : (code : ProcessCode) (cp : CodeProcess) (r : Option (CodeProcess × Effect))
       → slice_get (generated program) pick.process ≡ Some code → slice_get cs.processes pick.process ≡ Some cp
       → step_process code cp pick.arm ≡ r
       → move_of (code_step (generated program)) cs pick ≡ option_map (moved cs pick) r
