@@ -3,6 +3,7 @@
 mod calls;
 mod first_examples;
 mod forged_objects;
+mod grading;
 mod lesson_1;
 mod lesson_2;
 mod lesson_3;

@@ -8,7 +8,7 @@ use Rattle.pb_lexer.specs.Cutting.{Cuts}
 use Rattle.pb_lexer.specs.Tokens.{Token}
 use Rattle.pb_base.specs.Lines.{line}
 use Rattle.pb_command_io.specs.Parts.{AreTwoParts, IsMark, IsMarkAt}
-use Rattle.pb_engines.specs.Records.{IsEnded}
+use Rattle.pb_accept.specs.RunTexts.{IsEnded}
 use Rattle.pb_engines.proofs.EndedTexts.{PercentLine, ended_is_cut, no_percent_line}
 
 -- ---- what begins at a mark

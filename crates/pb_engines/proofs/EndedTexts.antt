@@ -18,7 +18,7 @@ use Rattle.pb_lexer.specs.Cutting.{nothing, token}
 use Rattle.pb_lexer.specs.Forms.{Form, is_allowed, is_blank}
 use Rattle.pb_lexer.specs.Tokens.{Lexeme, Token}
 use Rattle.pb_base.specs.Lines.{line}
-use Rattle.pb_engines.specs.Records.{IsEnded}
+use Rattle.pb_accept.specs.RunTexts.{IsEnded}
 
 -- ---- no line begins with a percent sign
 

@@ -17,9 +17,10 @@ use Rattle.pb_verifier.specs.Verified.{VerifiedCode, IsAnnotated, IsVerified}
 use Rattle.pb_verifier.specs.declared.fault.VerifyFault.TheVariants.{OutOfLimits}
 use Rattle.pb_workers.specs.declared.fault.RunFault.{RunFault}
 use Rattle.pb_workers.specs.declared.fault.RunFault.TheVariants.{NoMemory as OutOfMemory}
-use Rattle.pb_engines.specs.Records.{IsEnded, IsRecordedWith, SaysOfRecording, no_threads, recorded_status, too_long}
+use Rattle.pb_accept.specs.RunTexts.{IsEnded, with_picks}
+use Rattle.pb_engines.specs.Records.{IsRecordedWith, SaysOfRecording, no_threads, recorded_status, too_long}
 use Rattle.pb_record.specs.Recorded.{IsRecorded, IsTooLong}
-use Rattle.pb_engines.specs.Records.{with_picks, written}
+use Rattle.pb_engines.specs.Records.{written}
 use Rattle.pb_command_io.specs.declared.reply.Reply.{Reply}
 use Rattle.pb_command_io.specs.declared.status.Status.{Status}
 use Rattle.pb_command_io.specs.declared.status.Status.TheVariants.{Done, Refused, Threads}

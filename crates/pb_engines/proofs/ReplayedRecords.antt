@@ -28,9 +28,10 @@ use Rattle.pb_verifier.specs.Verified.{IsAnnotated}
 use Rattle.pb_verifier.specs.declared.fault.VerifyFault.TheVariants.{OutOfLimits}
 use Rattle.pb_engines.specs.RecordLaws.{HoldsRun, IsOfRun, RecordsCanBeReplayed}
 use Rattle.pb_command_io.specs.Parts.{AreTwoParts}
-use Rattle.pb_engines.specs.Records.{EndsLine, IsEnded, IsRecordedWith, SaysOfRecord, SaysOfRecording, accepted}
+use Rattle.pb_accept.specs.RunTexts.{EndsLine, IsEnded, with_picks}
+use Rattle.pb_engines.specs.Records.{IsRecordedWith, SaysOfRecord, SaysOfRecording, accepted}
 use Rattle.pb_record.specs.Recorded.{IsRecorded}
-use Rattle.pb_engines.specs.Records.{no_threads, recorded_status, refused, too_long, with_picks, written}
+use Rattle.pb_engines.specs.Records.{no_threads, recorded_status, refused, too_long, written}
 use Rattle.pb_accept.specs.Refusals.{RefusesWith, refused as by_line}
 use Rattle.pb_accept.specs.ReplayLines.{AreReplayedBy, IsEnding, IsEndStatus, IsLinesFaultBy, IsStatusAt, SaysOfEvents, SaysOfReplay, all_told}
 use Rattle.pb_accept.specs.ReplayLines.{lines_line, made_again, no_fault, no_picks, no_text, out_of_memory, picks_line}

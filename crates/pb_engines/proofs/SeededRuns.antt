@@ -23,7 +23,8 @@ use Rattle.pb_record.specs.Draws.{struck}
 use Rattle.pb_accept.specs.ReplayLines.{IsEnding}
 use Rattle.pb_command_io.specs.declared.status.Status.{Status}
 use Rattle.pb_engines.specs.RecordLaws.{SeedsWriteOneRecord}
-use Rattle.pb_engines.specs.Records.{IsEnded, IsRecordedWith, recorded_status, with_picks}
+use Rattle.pb_accept.specs.RunTexts.{IsEnded, with_picks}
+use Rattle.pb_engines.specs.Records.{IsRecordedWith, recorded_status}
 use Rattle.pb_record.specs.Recorded.{IsRecorded}
 use Rattle.pb_picks.proofs.CountedOnce.{counted_once}
 use Rattle.pb_record.proofs.GrantLemmas.{IsEnabled}

@@ -9,7 +9,8 @@ use Rattle.pb_codegen.specs.Compiled.{IsCompiled}
 use Rattle.pb_history.specs.declared.counted.CountedPick.{CountedPick}
 use Rattle.pb_picks.specs.PickLines.{SpellsPicks}
 use Rattle.pb_command_io.specs.Parts.{AreTwoParts}
-use Rattle.pb_engines.specs.Records.{EndsLine, IsEnded, SaysOfRecord}
+use Rattle.pb_accept.specs.RunTexts.{EndsLine, IsEnded}
+use Rattle.pb_engines.specs.Records.{SaysOfRecord}
 use Rattle.pb_record.specs.Recorded.{IsRecorded}
 use Rattle.pb_accept.specs.ReplayLines.{SaysOfReplay}
 use Rattle.pb_command_io.specs.declared.status.Status.{Status}

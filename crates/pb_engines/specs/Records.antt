@@ -1,34 +1,21 @@
 -- What `record` says of an input, and with which status.
-use Rattle.std.specs.Prelude.{◌≡◌, ◌<◌, ◌≤◌, ◌⊎◌, ◌++◌, ◌-◌, ℕ, List, Option, Some, None, codes, length}
-use Rattle.std.specs.Prelude.{slice_get}
+use Rattle.std.specs.Prelude.{◌≡◌, ◌<◌, ◌≤◌, ℕ, List, Option, None, codes, length}
 use Rattle.pb_base.specs.declared.lending.Lending.{Lending}
 use Rattle.pb_base.specs.declared.limits.TheConstants.{MAX_INPUT}
-use Rattle.pb_base.specs.Lines.{NameTable, line}
+use Rattle.pb_base.specs.Lines.{line}
 use Rattle.pb_base.specs.Steppers.{State}
 use Rattle.pb_code.specs.Code.{CodeProcess}
 use Rattle.pb_code.specs.Whole.{Code, ProcessLabels}
 use Rattle.pb_codegen.specs.Compiled.{IsCompiled}
 use Rattle.pb_history.specs.declared.counted.CountedPick.{CountedPick}
-use Rattle.pb_picks.specs.PickLines.{pick_lines}
 use Rattle.pb_record.specs.Recorded.{IsRecorded}
 use Rattle.pb_accept.specs.Refusals.{SaysOfRefusedText}
 use Rattle.pb_accept.specs.ReplayLines.{IsEnding}
+use Rattle.pb_accept.specs.RunTexts.{IsEnded, with_picks}
 use Rattle.pb_accept.specs.declared.ending.Ending.{Ending}
 use Rattle.pb_accept.specs.declared.ending.Ending.TheVariants.{Over, Stuck, Open}
 use Rattle.pb_command_io.specs.declared.status.Status.{Status}
 use Rattle.pb_command_io.specs.declared.status.Status.TheVariants.{Deadlock, Done, Refused, Threads}
-
--- the last byte of the text is a line feed
-abbrev pub EndsLine : List ℕ → Type 0
-EndsLine text = slice_get text (length text - 1) ≡ Some 10
-
--- the text, with a line feed behind it if it ends in none
-abbrev pub IsEnded : (text ended : List ℕ) → Type 0
-IsEnded text ended = (EndsLine text × (ended ≡ text)) ⊎ ((¬ EndsLine text) × (ended ≡ line text))
-
--- a text, a line of two percent signs, and the lines of picks
-abbrev pub with_picks : List ℕ → NameTable → List CountedPick → List ℕ
-with_picks text names picks = text ++ (line (codes "%%") ++ pick_lines names.processes picks)
 
 -- the status of a run that is written, by how its picks end: that of a deadlock, if they end in one
 abbrev pub recorded_status : Ending → Status

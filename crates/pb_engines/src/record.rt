@@ -1,24 +1,24 @@
 //! The command `record`, over any input and output.
-ghost use Rattle.std.specs.Prelude.{◌≡◌, ◌≢◌, ◌↔◌, ◌≤◌, IfErr, IfOk, IfSome, IsTrue, MatchOption, None, Some, codes, length};
+ghost use Rattle.std.specs.Prelude.{◌≡◌, ◌≢◌, ◌≤◌, IfErr, IfOk, IfSome, MatchOption, None, Some, codes, length};
 ghost use Rattle.pb_base.specs.Lines.{line};
 ghost use Rattle.pb_base.specs.declared.lending.Lending.TheVariants.{ByBanker};
 ghost use Rattle.pb_command_io.specs.Answers.{Tells};
 ghost use Rattle.pb_command_io.specs.Faults.{TellsFaults, TellsWriteFaults};
 ghost use Rattle.pb_command_io.specs.Inputs.{SaysOfInput};
-ghost use Rattle.pb_engines.specs.Records.{EndsLine, IsEnded, IsRecordedWith, SaysOfRecord, SaysOfRecording, recorded_status};
+ghost use Rattle.pb_engines.specs.Records.{IsRecordedWith, SaysOfRecord, SaysOfRecording, recorded_status};
 ghost use Rattle.pb_options.specs.Lends.{lending_for};
 ghost use Rattle.pb_record.specs.Recorded.{IsTooLong};
-ghost use Rattle.pb_command_io.specs.declared.status.Status.TheVariants.{Refused};
 ghost use Rattle.pb_verifier.specs.Verified.{IsVerified};
 
 use pb_accept::accept::{compile_text, refuse};
 use pb_accept::ending::{Ending, ending_of};
+use pb_accept::run_text::{ended, too_long};
 use pb_base::device::{Input, Output};
 use pb_base::limits::{MAX_INPUT, MAX_PICKS};
 use pb_base::{Lending, NoMemory};
 use pb_command_io::Status;
 use pb_command_io::input::read_input;
-use pb_command_io::reply::{Reply, refused, tell};
+use pb_command_io::reply::{Reply, tell};
 use pb_history::CountedPick;
 use pb_options::{RecordOptions, RunOptions};
 use pb_picks::write_picks;
@@ -117,36 +117,6 @@ fn recording<R: Threads + Wait + Sync>(
         text: whole,
         status: recorded.status,
     })
-}
-
-/// Returns the reply that a run is too long.
-pub fn too_long(alloc: Global) -> Result<Reply, NoMemory>
-    ensures { IfOk result (λ r.
-        (r.text.items ≡ line (codes "refused output")) × (r.status ≡ Refused)) }
-{
-    let line = Vec::from_slice(alloc, b"refused output")?;
-    refused(line)
-}
-
-/// Returns the text, with a line feed behind it if it ends in none.
-pub fn ended(alloc: Global, text: &[u8]) -> Result<Vec<u8>, NoMemory>
-    ensures { IfOk result (λ whole. IsEnded text.now whole.items) }
-{
-    let mut whole = Vec::from_slice(alloc, text)?;
-    if !ends_line(text) {
-        whole.push(b'\n')?;
-    }
-    Ok(whole)
-}
-
-// Returns whether the text ends in a line feed.
-fn ends_line(text: &[u8]) -> bool
-    ensures { IsTrue result ↔ EndsLine text.now }
-{
-    match text.last() {
-        Some(last) => *last == b'\n',
-        None => false,
-    }
 }
 
 // Returns the picks of a run of the code, with their status: drawn ones if there is a seed, else those that workers

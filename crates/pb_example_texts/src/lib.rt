@@ -8,6 +8,7 @@ pub mod banker;
 pub mod claims;
 pub mod deadlock;
 pub mod first;
+pub mod grading;
 pub mod limits;
 pub mod objects;
 pub mod outcomes;

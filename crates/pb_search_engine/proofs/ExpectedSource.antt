@@ -1,5 +1,5 @@
 -- What is said of the runs of the code of a text is right of its program.
-use Rattle.std.proofs.Common.{◌≡◌, ◌↔◌, ◌⊎◌, inl, inr, ℕ, Bool, List, Some, sym, subst}
+use Rattle.std.proofs.Common.{◌≡◌, ◌↔◌, ◌⊎◌, inl, inr, ℕ, Bool, List, Some, refl, sym, subst}
 use Rattle.std.specs.Prelude.{slice_get}
 use Rattle.std.proofs.lemmas.Option.{get_or_from_slice_get, slice_get_within}
 use Rattle.pb_base.specs.declared.lending.Lending.{Lending}
@@ -10,16 +10,19 @@ use Rattle.pb_command_io.specs.declared.status.Status.TheVariants.{Done, Limit, 
 use Rattle.pb_names.specs.Program.{Program}
 use Rattle.pb_names.specs.Resolves.{resource_names}
 use Rattle.pb_search.specs.Deadlocks.{AreSomeDeadlocks, FoundDeadlock, IsFoundAt}
-use Rattle.pb_search.specs.Outcomes.{AreSomeOutcomes, Found, HasEndlessRun}
+use Rattle.pb_search.specs.Outcomes.{AreSomeOutcomes, Found}
+use Rattle.pb_search_stages.specs.Reaching.{outcome_of}
 use Rattle.pb_search_stages.specs.Traces.{Outcome, Trace, TraceEnds, trace_outcome}
 use Rattle.pb_search_stages.specs.declared.print.Print.{Print}
 use Rattle.pb_search_engine.specs.Expected.{IsWanted, printing}
-use Rattle.pb_search_engine.specs.ExpectedLaws.{AnswersAreRightOfPrograms, EndsOtherwise, HasDeadlock}
+use Rattle.pb_search_engine.specs.ExpectedLaws.{AnswersAreRightOfPrograms, DoesAsExpected, EndsOtherwise, HasDeadlock}
 use Rattle.pb_search_engine.specs.SaysExpected.{SaysOfRuns, as_expected, deadlock, endless, long, many, outcome}
 use Rattle.pb_search_engine.specs.SourceOutcomes.{IsPrintedByCodeBy, IsPrintedBySource}
+use Rattle.pb_search_engine.specs.SourceRuns.{HasRunsOf, IsDeadlockOfCode, SourceIsEndless, Stuck}
 use Rattle.pb_search_engine.proofs.ExpectedLaw.{answers_are_right}
 use Rattle.pb_search_engine.proofs.OutcomeLemmas.{each_at}
 use Rattle.pb_search_engine.proofs.PrintedOutcomes.{same_printed}
+use Rattle.pb_search_engine.proofs.SourceRunLemmas.{has_runs}
 
 -- an outcome that is found is one of the code
 found_by_code : (lending : Lending) (code : Code) (found : List Found) → AreSomeOutcomes (printing lending) code found → (at : ℕ) (f : Found)
@@ -31,28 +34,36 @@ found_by_code lending code found some at f there =
 
 -- a deadlock that is found is one of the code
 found_stuck : (lending : Lending) (code : Code) (deadlocks : List FoundDeadlock) → AreSomeDeadlocks (printing lending) code deadlocks
-    → (d : FoundDeadlock) → slice_get deadlocks 0 ≡ Some d → HasDeadlock lending code
+    → (d : FoundDeadlock) → slice_get deadlocks 0 ≡ Some d → (stuck : Stuck) × IsDeadlockOfCode (printing lending) code stuck
 found_stuck lending code deadlocks some d there =
     let one = subst (λ (g : FoundDeadlock). (s : Trace) × IsFoundAt (printing lending) code g s) (get_or_from_slice_get deadlocks 0 d d there)
     (each_at (printing lending) code deadlocks some.stuck some.each 0 d (slice_get_within deadlocks 0 d there)) in
-    (d.picks, one.0, one.1.0)
+    (record { processes = outcome_of one.0.state; loans = one.0.state.loans }, d.picks, one.0, one.1.0, refl)
 
 module _ (lending : Lending) (any_order : Bool) (wanted : List Print) (program : Program) (code : Code) (labels : List ProcessLabels) (states : ℕ)
-    (same : (outcome : Outcome) → IsPrintedByCodeBy lending code outcome ↔ IsPrintedBySource lending program code.claims outcome) where
-  all_wanted : (text : List ℕ) (status : Status) → SaysOfRuns lending any_order wanted code labels states text status → status ≡ Done
-      → (outcome : Outcome) → IsPrintedBySource lending program code.claims outcome → IsWanted any_order wanted outcome
-  all_wanted text status says done o printed =
+    (same : (outcome : Outcome) → IsPrintedByCodeBy lending code outcome ↔ IsPrintedBySource lending program code.claims outcome)
+    (runs : HasRunsOf program (printing lending) code) where
+  all_as_expected : (text : List ℕ) (status : Status) → SaysOfRuns lending any_order wanted code labels states text status → status ≡ Done
+      → DoesAsExpected lending any_order wanted program code
+  all_as_expected text status says done =
       let right = (answers_are_right lending any_order wanted code labels states text status says).0 done in
-      let by = (same o).1 printed in
-      subst (λ (x : Outcome). IsWanted any_order wanted x) (sym by.3) (right.ends by.0 by.1 by.2)
+      record {
+        ends = λ o printed.
+            let by = (same o).1 printed in
+            subst (λ (x : Outcome). IsWanted any_order wanted x) (sym by.3) (right.ends by.0 by.1 by.2);
+        no_deadlock = λ dead. let by = (runs.deadlocks dead.0).1 dead.1 in right.no_deadlock by.0 by.1 by.2;
+        all_end = runs.bounded right.all_end;
+      }
 
   not_all : (text : List ℕ) (status : Status) → SaysOfRuns lending any_order wanted code labels states text status → status ≡ Unexpected
-      → EndsOtherwise lending any_order wanted program code ⊎ HasDeadlock lending code ⊎ HasEndlessRun (printing lending) code
+      → EndsOtherwise lending any_order wanted program code ⊎ HasDeadlock lending program code ⊎ SourceIsEndless lending program code.claims
   not_all _ _ (as_expected all) is = absurd (let e : Done ≡ Unexpected = is in cc)
   not_all _ _ (outcome found some at first f there picks counted what told) is =
       inl (f.outcome, (same f.outcome).0 (found_by_code lending code found some at f there), first.other f there)
-  not_all _ _ (deadlock deadlocks some d there picks counted) is = inr (inl (found_stuck lending code deadlocks some d there))
-  not_all _ _ (endless run) is = inr (inr run)
+  not_all _ _ (deadlock deadlocks some d there picks counted) is =
+      let dead = found_stuck lending code deadlocks some d there in
+      inr (inl (dead.0, (runs.deadlocks dead.0).0 dead.1))
+  not_all _ _ (endless run) is = inr (inr (runs.endless run))
   not_all _ _ (many found some each excess) is = absurd (let e : Limit ≡ Unexpected = is in cc)
   not_all _ _ (long found some each run) is = absurd (let e : Limit ≡ Unexpected = is in cc)
 
@@ -66,8 +77,10 @@ right_of_programs text code labels is =
           let same : (o : Outcome) → IsPrintedByCodeBy lending code o ↔ IsPrintedBySource lending program code.claims o =
           λ o. subst (λ c. IsPrintedByCodeBy lending c o ↔ IsPrintedBySource lending program code.claims o) (sym is.generated)
           (same_printed lending program code.claims arms o) in
+          let runs : HasRunsOf program (printing lending) code =
+          subst (HasRunsOf program (printing lending)) (sym is.generated) (has_runs (printing lending) program code.claims arms) in
           record {
-            done = all_wanted lending any_order wanted program code labels states same said status says;
-            unexpected = not_all lending any_order wanted program code labels states same said status says;
+            done = all_as_expected lending any_order wanted program code labels states same runs said status says;
+            unexpected = not_all lending any_order wanted program code labels states same runs said status says;
           },
     )

@@ -8,5 +8,7 @@ pub mod OutcomeLemmas
 pub mod PrintedOutcomes
 pub mod PrintLemmas
 pub mod SourceLaw
+pub mod Skips
 pub mod SourceOutcomeLemmas
+pub mod SourceRunLemmas
 pub mod WantedLemmas

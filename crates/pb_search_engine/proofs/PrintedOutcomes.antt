@@ -6,7 +6,6 @@ use Rattle.pb_base.specs.declared.event.Event.{Event}
 use Rattle.pb_base.specs.declared.pick.Pick.{Pick}
 use Rattle.pb_base.specs.Steppers.{Bank, Effect, Silent, Prints, Takes, Returns, Faults, Finishes, IsGranted, Makes, State, Table, event_of, opening}
 use Rattle.pb_base.specs.declared.lending.Lending.{Lending}
-use Rattle.pb_base.specs.declared.lending.Lending.TheVariants.{ByBanker, ByCash}
 use Rattle.pb_code.specs.Code.{CodeProcess, code_process, code_step}
 use Rattle.pb_code.specs.Whole.{Code, bank_by, bank_of}
 use Rattle.pb_codegen.specs.Correct.{generated}
@@ -22,8 +21,8 @@ use Rattle.pb_search_stages.specs.Reaching.{IsLent}
 use Rattle.pb_search_stages.specs.Traces.{Configuration, Outcome, Trace, TraceLeads, prints_of, trace_opening}
 use Rattle.pb_search_stages.specs.declared.print.Print.{Print}
 use Rattle.pb_search_engine.specs.Expected.{printing}
-use Rattle.pb_search_engine.specs.SourceOutcomes.{IsPrintedByCode, IsPrintedByCodeBy, IsPrintedBySource, prints_in}
-use Rattle.pb_search_engine.proofs.SourceOutcomeLemmas.{code_finished, same_outcomes, source_finished}
+use Rattle.pb_search_engine.specs.SourceOutcomes.{IsPrintedByCodeBy, IsPrintedBySource, prints_in}
+use Rattle.pb_search_engine.proofs.SourceOutcomeLemmas.{code_finished, granted, lent, same_outcomes, source_finished}
 
 -- the event of an effect prints what the effect does
 prints_split : (pick : Pick) (effect : Effect) (later : List Event)
@@ -34,27 +33,6 @@ prints_split pick (Takes bundle) later = refl
 prints_split pick (Returns bundle) later = refl
 prints_split pick (Faults kind) later = refl
 prints_split pick Finishes later = refl
-
--- leave is the same in both words
-lent : (lending : Lending) (code : Code) (loans : Table) (p : ℕ) (effect : Effect) → IsGranted (bank_by lending code) loans p effect
-    → IsLent lending (bank_of code) loans p effect
-lent ByBanker code loans p effect leave = leave
-lent ByCash code loans p Silent leave = tt
-lent ByCash code loans p (Prints v) leave = tt
-lent ByCash code loans p (Takes bundle) leave = leave
-lent ByCash code loans p (Returns bundle) leave = tt
-lent ByCash code loans p (Faults kind) leave = tt
-lent ByCash code loans p Finishes leave = tt
-
-granted : (lending : Lending) (code : Code) (loans : Table) (p : ℕ) (effect : Effect) → IsLent lending (bank_of code) loans p effect
-    → IsGranted (bank_by lending code) loans p effect
-granted ByBanker code loans p effect leave = leave
-granted ByCash code loans p Silent leave = tt
-granted ByCash code loans p (Prints v) leave = tt
-granted ByCash code loans p (Takes bundle) leave = leave
-granted ByCash code loans p (Returns bundle) leave = tt
-granted ByCash code loans p (Faults kind) leave = tt
-granted ByCash code loans p Finishes leave = tt
 
 module _ (lending : Lending) (code : Code) where
   -- what picks print is what their events print
@@ -136,11 +114,11 @@ module _ (lending : Lending) (program : Program) (claims : Table) (numbered : Al
   pub same_printed : IsPrintedByCodeBy lending code outcome ↔ IsPrintedBySource lending program claims outcome
   same_printed = (to_program, to_code)
 
-pub listed_printed : (code : Code) (found : List Found) → AreOutcomes (printing ByBanker) code found → (outcome : Outcome)
-    → Contains (map (λ f. f.outcome) found) outcome ↔ IsPrintedByCode code outcome
-listed_printed code found are outcome = (
-  All-contains (IsPrintedByCode code) (map (λ f. f.outcome) found) outcome
-      (All-map (IsPrintedByCode code) (λ (f : Found). f.outcome) found
+pub listed_printed : (lending : Lending) (code : Code) (found : List Found) → AreOutcomes (printing lending) code found → (outcome : Outcome)
+    → Contains (map (λ f. f.outcome) found) outcome ↔ IsPrintedByCodeBy lending code outcome
+listed_printed lending code found are outcome = (
+  All-contains (IsPrintedByCodeBy lending code) (map (λ f. f.outcome) found) outcome
+      (All-map (IsPrintedByCodeBy lending code) (λ (f : Found). f.outcome) found
       (λ k d within. let e = are.some.each k d within in ((slice_index_or found k d).picks, e.0, e.1, e.2))),
   λ is. subst (Contains (map (λ f. f.outcome) found)) (sym is.3) (are.none_missing is.0 is.1 is.2),
 )

@@ -9,3 +9,4 @@ pub mod SaysOfOne
 pub mod SaysOutcomes
 pub mod Showing
 pub mod SourceOutcomes
+pub mod SourceRuns
