@@ -19,7 +19,7 @@ pub(crate) fn number_text(alloc: Global, number: u64, words: &[u8]) -> Result<Ve
     Ok(text)
 }
 
-// Puts the name with a number behind a text, if there is one.
+// Appends the name with a number to `text`, if there is one.
 fn put_name(text: &mut Vec<u8>, names: &[Vec<u8>], i: usize) -> Result<(), NoMemory>
     ensures { OnOk result (text.new.items ≡ text.old.items ++ name_of (map (λ name. name.items) names.now) i) }
 {
@@ -39,7 +39,7 @@ pub(crate) fn arm_text(alloc: Global, names: &Names, pick: Pick) -> Result<Vec<u
     Ok(text)
 }
 
-// Puts an amount and the name of its resource behind a text.
+// Appends an amount and the name of its resource to `text`.
 fn put_pair(text: &mut Vec<u8>, names: &Names, pair: Pair) -> Result<(), NoMemory>
     ensures { OnOk result (text.new.items ≡ text.old.items ++ pair_text (names_view names.now) pair) }
 {

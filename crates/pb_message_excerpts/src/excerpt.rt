@@ -39,7 +39,7 @@ fn show(alloc: Global, label: &[u8], text: &[u8], place: &Place) -> Result<Vec<u
     Ok(shown)
 }
 
-// Puts a place behind a text, as a message shows it.
+// Appends a place to `out`, as a message shows it.
 fn put_excerpt(out: &mut Vec<u8>, label: &[u8], text: &[u8], place: &Place) -> Result<(), NoMemory>
     requires { IsPlace text.now place.now.at place.now }
     ensures { OnOk result (out.new.items ≡ out.old.items ++ excerpt label.now text.now place.now) }
@@ -51,7 +51,7 @@ fn put_excerpt(out: &mut Vec<u8>, label: &[u8], text: &[u8], place: &Place) -> R
     Ok(())
 }
 
-// Puts the margin of a place behind a text.
+// Appends the margin of a place to `out`.
 fn put_margin(out: &mut Vec<u8>, place: &Place) -> Result<(), NoMemory>
     ensures { OnOk result (out.new.items ≡ out.old.items ++ margin_of place.now) }
 {
@@ -118,7 +118,7 @@ pub fn printable(alloc: Global, bytes: &[u8]) -> Result<Vec<u8>, NoMemory>
     Ok(shown)
 }
 
-// Puts bytes behind a text, as a message shows them.
+// Appends bytes to `out`, as a message shows them.
 fn put_printable(out: &mut Vec<u8>, bytes: &[u8]) -> Result<(), NoMemory>
     ensures { OnOk result (out.new.items ≡ out.old.items ++ map shown_byte bytes.now) }
 {
@@ -141,7 +141,7 @@ pub fn printable_byte(byte: u8) -> u8
     }
 }
 
-// Puts what is below bytes before a mark behind a text.
+// Appends to `out` what is below bytes before a mark.
 fn put_below(out: &mut Vec<u8>, bytes: &[u8]) -> Result<(), NoMemory>
     ensures { OnOk result (out.new.items ≡ out.old.items ++ map below_byte bytes.now) }
 {

@@ -212,7 +212,7 @@ fn phrases_behind(alloc: Global, text: &[u8]) -> Result<Phrases, NoMemory> {
     })
 }
 
-// Puts what may come behind the first part of a text behind the beginning of a line.
+// Appends to `line`, the beginning of a line, what may come behind the first part of a text.
 fn put_choices(
     alloc: Global,
     line: &mut String,
@@ -229,7 +229,7 @@ fn put_choices(
     Ok(())
 }
 
-// Puts what a probe tries behind a line that was `empty` bytes long, if it may come behind the first part of
+// Appends to `line`, a line that was `empty` bytes long, what a probe tries, if it may come behind the first part of
 // a text and is shown beside these phrases.
 fn put_probe(
     alloc: Global,
@@ -243,7 +243,7 @@ fn put_probe(
     put_choice(line, empty, is_one, probe.name)
 }
 
-// Puts one more choice behind a line that was `empty` bytes long, if it is one.
+// Appends one more choice to `line`, a line that was `empty` bytes long, if it is one.
 fn put_choice(line: &mut String, empty: usize, is_one: bool, choice: &str) -> Result<(), NoMemory> {
     if !is_one {
         return Ok(());

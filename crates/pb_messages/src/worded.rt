@@ -64,7 +64,7 @@ fn details(
     Ok(out)
 }
 
-// Puts the lines behind the place of a fault behind a message.
+// Appends to `out` the lines that follow the place of a fault.
 fn put_details(
     alloc: Global,
     out: &mut Vec<u8>,
@@ -93,7 +93,7 @@ fn first_place(cause: &Cause, wording: &Wording) -> usize {
     }
 }
 
-// Puts another place behind a message.
+// Appends another place to `out`.
 fn put_spot(
     alloc: Global,
     out: &mut Vec<u8>,
@@ -105,7 +105,7 @@ fn put_spot(
     put_place(alloc, out, &label, text, spot.at)
 }
 
-// Puts a place of a text behind a message, as `show_place` shows it.
+// Appends a place of a text to `out`, as `show_place` shows it.
 fn put_place(
     alloc: Global,
     out: &mut Vec<u8>,
@@ -123,7 +123,7 @@ fn decimal_width(alloc: Global, number: usize) -> Result<usize, NoMemory> {
     Ok(format!(in alloc; "{number}")?.len())
 }
 
-// Puts a note behind a message, behind a margin of this width and a space.
+// Appends a note to `out`, with a margin of this width and a space before it.
 fn put_note(out: &mut Vec<u8>, width: usize, note: &String) -> Result<(), NoMemory> {
     for _ in 0..width {
         out.push(b' ')?;
@@ -150,7 +150,7 @@ fn compose(
     Ok(text)
 }
 
-// Puts a message behind a text.
+// Appends a message to `text`.
 fn put_message(
     text: &mut Vec<u8>,
     code: &[u8],

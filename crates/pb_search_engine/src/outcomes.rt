@@ -25,20 +25,23 @@ use pb_search::{Extent, Until};
 use pb_search_stages::Mode;
 use std::alloc::Global;
 
-/// Writes every outcome of the text that the input holds, under the banker or with loans by the cash alone:
-/// how each process ended, its integers, and picks that lead there; then every deadlock, where each process
-/// is, its integers, what it holds and asks for, and picks that lead there; and at the end how many outcomes
-/// and deadlocks there are, and whether some run never ends. If more than `options.states` configurations are
-/// reached, or if more than 10,000,000 picks lead to an outcome, what was found by then is written, and the
-/// last line says that there may be others; the status is `Limit`, and else `Deadlock` if a deadlock was found. With `options.first_deadlock` the search ends at
-/// the first deadlock, which the last line says. With `options.prints` what was
-/// printed is shown too, behind a line `printed`, and outcomes and deadlocks with different prints are different ones. Of a text that is refused its refusal line
-/// is written. With `options.run` or `options.deadlock` the text is written with the picks that lead to the one with
-/// this number, as `replay` reads it, or that there is none. With `options.expect` the input is a text and print lines behind it, and it is written whether all
-/// runs of the text are as these lines say, as `tell_expected` does.
+/// Writes every outcome of the text that the input holds, under the banker or with loans by the cash alone: how
+/// each process ended, its integers, and picks that lead there; then every deadlock, where each process is, its
+/// integers, what it holds and asks for, and picks that lead there; and at the end how many outcomes and deadlocks
+/// there are, and whether some run never ends.
 ///
-/// After a read that failed nothing is written; after a write that failed, a first part of what was being
-/// said.
+/// If more than `options.states` configurations are reached, or if more than 10,000,000 picks lead to an outcome,
+/// what was found by then is written, and the last line says that there may be others; the status is `Limit`, and
+/// else `Deadlock` if a deadlock was found. With `options.first_deadlock` the search ends at the first deadlock,
+/// which the last line says. With `options.prints` what was printed is shown too, behind a line `printed`, and
+/// outcomes and deadlocks with different prints are different ones. Of a text that is refused its refusal line is
+/// written.
+///
+/// With `options.run` or `options.deadlock` the text is written with the picks that lead to the one with this
+/// number, as `replay` reads it, or that there is none. With `options.expect` the input is a text and print lines
+/// behind it, and it is written whether all runs of the text are as these lines say, as `tell_expected` does.
+///
+/// After a read that failed nothing is written; after a write that failed, a first part of what was being said.
 pub fn outcomes_engine<I: Input, O: Output>(
     alloc: Global,
     options: OutcomesOptions,
