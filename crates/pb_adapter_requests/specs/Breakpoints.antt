@@ -2,6 +2,7 @@
 use Rattle.std.specs.Prelude.{ℕ, zero, suc, nat_eq, nat_lt, cond, List, [], ◌∷◌, ◌++◌, length, slice_index_or, Bool, false, Option, Some, None, codes}
 use Rattle.std.specs.List.{list_any}
 use Rattle.serde_json.specs.Data.{Data, Items, no_items, item, null, boolean, number, object, unsigned, no_members, member}
+use Rattle.pb_base.specs.declared.limits.TheConstants.{MAX_LINE}
 use Rattle.pb_code.specs.Whole.{ProcessLabels}
 use Rattle.pb_adapter_requests.specs.Requests.{Asked, items_asked, number_in}
 use Rattle.pb_adapter_requests.specs.Responses.{list_below, listed}
@@ -9,7 +10,7 @@ use Rattle.pb_adapter_requests.specs.Responses.{list_below, listed}
 -- the line that a number says; 0, which is none, if there is no number or it is past all lines
 abbrev pub line_said : Option ℕ → ℕ
 line_said None = 0
-line_said (Some n) = cond (nat_lt n 65537) n 0
+line_said (Some n) = cond (nat_lt MAX_LINE n) 0 n
 
 abbrev pub line_in : Data → ℕ
 line_in d = line_said (number_in (codes "line") d)

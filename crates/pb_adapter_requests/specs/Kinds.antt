@@ -32,7 +32,7 @@ kind_of c =
     (cond (bytes_eq c (codes "launch")) kind.Launch
     (cond (bytes_eq c (codes "setBreakpoints")) kind.SetBreakpoints
     (cond (bytes_eq c (codes "setExceptionBreakpoints")) kind.Accept
-    (cond (bytes_eq c (codes "disconnect")) kind.Accept
+    (cond (bytes_eq c (codes "disconnect")) kind.Disconnect
     (cond (bytes_eq c (codes "configurationDone")) kind.ConfigurationDone
     (cond (bytes_eq c (codes "terminate")) kind.Terminate
     (shows_or c (move_or c kind.Unknown))))))))

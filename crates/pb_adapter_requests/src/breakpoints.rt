@@ -10,6 +10,7 @@ ghost use Rattle.pb_adapter_requests.specs.Responses.{listed};
 
 use crate::request::{Request, list_of, number_at};
 use pb_base::NoMemory;
+use pb_base::limits::MAX_LINE;
 use pb_code::{Labels, ProcessLabels};
 use serde_json::{Value, json};
 use std::alloc::{AllocError, Global};
@@ -19,7 +20,13 @@ fn line_in(value: &Value) -> u32
     ensures { result ≡ spec.line_in (view value.now) }
 {
     match number_at(value, "line") {
-        Some(line) => { if line < 65_537 { line as u32 } else { 0 } }
+        Some(line) => {
+            if line <= u64::from(MAX_LINE) {
+                line as u32
+            } else {
+                0
+            }
+        }
         None => 0,
     }
 }

@@ -17,6 +17,8 @@ pub enum Kind {
     ConfigurationDone,
     /// Nothing but that it is answered.
     Accept,
+    /// The end of the session.
+    Disconnect,
     /// The end of the run.
     Terminate,
     /// The arms.
@@ -102,8 +104,10 @@ pub fn kind_of(command: &str) -> Kind
         Kind::Launch
     } else if is(command, "setBreakpoints") {
         Kind::SetBreakpoints
-    } else if is(command, "setExceptionBreakpoints") || is(command, "disconnect") {
+    } else if is(command, "setExceptionBreakpoints") {
         Kind::Accept
+    } else if is(command, "disconnect") {
+        Kind::Disconnect
     } else if is(command, "configurationDone") {
         Kind::ConfigurationDone
     } else if is(command, "terminate") {

@@ -1,0 +1,5 @@
+//! Tests of the debug adapter: messages and requests.
+#![tactic(auto)]
+
+mod frames;
+mod requests;

@@ -1,0 +1,73 @@
+//! Requests of a client.
+
+use pb_adapter_requests::Kind;
+use pb_adapter_requests::breakpoints::asked_lines;
+use pb_adapter_requests::kind::kind_of;
+use pb_adapter_requests::request::{number_of, place_of, request_of, text_of};
+use serde_json::Value;
+
+#[test]
+fn commands_have_their_kinds(rt: HostRuntime) {
+    for (command, kind) in [
+        ("initialize", Kind::Initialize),
+        ("launch", Kind::Launch),
+        ("setBreakpoints", Kind::SetBreakpoints),
+        ("setExceptionBreakpoints", Kind::Accept),
+        ("configurationDone", Kind::ConfigurationDone),
+        ("disconnect", Kind::Disconnect),
+        ("terminate", Kind::Terminate),
+        ("threads", Kind::Threads),
+        ("stackTrace", Kind::StackTrace),
+        ("scopes", Kind::Scopes),
+        ("variables", Kind::Variables),
+        ("evaluate", Kind::Evaluate),
+        ("continue", Kind::Continue),
+        ("reverseContinue", Kind::ReverseContinue),
+        ("next", Kind::Step),
+        ("stepIn", Kind::Step),
+        ("stepOut", Kind::Step),
+        ("stepBack", Kind::StepBack),
+        ("restart", Kind::Restart),
+        ("pause", Kind::Pause),
+        ("stepback", Kind::Unknown),
+    ] {
+        assert!(rt; kind_of(command) == kind);
+    }
+}
+
+#[test]
+fn requests_are_read(rt: HostRuntime) {
+    let text =
+        "{\"seq\":4,\"command\":\"setBreakpoints\",\"arguments\":{\"threadId\":66,\"text\":\"t\",\"breakpoints\":[{\"line\":7},{\"line\":65537},{}]}}";
+    let Ok(message) = Value::from_str(rt.alloc(), text) else {
+        panic!(rt; "this is not read");
+    };
+    let Some(request) = request_of(&message) else {
+        panic!(rt; "this is no request");
+    };
+    assert!(rt; request.seq == 4);
+    assert!(rt; request.command == "setBreakpoints");
+    assert!(rt; text_of(request, "text") == Some("t"));
+    assert!(rt; text_of(request, "threadId").is_none());
+    let at = place_of(number_of(request, "threadId"));
+    assert!(rt; at.process == 1 && at.arm == 1);
+    let Ok(lines) = asked_lines(rt.alloc(), request) else {
+        panic!(rt; "out of memory");
+    };
+    assert!(rt; lines.as_slice() == [7, 0, 0].as_slice());
+}
+
+#[test]
+fn what_is_no_request_is_none(rt: HostRuntime) {
+    for text in [
+        "{\"command\":\"threads\"}",
+        "{\"seq\":1}",
+        "{\"seq\":-1,\"command\":\"threads\"}",
+        "[1]",
+    ] {
+        let Ok(message) = Value::from_str(rt.alloc(), text) else {
+            panic!(rt; "this is not read");
+        };
+        assert!(rt; request_of(&message).is_none());
+    }
+}

@@ -1,0 +1,12 @@
+//! What an adapter tells of a state: arms, frames, integers, loans and cash, as values of the protocol.
+#![tactic(auto)]
+
+pub mod arms;
+pub mod names;
+pub mod told;
+pub mod variables;
+
+pub use arms::{frame, frames_body, list_arms, threads_body};
+pub use names::{arm_name, name_at, thread_number};
+pub use told::{capabilities, result_body, stopped_body};
+pub use variables::{all_cash, integers, loans_at, scopes, variables_body};

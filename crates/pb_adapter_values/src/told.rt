@@ -1,0 +1,45 @@
+//! What is told of the adapter, of moves and of sessions.
+
+ghost use Rattle.std.specs.Prelude.{◌≡◌, IfOk};
+ghost use Rattle.serde_json.specs.View.{view};
+ghost use Rattle.pb_adapter_values.specs.Values as spec;
+ghost use Rattle.pb_adapter_values.specs.Values.{capabilities_data, result_data};
+
+use pb_base::NoMemory;
+use serde_json::{Value, json};
+use std::alloc::{AllocError, Global};
+
+/// Returns what the adapter can do.
+pub fn capabilities(alloc: Global) -> Result<Value, AllocError>
+    ensures { IfOk result (λ v. view v ≡ capabilities_data) }
+{
+    json!(in alloc; {
+        "supportsConfigurationDoneRequest": true,
+        "supportsRestartRequest": true,
+        "supportsStepBack": true,
+        "supportsTerminateRequest": true
+    })
+}
+
+/// Returns what the event that the run stands at a position says.
+pub fn stopped_body(
+    alloc: Global,
+    position: u32,
+    reason: &str,
+    thread: u64,
+) -> Result<Value, NoMemory>
+    ensures { IfOk result (λ v. view v ≡ spec.body_at position reason.now thread) }
+{
+    let shown = format!(in alloc; "position {position}")?;
+    Ok(
+        json!(in alloc; {"reason": reason, "description": shown, "threadId": thread, "allThreadsStopped": true})?,
+    )
+}
+
+/// Returns the text that a session answered.
+pub fn result_body(alloc: Global, text: &[u8]) -> Result<Value, NoMemory>
+    ensures { IfOk result (λ v. view v ≡ result_data text.now) }
+{
+    let shown = String::from_utf8_lossy(alloc, text)?;
+    Ok(json!(in alloc; {"result": shown, "variablesReference": 0u64})?)
+}

@@ -1,0 +1,198 @@
+-- A conversation, message by message.
+use Rattle.std.proofs.Common.{◌≡◌, ◌≢◌, ◌⊎◌, ◌<◌, ℕ, ◌+◌, List, [], ◌∷◌, ◌++◌, length, Bool, true, false, Option, Some, None, IfSome, refl, sym, ap, ◌∙◌}
+use Rattle.std.proofs.Common.{subst, inl, inr, arith, append-nil, append_assoc, length-append}
+use Rattle.std.proofs.lemmas.List.Concat.{flat_map-append}
+use Rattle.serde_json.specs.Data.{Data}
+use Rattle.pb_base.specs.Device.{appended, AddsPrefix}
+use Rattle.pb_base.proofs.DeviceLemmas.{appended-appended}
+use Rattle.pb_adapter_requests.specs.Requests.{Asked}
+use Rattle.pb_frames.specs.Frames.{IsFrame, IsFrameFault, IsRead}
+use Rattle.pb_frames.specs.declared.fault.FrameFault.{FrameFault}
+use Rattle.pb_frames.specs.declared.fault.FrameFault.TheVariants as frame
+use Rattle.pb_conversations.specs.declared.conversation.Stop.{Stop}
+use Rattle.pb_conversations.specs.declared.conversation.Stop.TheVariants as stop
+use Rattle.pb_conversations.specs.Conversations.{message_text, texts, broken_data, AnswersContent, AreFrames, none_read, one_read}
+use Rattle.pb_conversations.specs.Conversations.{Conversation, none_answered, one_answered, Talks, TalksOut, TalksSome}
+use Rattle.pb_conversations.specs.Conversations.{IsBroken, WritesBefore, WritesBroken, WritesReply}
+
+none_appended : (old : Option (List ℕ)) → old ≡ appended old []
+none_appended None = refl
+none_appended (Some held) = ap Some (sym (append-nil held))
+
+-- what is said of an input that is known
+known : (o : Option (List ℕ)) (bytes : List ℕ) (P : List ℕ → Type 0) → o ≡ Some bytes → IfSome o P → P bytes
+known o bytes P is says = subst (λ (o : Option (List ℕ)). IfSome o P) is says
+
+-- what is said of the bytes of an input, if they are known
+pub if_known : (o : Option (List ℕ)) (P : List ℕ → Type 0) → ((bytes : List ℕ) → o ≡ Some bytes → P bytes) → IfSome o P
+if_known None P each = tt
+if_known (Some bytes) P each = each bytes refl
+
+-- texts behind others
+texts_more : (messages told : List Data) (old mid new : Option (List ℕ)) → mid ≡ appended old (texts messages)
+    → new ≡ appended mid (texts told) → new ≡ appended old (texts (messages ++ told))
+texts_more messages told old mid new first wrote =
+    wrote
+    ∙ (ap (λ o. appended o (texts told)) first
+    ∙ (appended-appended old (texts messages) (texts told)
+    ∙ ap (λ (t : List ℕ). appended old t) (sym (flat_map-append message_text messages told))))
+
+-- a first part of what comes behind a text
+prefix_behind : (old mid new : Option (List ℕ)) (one more : List ℕ) → mid ≡ appended old one → AddsPrefix mid new more
+    → AddsPrefix old new (one ++ more)
+prefix_behind old mid new one more first (done, left, is, wrote) = (
+  one ++ done,
+  left,
+  ap (λ (t : List ℕ). one ++ t) is ∙ sym (append_assoc one done left),
+  wrote ∙ (ap (λ o. appended o done) first ∙ appended-appended old one done),
+)
+
+-- a text whole is a first part of it and more
+prefix_whole : (old new : Option (List ℕ)) (one more : List ℕ) → new ≡ appended old one → AddsPrefix old new (one ++ more)
+prefix_whole old new one more wrote = (one, more, refl, wrote)
+
+module _ {S : Type 0} (Answers : S → ℕ → Asked → List Data → S → Type 0) (over : S → Bool) (s : S) (first : ℕ) where
+  -- the first messages are answered, and the next that is written is numbered so
+  pub record SaysSoFar (bytes : List ℕ) (seq : ℕ) (left old new : Option (List ℕ)) (here : S) : Type 0 where
+    pub rest : List ℕ
+    pub messages : List Data
+    pub talks : Talks Answers over s first bytes rest messages here
+    pub coming : left ≡ Some rest
+    pub numbered : seq ≡ first + length messages
+    pub written : new ≡ appended old (texts messages)
+
+  pub so_far_nothing : (bytes : List ℕ) (left old : Option (List ℕ)) → left ≡ Some bytes → SaysSoFar bytes first left old old s
+  so_far_nothing bytes left old is = record {
+    rest = bytes;
+    messages = [];
+    talks = record { contents = []; frames = none_read; conversation = none_answered };
+    coming = is;
+    numbered = omega arith;
+    written = none_appended old;
+  }
+
+  module _ (bytes : List ℕ) (seq : ℕ) (left old mid : Option (List ℕ)) (here : S) (far : SaysSoFar bytes seq left old mid here) where
+    -- all is answered
+    pub so_far_all : ((over here ≡ true) ⊎ (4294967295 < seq)) → TalksOut Answers over s first bytes left old mid here seq
+    so_far_all whole = record {
+      rest = far.rest;
+      messages = far.messages;
+      talks = far.talks;
+      whole = inr (far.coming, whole);
+      numbered = far.numbered;
+      written = far.written;
+    }
+
+    -- the input is at its end
+    pub so_far_end : (left' : Option (List ℕ)) → IfSome left (λ bs. IsRead bs None left') → over here ≡ false
+        → TalksOut Answers over s first bytes left' old mid here seq
+    so_far_end left' end on = record {
+      rest = far.rest;
+      messages = far.messages;
+      talks = far.talks;
+      whole = inl (known left far.rest (λ bs. bs ≡ []) far.coming end, on);
+      numbered = far.numbered;
+      written = far.written;
+    }
+
+    -- out of memory
+    pub so_far_memory : TalksSome Answers over s first bytes old mid stop.Memory
+    so_far_memory = record {
+      rest = far.rest;
+      messages = far.messages;
+      after = here;
+      talks = far.talks;
+      written = far.written;
+    }
+
+    -- no further message was read
+    pub so_far_unread : (fault : FrameFault) (why : Stop) (new : Option (List ℕ)) → IfSome left (IsFrameFault fault)
+        → WritesBroken why fault seq mid new → TalksSome Answers over s first bytes old new why
+    so_far_unread fault stop.Broken new is (of, wrote) = record {
+      rest = far.rest;
+      messages = far.messages;
+      after = here;
+      talks = far.talks;
+      written = record {
+        fault = fault;
+        of_bytes = of;
+        is = known left far.rest (IsFrameFault fault) far.coming is;
+        written =
+            wrote
+            ∙ (ap (λ o. appended o (message_text (broken_data seq fault))) far.written
+            ∙ (appended-appended old (texts far.messages) (message_text (broken_data seq fault))
+            ∙ ap (λ (n : ℕ). appended old (texts far.messages ++ message_text (broken_data n fault))) far.numbered));
+      };
+    }
+    so_far_unread fault stop.Memory new is wrote = record {
+      rest = far.rest;
+      messages = far.messages;
+      after = here;
+      talks = far.talks;
+      written = wrote ∙ far.written;
+    }
+    so_far_unread fault stop.Device new is wrote = record {
+      rest = far.rest;
+      messages = far.messages;
+      after = here;
+      talks = far.talks;
+      written = (
+        fault,
+        subst (λ (n : ℕ). AddsPrefix old new (texts far.messages ++ message_text (broken_data n fault))) far.numbered
+            (prefix_behind old mid new (texts far.messages) (message_text (broken_data seq fault)) far.written wrote),
+      );
+    }
+
+    module _ (content : List ℕ) (left' new : Option (List ℕ)) (told : List Data) (after : S)
+        (read : IfSome left (λ bs. IsRead bs (Some content) left')) (on : over here ≡ false)
+        (answer : AnswersContent Answers here seq content told after) where
+      behind : (rest : List ℕ) × IsFrame far.rest content rest × (left' ≡ Some rest)
+      behind = known left far.rest (λ bs. IsRead bs (Some content) left') far.coming read
+
+      more_talks : Talks Answers over s first bytes behind.0 (far.messages ++ told) after
+      more_talks = record {
+        contents = far.talks.contents ++ content ∷ [];
+        frames = one_read far.talks.contents content far.rest behind.0 far.talks.frames behind.1;
+        conversation = one_answered far.talks.contents far.messages here content told after far.talks.conversation on
+            (subst (λ n. AnswersContent Answers here n content told after) far.numbered answer);
+      }
+
+      -- one more content is answered
+      pub so_far_more : new ≡ appended mid (texts told) → SaysSoFar bytes (seq + length told) left' old new after
+      so_far_more wrote = record {
+        rest = behind.0;
+        messages = far.messages ++ told;
+        talks = more_talks;
+        coming = behind.2;
+        numbered = omega (arith, length-append far.messages told, far.numbered);
+        written = texts_more far.messages told old mid new far.written wrote;
+      }
+
+      -- or nothing of the answer is written, or a first part
+      pub so_far_broken : (why : Stop) → WritesReply why told mid new → TalksSome Answers over s first bytes old new why
+      so_far_broken stop.Broken wrote = absurd wrote
+      so_far_broken stop.Memory wrote = record {
+        rest = far.rest;
+        messages = far.messages;
+        after = here;
+        talks = far.talks;
+        written = wrote ∙ far.written;
+      }
+      so_far_broken stop.Device wrote = record {
+        rest = behind.0;
+        messages = far.messages ++ told;
+        after = after;
+        talks = more_talks;
+        written = (
+          frame.Early,
+          (let whole =
+              subst (λ (t : List ℕ). AddsPrefix old new t) (sym (flat_map-append message_text far.messages told))
+              (prefix_behind old mid new (texts far.messages) (texts told) far.written wrote) in (
+                whole.0,
+                whole.1 ++ message_text (broken_data (first + length (far.messages ++ told)) frame.Early),
+                ap (λ (t : List ℕ). t ++ message_text (broken_data (first + length (far.messages ++ told)) frame.Early)) whole.2
+                    ∙ append_assoc whole.0 whole.1 (message_text (broken_data (first + length (far.messages ++ told)) frame.Early)),
+                whole.3,
+              )),
+        );
+      }

@@ -1,0 +1,2 @@
+pub mod ConversationLemmas
+pub mod Replies
