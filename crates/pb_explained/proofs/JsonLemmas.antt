@@ -11,18 +11,24 @@ pub gathered_faults : (words : List (Bor Text)) (rest left : Option (List ℕ)) 
     → CallTellsFaults words rest left (record { reads = old_reads; writes = 0; written = Some [] })
     (record { reads = new_reads; writes = failures; written = Some bytes }) given
     → TellsGathered old_reads new_reads failures given
-gathered_faults words rest left old_reads new_reads failures bytes given (inl tells) =
-    (λ other. tells.0 other, λ device. elim (tells.1 device) [
-      | inl read ↦ inl (read.0, read.1)
-      | inr write ↦ inr (write.0, write.1)
-    ])
-gathered_faults words rest left old_reads new_reads failures bytes given (inr (inl live)) =
-    (λ other. live.2.0 other, λ device. elim (live.2.1 device) [
-      | inl read ↦ inl (read.0, read.1)
-      | inr write ↦ inr (write.0, write.1)
-    ])
-gathered_faults words rest left old_reads new_reads failures bytes given (inr (inr bank)) =
-    (λ other. bank.1.0.0 other, λ device. elim (bank.1.0.1 device) [
-      | inl read ↦ inl (read.0, read.1)
-      | inr write ↦ inr (write.0, write.1)
-    ])
+gathered_faults words rest left old_reads new_reads failures bytes given (inl tells) = (
+  λ other. tells.0 other,
+  λ device. elim (tells.1 device) [
+    | inl read ↦ inl (read.0, read.1)
+    | inr write ↦ inr (write.0, write.1)
+  ],
+)
+gathered_faults words rest left old_reads new_reads failures bytes given (inr (inl live)) = (
+  λ other. live.2.0 other,
+  λ device. elim (live.2.1 device) [
+    | inl read ↦ inl (read.0, read.1)
+    | inr write ↦ inr (write.0, write.1)
+  ],
+)
+gathered_faults words rest left old_reads new_reads failures bytes given (inr (inr bank)) = (
+  λ other. bank.1.0.0 other,
+  λ device. elim (bank.1.0.1 device) [
+    | inl read ↦ inl (read.0, read.1)
+    | inr write ↦ inr (write.0, write.1)
+  ],
+)

@@ -17,14 +17,17 @@ returns-clause-text g c =
     (g.I.Input.failures c.args.input.now) (g.I.Input.failures c.answer-given.new.input) c.answer-given.new.output.failures
     c.answer-given.new.output.bytes c.answer-given.result faults in
     let writes = subst (λ (m : Gathering). CallWrites c.args.words.now (g.I.Input.rest c.args.input.now) (Some m.bytes)
-    (Some c.answer-given.new.output.bytes) c.answer-given.result) c.new-gathered.ensures c.answer-given.ensures.text in
-    (c.answer-given.new.output.bytes, c.answer-given.result, writes,
-    told_text c.answer-given.new.output.bytes c.answer-given.result c.tell_json.result (g.I.Input.failures c.args.input.now)
-    (g.I.Input.failures c.answer-given.new.input) c.answer-given.new.output.failures (record { reads = g.I.Input.failures c.args.input.now; writes = g.O.Output.failures c.args.output.now; written = g.O.Output.written c.args.output.now }) 
-    (record { reads = g.I.Input.failures c.answer-given.new.input; writes = g.O.Output.failures c.tell_json.new.output; written = g.O.Output.written c.tell_json.new.output }) refl refl tells
-    (λ r. (let nothing = c.tell_json.ensures.unread r in
-    (ap (λ o. g.O.Output.failures o) nothing.0, ap (λ o. g.O.Output.written o) nothing.0, nothing.1)))
-    c.tell_json.ensures.text c.tell_json.ensures.faults)
+    (Some c.answer-given.new.output.bytes) c.answer-given.result) c.new-gathered.ensures c.answer-given.ensures.text in (
+      c.answer-given.new.output.bytes,
+      c.answer-given.result,
+      writes,
+      told_text c.answer-given.new.output.bytes c.answer-given.result c.tell_json.result (g.I.Input.failures c.args.input.now)
+          (g.I.Input.failures c.answer-given.new.input) c.answer-given.new.output.failures (record { reads = g.I.Input.failures c.args.input.now; writes = g.O.Output.failures c.args.output.now; written = g.O.Output.written c.args.output.now })
+          (record { reads = g.I.Input.failures c.answer-given.new.input; writes = g.O.Output.failures c.tell_json.new.output; written = g.O.Output.written c.tell_json.new.output }) refl refl tells
+          (λ r. (let nothing = c.tell_json.ensures.unread r in
+          (ap (λ o. g.O.Output.failures o) nothing.0, ap (λ o. g.O.Output.written o) nothing.0, nothing.1)))
+          c.tell_json.ensures.text c.tell_json.ensures.faults,
+    )
 
 pub returns-clause-faults : goal.returns-clause-faults
 returns-clause-faults g c =
@@ -37,7 +40,7 @@ returns-clause-faults g c =
     (g.I.Input.failures c.args.input.now) (g.I.Input.failures c.answer-given.new.input) c.answer-given.new.output.failures
     c.answer-given.new.output.bytes c.answer-given.result faults in
     told_faults c.answer-given.new.output.bytes c.answer-given.result c.tell_json.result (g.I.Input.failures c.args.input.now)
-    (g.I.Input.failures c.answer-given.new.input) c.answer-given.new.output.failures (record { reads = g.I.Input.failures c.args.input.now; writes = g.O.Output.failures c.args.output.now; written = g.O.Output.written c.args.output.now }) 
+    (g.I.Input.failures c.answer-given.new.input) c.answer-given.new.output.failures (record { reads = g.I.Input.failures c.args.input.now; writes = g.O.Output.failures c.args.output.now; written = g.O.Output.written c.args.output.now })
     (record { reads = g.I.Input.failures c.answer-given.new.input; writes = g.O.Output.failures c.tell_json.new.output; written = g.O.Output.written c.tell_json.new.output }) refl refl tells
     (λ r. (let nothing = c.tell_json.ensures.unread r in
     (ap (λ o. g.O.Output.failures o) nothing.0, ap (λ o. g.O.Output.written o) nothing.0, nothing.1)))
