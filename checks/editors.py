@@ -27,10 +27,13 @@ MANUAL = TOP / "docs/parbegin.1"
 # What Vim colours in comments.
 TASKS = {"TODO", "FIXME", "NOTE"}
 # What clap gives to every command, and what may come before a command.
-COMMON = {"help", "version", "unproved", "quiet"}
+COMMON = {"help", "version", "unproved", "quiet", "json"}
 # Options that the script takes, and the program does not know.
 OF_SCRIPT = {"check": {"format", "jobs"}}
-BEFORE = {BASH: ("--unproved", "--quiet"), FISH: ("-l unproved", "-l quiet"), MANUAL: (r"\-\-unproved", r"\-\-quiet")}
+BEFORE = {
+    BASH: ("--unproved", "--quiet", "--json"), FISH: ("-l unproved", "-l quiet", "-l json"),
+    MANUAL: (r"\-\-unproved", r"\-\-quiet", r"\-\-json"),
+}
 
 
 def reserved_words():

@@ -51,6 +51,10 @@ CALLS = [
     (["claims", "two.pb"], REFUSED, "refused L2", "parbegin: two.pb has several texts, between lines %%: check reads these"),
     (["exec", "hello.pb"], REFUSED, "refused O1 at 0", "parbegin: hello.pb is no object"),
     (["--quiet", "exec", "hello.pb"], REFUSED, "refused O1 at 0", None),
+    (["--json", "run", "hello.pb"], DONE, '"value":1}\n', None),
+    (["--json", "check", "hello.pb"], DONE, '{"kind":"ok"}\n', None),
+    (["--quiet", "--json", "exec", "hello.pb"], REFUSED, '{"kind":"refused","code":"O1","at":0}\n', None),
+    (["--json", "run", "--steps", "x", "hello.pb"], WORDS, None, "invalid value 'x'"),
     (["draw", "lost.run"], DONE, "<svg", None),
     (["debug", "nosuch.run"], DEVICE, None, "parbegin: no such file: nosuch.run\n"),
 ]

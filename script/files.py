@@ -35,7 +35,8 @@ class Words(NamedTuple):
 
 def takes_value(start: list[str], command: str, option: str) -> bool:
     """Returns whether the option of a command has a value behind it, as the program's help says."""
-    ran = subprocess.run([*start, command, "--help"], stdin=subprocess.DEVNULL, capture_output=True, check=False)
+    plain = [word for word in start if word != "--json"]
+    ran = subprocess.run([*plain, command, "--help"], stdin=subprocess.DEVNULL, capture_output=True, check=False)
     return re.search(rf"{re.escape(option)}[ =]<", ran.stdout.decode(errors="replace")) is not None
 
 

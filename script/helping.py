@@ -32,7 +32,8 @@ SESSION = b"process p begin skip end\n%%\n%%\nhelp\n"
 
 def ran_on(start: list[str], words: list[str], given: bytes = b"") -> tuple[int, bytes, bytes]:
     """Runs the program, and returns its status, what it wrote, and what it wrote to standard error."""
-    ran = subprocess.run([*start, *words], input=given, capture_output=True, check=False)
+    plain = [word for word in start if word != "--json"]
+    ran = subprocess.run([*plain, *words], input=given, capture_output=True, check=False)
     return ran.returncode, ran.stdout, ran.stderr
 
 

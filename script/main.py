@@ -46,7 +46,7 @@ def run_command(start: list[str], command: str, words: list[str]) -> int:
         if helping.are_refused(start, [command, *words]):
             return WORDS
         start_program(start, [command, *words])
-    if command == "check" and any(not word.startswith("-") or word.startswith("--format") for word in words):
+    if command == "check" and "--json" not in start and any(not word.startswith("-") or word.startswith("--format") for word in words):
         from script.checking import check
 
         return check(start, words)
@@ -65,7 +65,7 @@ def run_on_file(start: list[str], command: str, words: files.Words) -> int:
         say(f"{command} reads one file, and here are {len(words.named)}: {', '.join(words.named)}")
         return WORDS
     name = words.named[0] if words.named else None
-    if name and command == "debug":
+    if name and command == "debug" and "--json" not in start:
         from script.debugging import debug
 
         return debug(start, words.others, name)
@@ -81,8 +81,9 @@ def run_on_file(start: list[str], command: str, words: files.Words) -> int:
 
 def run_words(start: list[str], words: list[str]) -> int:
     """Runs the program with these words, of which some may name files."""
-    if words[:1] == ["--quiet"]:
-        start, words = [*start, *words[:1]], words[1:]
+    for word in ("--quiet", "--json"):
+        if words[:1] == [word]:
+            start, words = [*start, word], words[1:]
     if helping.asks_for_help(words):
         return helping.show_help(start, words)
     if not words or words[0] not in COMMANDS and words[0] not in helping.commands(start):

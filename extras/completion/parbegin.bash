@@ -1,13 +1,17 @@
 # Completion of parbegin for bash. To use it: source this file, or let install.sh put it in its place.
 _parbegin() {
     local word=${COMP_WORDS[COMP_CWORD]} before=${COMP_WORDS[COMP_CWORD - 1]} at=1 options
-    while ((at < COMP_CWORD)) && [[ ${COMP_WORDS[at]} == --unproved || ${COMP_WORDS[at]} == --quiet ]]; do
+    while ((at < COMP_CWORD)) && [[ ${COMP_WORDS[at]} == --unproved || ${COMP_WORDS[at]} == --quiet ||
+        ${COMP_WORDS[at]} == --json ]]; do
         at=$((at + 1))
     done
     if ((COMP_CWORD <= at)); then
         local commands="bank check claims debug draw emit exec explain migrate outcomes plan record replay run states help --help --version"
-        if [[ ${COMP_WORDS[at - 1]} != --quiet ]]; then
+        if [[ ${COMP_WORDS[at - 1]} != --quiet && ${COMP_WORDS[at - 1]} != --json ]]; then
             commands+=" --quiet"
+        fi
+        if [[ ${COMP_WORDS[at - 1]} != --json ]]; then
+            commands+=" --json"
         fi
         if ((at == 1)); then
             commands+=" --unproved"

@@ -5,6 +5,7 @@ complete -c parbegin -n "not __fish_seen_subcommand_from $commands" -f
 complete -c parbegin -n "not __fish_seen_subcommand_from $commands" -l unproved -d "Run the sources with no proof"
 complete -c parbegin -n "not __fish_seen_subcommand_from $commands" -l version -d "Print the version"
 complete -c parbegin -n "not __fish_seen_subcommand_from $commands" -l quiet -d "Write no message if the input is refused"
+complete -c parbegin -n "not __fish_seen_subcommand_from $commands" -l json -d "Write JSON lines"
 complete -c parbegin -l help -d "Print help"
 
 complete -c parbegin -n "not __fish_seen_subcommand_from $commands" -a bank -d "Be the banker of jobs that come and go"

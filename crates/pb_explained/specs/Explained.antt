@@ -1,14 +1,15 @@
 -- What a call writes on its output and on standard error: its answer, and what a person is told of a refusal.
-use Rattle.std.specs.Prelude.{◌≡◌, ◌⊎◌, ℕ, Bool, true, false, List, [], ◌∷◌, Option, Some, codes}
+use Rattle.std.specs.Prelude.{◌≡◌, ◌⊎◌, ◌↔◌, IsTrue, ℕ, Bool, true, false, List, [], ◌∷◌, Option, Some, codes}
 use Rattle.std.specs.Borrow.{Bor}
 use Rattle.clap.specs.Words.{Text}
 use Rattle.pb_base.specs.declared.lending.Lending.{Lending}
 use Rattle.pb_base.specs.declared.lending.Lending.TheVariants.{ByBanker}
 use Rattle.pb_base.specs.Device.{appended, one_more_failure, AddsPrefix}
 use Rattle.pb_answer.specs.Calls.{CallTellsFaults, CallWrites}
-use Rattle.pb_command_io.specs.Faults.{Devices}
+use Rattle.pb_command_io.specs.Faults.{Devices, TellsFaults}
 use Rattle.pb_command_io.specs.declared.status.Status.{Status}
 use Rattle.pb_command_io.specs.declared.status.Status.TheVariants.{Refused}
+use Rattle.pb_json_lines.specs.Replies.{TellsInJson}
 use Rattle.pb_messages.specs.LiveInputs.{SaysOfLiveInput}
 use Rattle.pb_messages.specs.Said.{SaysToPerson}
 use Rattle.pb_messages.specs.declared.message.Reading.{Reading}
@@ -20,17 +21,25 @@ use Rattle.pb_words.specs.Read.{WordsSay}
 use Rattle.pb_words.specs.declared.words.Options.{Options}
 use Rattle.pb_words.specs.declared.words.Options.TheVariants as option
 
--- the call is to be quiet: `--quiet` is the first word behind the program's name
-abbrev pub IsQuiet : List (Bor Text) → Type 0
-IsQuiet [] = ⊥
-IsQuiet (name ∷ []) = ⊥
-IsQuiet (name ∷ word ∷ words) = word.now ≡ codes "--quiet"
+-- this word is the first behind the program's name
+abbrev pub IsFirst : Text → List (Bor Text) → Type 0
+IsFirst word [] = ⊥
+IsFirst word (name ∷ []) = ⊥
+IsFirst word (name ∷ next ∷ words) = next.now ≡ word
 
--- the words that are read: all of them; or, if the call is to be quiet, those from `--quiet` on, which is then
--- in the place of the program's name
-pub data IsHeard : (words heard : List (Bor Text)) → Type 0 where
-  loud : (words : List (Bor Text)) → (IsQuiet words → ⊥) → IsHeard words words
-  quiet : (name : Bor Text) (words : List (Bor Text)) → IsQuiet (name ∷ words) → IsHeard (name ∷ words) words
+-- the words without this one: all of them, if it is not the first; else those from it on, which is then in the
+-- place of the program's name
+pub data IsWithout (word : Text) : (words left : List (Bor Text)) → Type 0 where
+  whole : (words : List (Bor Text)) → (IsFirst word words → ⊥) → IsWithout word words words
+  behind : (name : Bor Text) (words : List (Bor Text)) → IsFirst word (name ∷ words) → IsWithout word (name ∷ words) words
+
+-- the call is to be quiet: `--quiet` is the first word
+abbrev pub IsQuiet : List (Bor Text) → Type 0
+IsQuiet words = IsFirst (codes "--quiet") words
+
+-- its answer is to be JSON lines: `--json` is the first word, or the one behind `--quiet`
+abbrev pub IsInJson : (heard : List (Bor Text)) → Type 0
+IsInJson heard = IsFirst (codes "--json") heard
 
 -- how `emit` reads its input
 abbrev pub format_reading : Format → Reading
@@ -89,10 +98,22 @@ TellsPerson words heard status kept old new =
     ⊎ ((IsQuiet words → ⊥) × (status ≡ Refused)
     × ((bytes : List ℕ) × (kept ≡ Some bytes) × Explains heard bytes old new))
 
--- the answer of a call is on its output, and what a person is told of it on standard error; the words are read
--- without `--quiet`
+-- what a call writes as JSON lines: those of what it would write to memory, if there is enough, with its status
+abbrev pub WritesJson : (words : List (Bor Text)) → (rest old new : Option (List ℕ)) → Status → Type 0
+WritesJson words rest old new status =
+    (bytes : List ℕ) × (given : Status) × CallWrites words rest (Some []) (Some bytes) given × TellsInJson bytes given old new status
+
+-- the answer of a call, as it is or in JSON lines
+abbrev pub Answers : (json : Bool) → (words : List (Bor Text)) → (rest left : Option (List ℕ)) → Devices → Devices → Status → Type 0
+Answers false words rest left old new status =
+    CallWrites words rest old.written new.written status × CallTellsFaults words rest left old new status
+Answers true words rest left old new status = WritesJson words rest old.written new.written status × TellsFaults old new status
+
+-- the answer of a call is on its output, in JSON lines if `--json` is the first word but for `--quiet`, and what a
+-- person is told of it on standard error; the words are read without these two
 abbrev pub AnswersAndExplains : (words : List (Bor Text)) → (rest left kept : Option (List ℕ))
     → (old new error_old error_new : Devices) → Status → Type 0
 AnswersAndExplains words rest left kept old new error_old error_new status =
-    (heard : List (Bor Text)) × IsHeard words heard × CallWrites heard rest old.written new.written status
-    × CallTellsFaults heard rest left old new status × TellsPerson words heard status kept error_old error_new
+    (heard : List (Bor Text)) × (said : List (Bor Text)) × (json : Bool)
+    × IsWithout (codes "--quiet") words heard × IsWithout (codes "--json") heard said × (IsTrue json ↔ IsInJson heard)
+    × Answers json said rest left old new status × TellsPerson words said status kept error_old error_new

@@ -1,9 +1,10 @@
 //! The answer of a call, and what a person is told of it.
 
 ghost use Rattle.std.specs.Prelude.{◌≡◌, ◌↔◌, IsTrue, codes};
-ghost use Rattle.pb_explained.specs.Explained.{AnswersAndExplains, IsHeard, IsQuiet};
+ghost use Rattle.pb_explained.specs.Explained.{Answers, AnswersAndExplains, IsFirst, IsWithout};
 
 use crate::explain_refusal::explain_refusal;
+use crate::in_json::answer_in_json;
 use pb_answer::answer::answer;
 use pb_base::device::{Input, Output};
 use pb_command_io::Status;
@@ -13,7 +14,8 @@ use std::sync::Wait;
 use std::thread::Threads;
 
 /// Does what the words of a call say, of which the first is the program's own name, and explains a refusal on
-/// standard error, unless the next word is `--quiet`. Returns the status of the call.
+/// standard error, unless the next word is `--quiet`. If `--json` is the next word, or the one behind `--quiet`, the
+/// answer is JSON lines. Returns the status of the call.
 pub fn answer_and_explain<I: Input, O: Output, E: Output, R: Threads + Wait + Sync>(
     rt: &R,
     alloc: Global,
@@ -29,9 +31,10 @@ pub fn answer_and_explain<I: Input, O: Output, E: Output, R: Threads + Wait + Sy
         (record { reads = input.new.failures; writes = E.failures error.new; written = E.written error.new })
         result }
 {
-    let said = heard(words);
-    let status = answer(rt, alloc, said, input, output);
-    if is_quiet(words) {
+    let heard = without(words, "--quiet");
+    let said = without(heard, "--json");
+    let status = answer_as(rt, alloc, is_first(heard, "--json"), said, input, output);
+    if is_first(words, "--quiet") {
         return status;
     }
     if let (Status::Refused, Some(bytes)) = (status, input.kept()) {
@@ -40,23 +43,44 @@ pub fn answer_and_explain<I: Input, O: Output, E: Output, R: Threads + Wait + Sy
     status
 }
 
-// Returns whether the word behind the program's name is `--quiet`.
-fn is_quiet(words: &[&str]) -> bool
-    ensures { IsTrue result ↔ IsQuiet words.now }
+// Answers a call, as it is or in JSON lines.
+fn answer_as<I: Input, O: Output, R: Threads + Wait + Sync>(
+    rt: &R,
+    alloc: Global,
+    json: bool,
+    words: &[&str],
+    input: &mut KeptInput<I>,
+    output: &mut O,
+) -> Status
+    ensures { Answers json words.now input.old.rest input.new.rest
+        (record { reads = input.old.failures; writes = O.failures output.old; written = O.written output.old })
+        (record { reads = input.new.failures; writes = O.failures output.new; written = O.written output.new })
+        result }
+{
+    if json {
+        answer_in_json(rt, alloc, words, input, output)
+    } else {
+        answer(rt, alloc, words, input, output)
+    }
+}
+
+// Returns whether a word is the first behind the program's name.
+fn is_first(words: &[&str], word: &str) -> bool
+    ensures { IsTrue result ↔ IsFirst word.now words.now }
 {
     match words {
-        [_, word, ..] => *word == "--quiet",
+        [_, first, ..] => *first == word,
         _ => false,
     }
 }
 
-// Returns the words that are read. Behind `--quiet`, that word is in the place of the program's name, which is
+// Returns the words without this one, if it is the first. It is then in the place of the program's name, which is
 // not looked at.
-fn heard<'w, 't>(words: &'w [&'t str]) -> &'w [&'t str]
-    ensures { IsHeard words.now result.now }
+fn without<'w, 't>(words: &'w [&'t str], word: &str) -> &'w [&'t str]
+    ensures { IsWithout word.now words.now result.now }
 {
     match words {
-        [_, rest @ ..] if is_quiet(words) => rest,
+        [_, rest @ ..] if is_first(words, word) => rest,
         _ => words,
     }
 }

@@ -4,5 +4,6 @@
 
 mod explain_refusal;
 mod explained;
+mod in_json;
 
 pub use explained::answer_and_explain;

@@ -1,0 +1,189 @@
+#!/usr/bin/env python3
+"""Makes the calls of the examples with `--json` too, and compares the objects with the lines that are written without.
+
+    checks/json_lines.py [PROGRAM]     PROGRAM is the one that ./parbegin has built if none is given
+
+What the object of each line must be is read from the line by the patterns below, a second reading of docs/FORMATS.md.
+Each object must fit docs/schema/json_lines.schema.json, and the status must be the same. Its status is 0 if all is as
+wanted, and 1 if not.
+"""
+from __future__ import annotations
+
+import json
+import re
+from typing import Any
+
+from calls import DONE, FAULT, REFUSED, TOP, Tally, call
+
+SCHEMA = json.loads((TOP / "docs/schema/json_lines.schema.json").read_text())
+EXPECTED = TOP / "examples/expected/calls.txt"
+# The commands whose lines have objects of their own, and the longest output that is compared.
+COMMANDS = ("check", "claims", "exec", "outcomes", "plan", "replay", "run")
+LONGEST = 200_000
+EXACT = 2**53 - 1
+NAME, NUMBER, PAIRS = "[A-Za-z][A-Za-z0-9_]*", "-?(?:0|[1-9][0-9]*)", r"(?P<amounts>(?: [1-9][0-9]* [A-Za-z][A-Za-z0-9_]*)+)"
+# The pattern of each line, as docs/FORMATS.md writes it, with what its object has at first. A word in angle brackets is the
+# key of a name or a number.
+LINES: list[tuple[str, dict[str, Any]]] = [
+    ("<process>.<arm> grant<amounts>", {"kind": "grant"}), ("<process>.<arm> return<amounts>", {"kind": "return"}),
+    ("<process>.<arm> print <value>", {"kind": "print"}), ("<process>.<arm> fault <fault>", {"kind": "fault"}),
+    ("<process> end", {"kind": "end"}), ("done", {"kind": "done"}), ("open", {"kind": "open"}), ("deadlock", {"kind": "stuck"}),
+    ("limit <limit>", {"kind": "limit"}), ("memory", {"kind": "memory"}), ("threads", {"kind": "threads"}), ("ok", {"kind": "ok"}),
+    ("refused <code>", {"kind": "refused"}), ("refused <code> at <at>", {"kind": "refused"}),
+    ("refused <code> <process> <resource> claim <claim> capital <capital>", {"kind": "refused"}),
+    ("refused <code> <text>", {"kind": "refused"}),
+    ("<process> claim <claim> <resource>", {"kind": "claim"}), ("<process> claim <claim> <resource> lines<lines>", {"kind": "claim"}),
+    ("<resource> capital <capital> least <least> free <free>", {"kind": "resource"}),
+    ("bottleneck <resource>", {"kind": "bottleneck"}), ("no request waits", {"kind": "no request waits"}),
+    ("outcome <number>", {"kind": "outcome"}), ("deadlock <number>", {"kind": "deadlock"}),
+    ("<process> ended", {"kind": "ended"}), ("<process> faulted", {"kind": "faulted"}), ("<process> waits", {"kind": "waits"}),
+    ("<process>.<integer> <value>", {"kind": "integer"}), ("printed", {"kind": "printed"}), ("reached by", {"kind": "reached by"}),
+    ("<process> holds <amount> <resource>", {"kind": "holds"}), ("<process>.<arm> asks<amounts>", {"kind": "asks"}),
+    ("<process>.<arm> <count>", {"kind": "picks"}),
+    ("<outcomes> outcomes?", {"kind": "outcomes", "deadlocks": 0, "endless": False}),
+    ("<outcomes> outcomes?, some runs do not end", {"kind": "outcomes", "deadlocks": 0, "endless": True}),
+    ("<outcomes> outcomes?, <deadlocks> deadlocks?", {"kind": "outcomes", "endless": False}),
+    ("<outcomes> outcomes?, <deadlocks> deadlocks?, some runs do not end", {"kind": "outcomes", "endless": True}),
+    ("more than <limit> configurations(?:, there may be others)?", {"kind": "others", "of": "configurations"}),
+    ("more than <limit> picks(?:, there may be others)?", {"kind": "others", "of": "picks"}),
+    ("first deadlock, there may be others", {"kind": "others", "of": "deadlocks"}),
+    ("no outcome <number>", {"kind": "no outcome"}), ("no deadlock <number>", {"kind": "no deadlock"}),
+    ("as expected", {"kind": "as expected"}), ("not as expected: <text>", {"kind": "not as expected"}), ("<text>", {"kind": "line"}),
+]
+# The lists of an outcome and a deadlock, with the kinds of the lines in them.
+LISTS = {
+    "processes": ("ended", "faulted", "waits"), "integers": ("integer",), "holds": ("holds",), "asks": ("asks",), "prints": ("print",),
+    "picks": ("picks",),
+}
+PARTS = {kind for kinds in LISTS.values() for kind in kinds} | {"printed", "reached by"}
+NAMES = ("process", "resource", "integer", "code", "fault")
+VALUES = {"amounts": PAIRS, "lines": r"(?P<lines>(?: [1-9][0-9]*)+)", "text": "(?P<text>.*)"}
+
+
+def compiled(pattern: str) -> re.Pattern[str]:
+    """Returns the expression of a pattern."""
+    def group(match: re.Match[str]) -> str:
+        key = match[1]
+        return VALUES.get(key) or f"(?P<{key}>{NAME if key in NAMES else NUMBER})"
+
+    return re.compile(re.sub("<([a-z]+)>", group, pattern.replace(".<", r"\.<")))
+
+
+FORMS = [(compiled(pattern), first) for pattern, first in LINES]
+
+
+def value_of(key: str, said: str) -> Any:
+    """Returns the value of a member of which a line says this."""
+    words = said.split()
+    if key == "amounts":
+        return [{"amount": int(k), "resource": r} for k, r in zip(words[::2], words[1::2])]
+    if key == "lines":
+        return [int(word) for word in words]
+    if key in NAMES or key == "text":
+        return said
+    return int(said) if abs(int(said)) <= EXACT else said
+
+
+def object_of(line: str) -> dict[str, Any]:
+    """Returns the object of a line: that of the first pattern that it is of."""
+    for form, first in FORMS:
+        if match := form.fullmatch(line):
+            return first | {key: value_of(key, said) for key, said in match.groupdict().items()}
+    raise ValueError(line)
+
+
+def objects_of(text: str) -> list[dict[str, Any]]:
+    """Returns the objects of a text: one for an outcome or a deadlock with the lines that belong to it."""
+    made: list[dict[str, Any]] = []
+    within = False
+    for it in map(object_of, text.splitlines()):
+        if it["kind"] in ("outcome", "deadlock"):
+            made.append(it | {key: [] for key in LISTS})
+            within = True
+        elif within and it["kind"] in PARTS:
+            for key, kinds in LISTS.items():
+                if it["kind"] in kinds:
+                    made[-1][key].append(it)
+        else:
+            made.append(it)
+            within = False
+    return made
+
+
+TYPES = {"object": dict, "array": list, "string": str, "boolean": bool, "integer": int}
+
+
+def fault_of(value: Any, schema: dict[str, Any]) -> str | None:
+    """Returns what does not fit a schema, of the few words of JSON Schema that this one uses."""
+    if "$ref" in schema:
+        return fault_of(value, SCHEMA["$defs"][schema["$ref"].rsplit("/", 1)[1]])
+    if "oneOf" in schema:
+        fitting = sum(fault_of(value, one) is None for one in schema["oneOf"])
+        return None if fitting == 1 else f"{fitting} forms fit {value}"
+    if "const" in schema and value != schema["const"] or "enum" in schema and value not in schema["enum"]:
+        return f"{value} is another value"
+    kind = schema.get("type")
+    if kind and (not isinstance(value, TYPES[kind]) or kind == "integer" and isinstance(value, bool)):
+        return f"{value} is no {kind}"
+    if isinstance(value, int) and not schema.get("minimum", value) <= value:
+        return f"{value} is too small"
+    if isinstance(value, str) and not re.search(schema.get("pattern", ""), value):
+        return f"{value} is not of its form"
+    if isinstance(value, list):
+        return next((fault for it in value if (fault := fault_of(it, schema.get("items", {})))), None)
+    if isinstance(value, dict):
+        known = schema.get("properties", {})
+        if missing := set(schema.get("required", ())) - set(value):
+            return f"{value} lacks {missing}"
+        if "additionalProperties" in schema and (more := set(value) - set(known)):
+            return f"{value} has {more}"
+        return next((fault for key, it in value.items() if (fault := fault_of(it, known.get(key, {})))), None)
+    return None
+
+
+def try_call(tally: Tally, words: list[str], given: bytes) -> None:
+    """Makes a call without `--json` and with it, and compares."""
+    status, text = call(words, given)
+    if len(text) > LONGEST:
+        return
+    with_json, lines = call(["--quiet", "--json", *words], given)
+    tally.expect(with_json == status, "the status of", *words, "is", with_json, "and not", status)
+    made = [json.loads(line) for line in lines.decode().splitlines()]
+    tally.expect(made == objects_of(text.decode()), "other objects of", *words)
+    for it in made:
+        fault = fault_of(it, SCHEMA)
+        tally.expect(fault is None, "the schema:", fault)
+
+
+def calls() -> list[tuple[list[str], bytes]]:
+    """Returns the words and the input of calls: those of the examples, and some more of refused texts."""
+    made: list[tuple[list[str], bytes]] = []
+    for line in EXPECTED.read_text().splitlines():
+        if line and not line.startswith("#"):
+            _, _, file, *words = line.split()
+            if words[0] in COMMANDS:
+                made.append((words, (TOP / "examples" / file).read_bytes()))
+    for file in sorted((TOP / "examples").glob("*.pb")):
+        for words in (["claims"], ["plan"], ["outcomes", "--states", "2000"], ["outcomes", "--lend", "cash", "--states", "2000"],
+                      ["outcomes", "--prints", "--states", "2000"], ["check"]):
+            made.append((words, file.read_bytes()))
+    claim = b"resource tape = 1; process p begin hold 1 of tape do hold 1 of tape do skip od od end\n"
+    great = b"process p begin integer x; x := 9007199254740992; print x; print x - 1; print 0 - x; x := 1 div 0 end\n"
+    for words, given in ((["run"], claim), (["check"], claim + b"%%\nprocess p begin print y end\n%%\n" + great), (["run"], great),
+                         (["outcomes"], great), (["run", "--steps", "3"], great), (["outcomes", "--run", "7"], great)):
+        made.append((words, given))
+    return made
+
+
+def main() -> None:
+    tally = Tally()
+    for words, given in calls():
+        try_call(tally, words, given)
+    status, text = call(["--json", "run"], b"process p begin print 7 end\n")
+    tally.expect((status, text) == (DONE, b'{"kind":"print","process":"p","arm":0,"value":7}\n{"kind":"end","process":"p"}\n{"kind":"done"}\n'), text)
+    tally.expect(call(["--json", "run"], b"process")[0] == REFUSED, "a refused text")
+    tally.expect(call(["--json", "run"], b"process p begin print 1 div 0 end\n")[0] == FAULT, "a fault")
+    tally.end("json lines")
+
+
+main()
