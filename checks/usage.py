@@ -53,6 +53,8 @@ CALLS = [
     (["--quiet", "exec", "hello.pb"], REFUSED, "refused O1 at 0", None),
     (["--json", "run", "hello.pb"], DONE, '"value":1}\n', None),
     (["--json", "check", "hello.pb"], DONE, '{"kind":"ok"}\n', None),
+    (["run", "--json", "hello.pb"], DONE, '"value":1}\n', None),
+    (["run", "hello.pb", "--json"], DONE, '"value":1}\n', None),
     (["--quiet", "--json", "exec", "hello.pb"], REFUSED, '{"kind":"refused","code":"O1","at":0}\n', None),
     (["--json", "run", "--steps", "x", "hello.pb"], WORDS, None, "invalid value 'x'"),
     (["draw", "lost.run"], DONE, "<svg", None),

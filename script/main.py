@@ -84,6 +84,8 @@ def run_words(start: list[str], words: list[str]) -> int:
     for word in ("--quiet", "--json"):
         if words[:1] == [word]:
             start, words = [*start, word], words[1:]
+    if "--json" not in start and "--json" in words[1:]:
+        start, words = [*start, "--json"], [word for word in words if word != "--json"]
     if helping.asks_for_help(words):
         return helping.show_help(start, words)
     if not words or words[0] not in COMMANDS and words[0] not in helping.commands(start):
