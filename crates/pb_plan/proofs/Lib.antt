@@ -1,6 +1,9 @@
 pub mod Columns
 pub mod Free
 pub mod Granted
+pub mod NestLemmas
+pub mod NestWalks
+pub mod OrderLemmas
 pub mod OrderedClaims
 pub mod OrderedDeadlocks
 pub mod OrderedItems

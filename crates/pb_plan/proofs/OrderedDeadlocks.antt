@@ -23,11 +23,11 @@ use Rattle.pb_verifier.proofs.LoansWithinClaims.{pair_in}
 
 -- ---- what holds of all that is held
 
-all_behind : (P : Pair → Type 0) (xs ys : List Pair) → All P (xs ++ ys) → All P ys
+pub all_behind : (P : Pair → Type 0) (xs ys : List Pair) → All P (xs ++ ys) → All P ys
 all_behind P [] ys all = all
 all_behind P (x ∷ xs) ys all = all_behind P xs ys (λ k d l. all (suc k) d (omega (arith, l)))
 
-all_before : (P : Pair → Type 0) (xs ys : List Pair) → All P (xs ++ ys) → All P xs
+pub all_before : (P : Pair → Type 0) (xs ys : List Pair) → All P (xs ++ ys) → All P xs
 all_before P [] ys all = λ k d l. absurd (omega (arith, l))
 all_before P (x ∷ xs) ys all =
     All-cons P x xs (all 0 x (omega arith)) (all_before P xs ys (λ k d l. all (suc k) d (omega (arith, l))))

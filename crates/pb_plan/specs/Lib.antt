@@ -1,4 +1,5 @@
 pub mod Needs
+pub mod Nests
 pub mod Orders
 pub mod Parts
 pub mod Waiting

@@ -4,10 +4,16 @@
 
 pub mod laws;
 mod needs;
+mod nest;
+mod nests;
+mod order;
 mod part;
 mod parts;
 mod weight;
 
 pub use needs::{bottleneck, free_capital, least_capital};
+pub use nest::Nest;
+pub use nests::find_nest;
+pub use order::find_order;
 pub use part::Part;
 pub use parts::claim_parts;
