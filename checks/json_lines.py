@@ -35,6 +35,7 @@ LINES: list[tuple[str, dict[str, Any]]] = [
     ("<process> claim <claim> <resource>", {"kind": "claim"}), ("<process> claim <claim> <resource> lines<lines>", {"kind": "claim"}),
     ("<resource> capital <capital> least <least> free <free>", {"kind": "resource"}),
     ("bottleneck <resource>", {"kind": "bottleneck"}), ("no request waits", {"kind": "no request waits"}),
+    ("order <text>", {"kind": "order"}), ("no order", {"kind": "no order"}),
     ("outcome <number>", {"kind": "outcome"}), ("deadlock <number>", {"kind": "deadlock"}),
     ("<process> ended", {"kind": "ended"}), ("<process> faulted", {"kind": "faulted"}), ("<process> waits", {"kind": "waits"}),
     ("<process>.<integer> <value>", {"kind": "integer"}), ("printed", {"kind": "printed"}), ("reached by", {"kind": "reached by"}),

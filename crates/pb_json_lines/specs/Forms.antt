@@ -50,6 +50,8 @@ forms =
     ∷ form Alone (codes "resource") (codes "R capital G least L free E")
     ∷ form Alone (codes "bottleneck") (codes "bottleneck R")
     ∷ form Alone (codes "no request waits") (codes "no request waits")
+    ∷ form Alone (codes "order") (codes "order W")
+    ∷ form Alone (codes "no order") (codes "no order")
     ∷ form Opens (codes "outcome") (codes "outcome N")
     ∷ form Opens (codes "deadlock") (codes "deadlock N")
     ∷ form Processes (codes "ended") (codes "P ended")

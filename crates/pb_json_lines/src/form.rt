@@ -39,7 +39,7 @@ pub struct Form {
 }
 
 // All forms but the last, in the order in which they are tried.
-static FORMS: [Form; 45] = [
+static FORMS: [Form; 47] = [
     Form {
         section: Section::Alone,
         first: "\"kind\":\"grant\"",
@@ -144,6 +144,16 @@ static FORMS: [Form; 45] = [
         section: Section::Alone,
         first: "\"kind\":\"no request waits\"",
         pattern: "no request waits",
+    },
+    Form {
+        section: Section::Alone,
+        first: "\"kind\":\"order\"",
+        pattern: "order W",
+    },
+    Form {
+        section: Section::Alone,
+        first: "\"kind\":\"no order\"",
+        pattern: "no order",
     },
     Form {
         section: Section::Opens,

@@ -17,7 +17,8 @@ use Rattle.pb_names.specs.declared.resolved.Process.{Process}
 use Rattle.pb_names.specs.declared.resolved.Resolved.{Resolved}
 use Rattle.pb_names.specs.declared.resolved.Resource.{Resource}
 use Rattle.pb_plan.specs.Needs.{AllFree, IsBottleneck}
-use Rattle.pb_plan_engine.specs.PlanLines.{HasStatus, IsPlan, SaysOfPlan, bodies_of, claims_lines, last_line, planned}
+use Rattle.pb_plan.specs.Orders.{IsFollowed}
+use Rattle.pb_plan_engine.specs.PlanLines.{HasStatus, IsOrderOf, IsPlan, SaysOfPlan, bodies_of, claims_lines, last_line, order_line, planned}
 use Rattle.pb_plan_engine.specs.PlanLines.{resources_lines}
 
 pub width_of_claims : {A : Type 0} (program : Resolved A) (claims : Table) → IsSpelled (resolved_view program) claims
@@ -36,16 +37,19 @@ bodies_of_processes {A} program = go program.processes.items
     go [] = refl
     go (p ∷ ps) = ap (λ (bodies : List Block). block_view p.body.items ∷ bodies) (go ps)
 
--- the three parts of a plan, one written after another
-pub is_plan : {A : Type 0} (program : Resolved A) (claims : Table) (capital : List ℕ) (found : Option ℕ)
-    (first second third whole : List ℕ) (some others : List (Resource A)) → capital ≡ capital_of (resolved_view program)
+-- the four parts of a plan, one written after another
+pub is_plan : {A : Type 0} (program : Resolved A) (claims : Table) (capital : List ℕ) (found : Option ℕ) (order : Option (List ℕ))
+    (first second third fourth whole : List ℕ) (some others last : List (Resource A)) → capital ≡ capital_of (resolved_view program)
     → MatchOption found (AllFree claims capital) (IsBottleneck claims capital)
-    → some ≡ program.resources.items → others ≡ program.resources.items → first ≡ []
+    → MatchOption order ((other : List ℕ) → ¬ IsFollowed other (resolved_view program).processes) (IsOrderOf (resolved_view program))
+    → some ≡ program.resources.items → others ≡ program.resources.items → last ≡ program.resources.items → first ≡ []
     → second ≡ first ++ claims_lines (resolved_view program) claims
     → third ≡ second ++ resources_lines (map (λ (r : Resource A). r.name.items) some) capital claims
-    → whole ≡ third ++ last_line (map (λ (r : Resource A). r.name.items) others) found
+    → fourth ≡ third ++ last_line (map (λ (r : Resource A). r.name.items) others) found
+    → whole ≡ fourth ++ order_line (map (λ (r : Resource A). r.name.items) last) order
     → IsPlan (resolved_view program) claims whole
-is_plan {A} program claims capital found first second third whole some others same is here there empty one two three =
+is_plan {A} program claims capital found order first second third fourth whole some others last same is ordered here there below
+    empty one two three four =
     let view = resolved_view program in
     let names : (rs : List (Resource A)) → rs ≡ program.resources.items
     → map (λ (r : Resource A). r.name.items) rs ≡ resource_names view =
@@ -55,14 +59,26 @@ is_plan {A} program claims capital found first second third whole some others sa
     (one ∙ ap (λ (t : List ℕ). t ++ claims_lines view claims) empty)
     ∙ ap (λ (n : List Name). claims_lines view claims ++ resources_lines n capital claims) (names some here)
     ∙ ap (λ (l : List ℕ). claims_lines view claims ++ resources_lines (resource_names view) l claims) same in
+    let so_far : fourth ≡ claims_lines view claims ++ (resources_lines (resource_names view) (capital_of view) claims
+    ++ last_line (resource_names view) found) =
+    three ∙ ap (λ (t : List ℕ). t ++ last_line (map (λ (r : Resource A). r.name.items) others) found) middle
+    ∙ ap (λ (n : List Name). (claims_lines view claims
+    ++ resources_lines (resource_names view) (capital_of view) claims) ++ last_line n found) (names others there)
+    ∙ append_assoc (claims_lines view claims) (resources_lines (resource_names view) (capital_of view) claims)
+    (last_line (resource_names view) found) in
     record {
       found = found;
       bottleneck = subst (λ (l : List ℕ). MatchOption found (AllFree claims l) (IsBottleneck claims l)) same is;
-      text = three ∙ ap (λ (t : List ℕ). t ++ last_line (map (λ (r : Resource A). r.name.items) others) found) middle
-          ∙ ap (λ (n : List Name). (claims_lines view claims
-          ++ resources_lines (resource_names view) (capital_of view) claims) ++ last_line n found) (names others there)
-          ∙ append_assoc (claims_lines view claims) (resources_lines (resource_names view) (capital_of view) claims)
-          (last_line (resource_names view) found);
+      order = order;
+      ordered = ordered;
+      text = four ∙ ap (λ (t : List ℕ). t ++ order_line (map (λ (r : Resource A). r.name.items) last) order) so_far
+          ∙ ap (λ (n : List Name). (claims_lines view claims ++ (resources_lines (resource_names view) (capital_of view) claims
+          ++ last_line (resource_names view) found)) ++ order_line n order) (names last below)
+          ∙ append_assoc (claims_lines view claims) (resources_lines (resource_names view) (capital_of view) claims
+          ++ last_line (resource_names view) found) (order_line (resource_names view) order)
+          ∙ ap (λ (t : List ℕ). claims_lines view claims ++ t)
+          (append_assoc (resources_lines (resource_names view) (capital_of view) claims) (last_line (resource_names view) found)
+          (order_line (resource_names view) order));
     }
 
 -- what is said of the text of a program that was planned

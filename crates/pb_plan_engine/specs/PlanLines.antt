@@ -11,6 +11,8 @@ use Rattle.pb_claims.specs.declared.over_capital.OverCapital.{OverCapital}
 use Rattle.pb_names.specs.Program.{Block, Skip, Name, Program, capital_of}
 use Rattle.pb_names.specs.Resolves.{process_names, resource_names}
 use Rattle.pb_plan.specs.Needs.{AllFree, IsBottleneck, free_capital, least_capital}
+use Rattle.pb_plan.specs.Nests.{IsOrder}
+use Rattle.pb_plan.specs.Orders.{IsFollowed}
 use Rattle.pb_plan.specs.Parts.{parts}
 use Rattle.pb_plan.specs.declared.part.Part.{Part}
 use Rattle.pb_codegen.specs.Numbered.{IsReadAs}
@@ -65,11 +67,21 @@ abbrev pub last_line : List Name → Option ℕ → List ℕ
 last_line resources None = line (codes "no request waits")
 last_line resources (Some r) = line (codes "bottleneck " ++ resource_name resources r)
 
+-- the line of an order: its resources, or that there is none
+abbrev pub order_line : List Name → Option (List ℕ) → List ℕ
+order_line resources None = line (codes "no order")
+order_line resources (Some order) = line (codes "order" ++ flat_map (λ r. codes " " ++ resource_name resources r) order)
+
 -- the whole text
-abbrev pub plan_text : Program → Table → Option ℕ → List ℕ
-plan_text program claims found =
+abbrev pub plan_text : Program → Table → Option ℕ → Option (List ℕ) → List ℕ
+plan_text program claims found order =
     claims_lines program claims ++ (resources_lines (resource_names program) (capital_of program) claims
-    ++ last_line (resource_names program) found)
+    ++ (last_line (resource_names program) found ++ order_line (resource_names program) order))
+
+-- an order of all resources that each process follows: inside a hold it asks only for later ones
+pub record IsOrderOf (program : Program) (order : List ℕ) : Type 0 where
+  pub all : IsOrder (length program.resources) order
+  pub followed : IsFollowed order program.processes
 
 -- the status tells whether the capital is enough for every claim
 pub data HasStatus (program : Program) (claims : Table) : Status → Type 0 where
@@ -80,7 +92,9 @@ pub data HasStatus (program : Program) (claims : Table) : Status → Type 0 wher
 pub record IsPlan (program : Program) (claims : Table) (said : List ℕ) : Type 0 where
   pub found : Option ℕ
   pub bottleneck : MatchOption found (AllFree claims (capital_of program)) (IsBottleneck claims (capital_of program))
-  pub text : said ≡ plan_text program claims found
+  pub order : Option (List ℕ)
+  pub ordered : MatchOption order ((other : List ℕ) → ¬ IsFollowed other program.processes) (IsOrderOf program)
+  pub text : said ≡ plan_text program claims found order
 
 -- what is said of a text: it spells no program; or it spells one, and that is planned, whatever its capital
 pub data SaysOfPlan (text : List ℕ) : List ℕ → Status → Type 0 where

@@ -1,11 +1,12 @@
 //! The lines of a plan.
 
-ghost use Rattle.std.specs.Prelude.{◌≡◌, ◌<◌, ◌≤◌, ◌++◌, ℕ, OnOk, IfSome, length, map};
+ghost use Rattle.std.specs.Prelude.{◌≡◌, ◌<◌, ◌≤◌, ◌++◌, ℕ, All, OnOk, IfSome, codes, length, map, option_map};
+ghost use Rattle.std.specs.List.{flat_map};
 ghost use Rattle.pb_base.specs.Banker.{row_of};
 ghost use Rattle.pb_base.specs.Tables.{width_of};
 ghost use Rattle.pb_names.specs.View.{block_view};
-ghost use Rattle.pb_plan_engine.specs.PlanLines.{claim_line, last_line, lines_text, numbers_text, plan_lines_of, resource_line};
-ghost use Rattle.pb_plan_engine.specs.PlanLines.{resource_name, resources_lines};
+ghost use Rattle.pb_plan_engine.specs.PlanLines.{claim_line, last_line, lines_text, numbers_text, order_line, plan_lines_of};
+ghost use Rattle.pb_plan_engine.specs.PlanLines.{resource_line, resource_name, resources_lines};
 
 use pb_base::writing::{put, put_name, put_number};
 use pb_base::{Capital, Claims, NoMemory};
@@ -134,5 +135,39 @@ pub(crate) fn put_last<A: Allocator>(
         return put(text, b"no request waits\n");
     };
     put_name(text, b"bottleneck ", name_of(resources, r))?;
+    put(text, b"\n")
+}
+
+/// Appends the names of the resources of an order to a text, each behind a blank.
+fn put_names<A: Allocator>(
+    text: &mut Vec<u8>,
+    resources: &[Resource<A>],
+    order: &[usize],
+) -> Result<(), NoMemory>
+    requires { All (λ r. r < length resources.now) order.now }
+    ensures { OnOk result (text.new.items ≡ text.old.items
+        ++ flat_map (λ r. codes " " ++ resource_name (map (λ r. r.name.items) resources.now) r) order.now) }
+{
+    for r in order {
+        put_name(text, b" ", name_of(resources, *r))?;
+    }
+    Ok(())
+}
+
+/// Appends the line of an order of the resources to a text, or that there is none.
+pub(crate) fn put_order<A: Allocator>(
+    text: &mut Vec<u8>,
+    resources: &[Resource<A>],
+    found: &Option<Vec<usize>>,
+) -> Result<(), NoMemory>
+    requires { IfSome found.now (λ order. All (λ r. r < length resources.now) order.items) }
+    ensures { OnOk result (text.new.items ≡ text.old.items
+        ++ order_line (map (λ r. r.name.items) resources.now) (option_map (λ order. order.items) found.now)) }
+{
+    let Some(order) = found else {
+        return put(text, b"no order\n");
+    };
+    put(text, b"order")?;
+    put_names(text, resources, order)?;
     put(text, b"\n")
 }

@@ -10,7 +10,7 @@ ghost use Rattle.pb_names.specs.View.{resolved_view};
 ghost use Rattle.pb_plan_engine.specs.PlanLines.{HasStatus, IsPlan, SaysOfPlan, claims_lines};
 ghost use Rattle.pb_base.specs.Tables.{width_of};
 
-use crate::lines::{put_last, put_process, put_resources};
+use crate::lines::{put_last, put_order, put_process, put_resources};
 use bumpalo::Bump;
 use pb_accept::accept::{Refusal, analyze_text};
 use pb_base::device::{Input, Output};
@@ -22,7 +22,7 @@ use pb_command_io::input::read_input;
 use pb_command_io::reply::{Reply, refused, tell};
 use pb_generator::capital_of;
 use pb_names::Resolved;
-use pb_plan::bottleneck;
+use pb_plan::{bottleneck, find_order};
 use std::alloc::{Allocator, Global};
 
 /// Appends the lines of all processes to a text.
@@ -76,6 +76,8 @@ fn plan_text<A: Allocator>(
     put_resources(&mut text, &program.resources, capital, claims)?;
     let found = bottleneck(claims, capital);
     put_last(&mut text, &program.resources, found)?;
+    let order = find_order(alloc, &program.processes, program.resources.len())?;
+    put_order(&mut text, &program.resources, &order)?;
     Ok(text)
 }
 
@@ -119,8 +121,9 @@ fn tell_plan<O: Output>(alloc: Global, text: &[u8], output: &mut O) -> Status
 /// Writes the plan of the text on the input: for each process and each resource, in the order in which they are
 /// declared, the claim and the lines of the holds that it comes from; for each resource its capital, the least
 /// capital with which the text is accepted, and the least with which there is enough for all claims at once; and
-/// at the end the resource of which most is lacking for that, or that no request waits. The status is `Refused` if
-/// some claim is over its capital. Of a text that is not a program the refusal line is written.
+/// then the resource of which most is lacking for that, or that no request waits; and at the end an order of the
+/// resources that all processes follow, if there is one. The status is `Refused` if some claim is over its capital. Of
+/// a text that is not a program the refusal line is written.
 ///
 /// Writes nothing after a failed read; after a failed write, a prefix of the reply has been written.
 pub fn plan_engine<I: Input, O: Output>(alloc: Global, input: &mut I, output: &mut O) -> Status

@@ -3,11 +3,27 @@
 use crate::examples::calls::{Call, Command, first_wrong};
 use pb_command_io::Status;
 use pb_example_texts::claims::{ARMS_ADD, BRANCHES, TOO_MUCH};
+use pb_example_texts::first::DEVICES;
 use pb_example_texts::plan::{ROOMY, WEEK};
 use std::test::Fail;
 
 #[rattlefmt::skip]
-const CALLS_1: [Call; 5] = [
+const CALLS_1: [Call; 6] = [
+    Call {
+        name: "devices_plan",
+        command: Command::Plan,
+        input: DEVICES,
+        status: Status::Done,
+        output: b"a claim 1 tape lines 7
+a claim 1 disk lines 7
+b claim 1 tape lines 11
+b claim 1 disk lines 11
+tape capital 1 least 1 free 2
+disk capital 1 least 1 free 2
+bottleneck tape
+no order
+",
+    },
     Call {
         name: "week_plan",
         command: Command::Plan,
@@ -20,6 +36,7 @@ sort claim 1 disk lines 16
 tape capital 4 least 3 free 5
 disk capital 2 least 1 free 2
 bottleneck tape
+order tape disk
 ",
     },
     Call {
@@ -34,6 +51,7 @@ sort claim 1 disk lines 16
 tape capital 5 least 3 free 5
 disk capital 2 least 1 free 2
 no request waits
+order tape disk
 ",
     },
     Call {
@@ -44,6 +62,7 @@ no request waits
         output: b"p claim 4 tape lines 7
 tape capital 5 least 4 free 4
 no request waits
+order tape
 ",
     },
     Call {
@@ -54,6 +73,7 @@ no request waits
         output: b"p claim 6 tape lines 5 7 8
 tape capital 6 least 6 free 6
 no request waits
+order tape
 ",
     },
     Call {
@@ -65,6 +85,7 @@ no request waits
 sort claim 5 tape lines 5 5
 tape capital 4 least 5 free 7
 bottleneck tape
+order tape
 ",
     },
 ];

@@ -1,9 +1,49 @@
+use Rattle.std.proofs.Common.{Vec, Global, ◌≡◌, ℕ, List, length, map, option_map, ap, subst, sym, arith}
+use Rattle.std.proofs.lemmas.List.{length-map}
+use Rattle.pb_names.specs.Program.{Process}
+use Rattle.pb_names.specs.View.{process_view, resolved_view, resource_view}
+use Rattle.pb_names.specs.declared.resolved.Process.{Process as GivenProcess}
+use Rattle.pb_names.specs.declared.resolved.Resource.{Resource}
+use Rattle.pb_plan.specs.Nests.{AskBelow}
+use Rattle.pb_plan_engine.proofs.OrderLemmas.{ask_below, found_below, is_ordered}
 use Rattle.pb_plan_engine.proofs.PlanLemmas.{is_plan}
 use Rattle.pb_plan_engine.proofs.plan.plan_text.Goals as goal
 
+pub find_order-requires : goal.find_order-requires
+find_order-requires g c =
+    let view = resolved_view c.args.program.now in
+    let is = c.requires.spelled.1 in
+    let seen = length-map c.args.program.now.resources.items resource_view in
+    let long = c.args.program.now.resources.ok.0 in
+    let told = c.len.ensures in
+    let many : length view.resources ≡ c.len.result = omega (arith, seen, long, told) in
+    let same : view.processes ≡ map process_view c.deref-3.result.now =
+    ap (λ (ps : List (GivenProcess _)). map process_view ps) (sym c.deref-3.ensures.value) in
+    subst (λ (n : ℕ). AskBelow n (map process_view c.deref-3.result.now)) many
+    (subst (λ (ps : List Process). AskBelow (length view.resources) ps) same (ask_below is.tree view is.numbered))
+
+pub put_order-requires : goal.put_order-requires
+put_order-requires g c =
+    let long = c.args.program.now.resources.ok.0 in
+    let told = c.len.ensures in
+    let all = ap (λ (rs : List (Resource _)). length rs) c.deref-4.ensures.value in
+    let many : c.len.result ≡ length c.deref-4.result.now = omega (arith, long, told, all) in
+    found_below (λ (o : Vec ℕ Global). o.items) c.in_ok-order.order c.len.result (length c.deref-4.result.now) many
+    c.in_ok-order.ensures.some
+
 pub returns : goal.returns
 returns g c =
-    is_plan c.args.program.now c.args.claims.now c.args.capital.now c.bottleneck-found.result c.new-text.result.items _ _ _
-    c.deref.result.now c.deref-2.result.now c.requires.capital c.bottleneck-found.ensures c.deref.ensures.value
-    c.deref-2.ensures.value c.new-text.ensures.items c.in_ok-put_processes.ensures c.in_ok-put_resources.ensures
-    c.in_ok-put_last.ensures
+    let view = resolved_view c.args.program.now in
+    let seen = length-map c.args.program.now.resources.items resource_view in
+    let long = c.args.program.now.resources.ok.0 in
+    let told = c.len.ensures in
+    let many : c.len.result ≡ length view.resources = omega (arith, seen, long, told) in
+    let same : map process_view c.deref-3.result.now ≡ view.processes =
+    ap (λ (ps : List (GivenProcess _)). map process_view ps) c.deref-3.ensures.value in
+    is_plan c.args.program.now c.args.claims.now c.args.capital.now c.bottleneck-found.result
+    (option_map (λ (o : Vec ℕ Global). o.items) c.in_ok-order.order) c.new-text.result.items _ _ _ _
+    c.deref.result.now c.deref-2.result.now c.deref-4.result.now c.requires.capital c.bottleneck-found.ensures
+    (is_ordered (λ (o : Vec ℕ Global). o.items) c.in_ok-order.order c.len.result (map process_view c.deref-3.result.now) view many same
+    c.in_ok-order.ensures.some c.in_ok-order.ensures.followed c.in_ok-order.ensures.none)
+    c.deref.ensures.value c.deref-2.ensures.value c.deref-4.ensures.value c.new-text.ensures.items c.in_ok-put_processes.ensures
+    c.in_ok-put_resources.ensures c.in_ok-put_last.ensures c.in_ok-put_order.ensures

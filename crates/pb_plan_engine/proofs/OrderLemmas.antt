@@ -1,0 +1,77 @@
+-- The holds of a program ask for its own resources.
+use Rattle.std.proofs.Common.{◌≡◌, ℕ, ◌<◌, List, [], ◌++◌, Option, Some, None, length, get_or, subst, sym, arith}
+use Rattle.std.specs.Prelude.{All, IfNone, IfSome, MatchOption, option_map}
+use Rattle.std.specs.List.{range_with_len}
+use Rattle.std.proofs.lemmas.List.{length-map}
+use Rattle.std.proofs.lemmas.List.Sorted.{All-permutation}
+use Rattle.std.proofs.lemmas.Option.{slice_get-get_or}
+use Rattle.pb_base.proofs.Groups.{range_below}
+use Rattle.pb_base.specs.Steppers.{Bundle}
+use Rattle.pb_names.proofs.Holds.{numbers_below, zip_at}
+use Rattle.pb_names.specs.Program.{Arms, Block, Name, Process, Program, Stmt}
+use Rattle.pb_names.specs.Resolves.{Resolves, ResolvesArms, ResolvesProcess, ResolvesStmt, ResolvesStmts, resource_names}
+use Rattle.pb_names.specs.Resolves.{arm_then, assign, hold, if_else, no_arm, no_stmt, parbegin, print, stmt_then, while_do}
+use Rattle.pb_tree.specs.Syntax.{ArmsSyntax, ProgramSyntax, StmtSyntax, StmtsSyntax}
+use Rattle.pb_plan.specs.Nests.{AskBelow, IsOrder}
+use Rattle.pb_plan.specs.Orders.{EachHold, EachHoldAmong, EachHoldOf, IsFollowed}
+use Rattle.pb_plan_engine.specs.PlanLines.{IsOrderOf}
+
+module _ (integers resources : List Name) where
+  abbrev Below : (around asked : Bundle) → Type 0
+  Below around asked = All (λ pair. pair.resource < length resources) asked
+
+  mutual
+    stmt_below : (around : Bundle) (s : StmtSyntax) (s' : Stmt) → ResolvesStmt integers resources s s' → EachHoldOf Below around s'
+    stmt_below around _ _ (assign line x i e e' number of) = tt
+    stmt_below around _ _ (print line e e' of) = tt
+    stmt_below around _ _ (if_else line e e' a b a' b' of one two) = (block_below around a a' one, block_below around b b' two)
+    stmt_below around _ _ (while_do line e e' body body' of inside) = block_below around body body' inside
+    stmt_below around _ _ (hold line demands bundle body body' pairs inside) =
+        (numbers_below resources demands bundle pairs.each, block_below (bundle ++ around) body body' inside)
+    stmt_below around _ _ (parbegin line first arms arms' few inside) = arms_below around arms arms' inside
+
+    block_below : (around : Bundle) (ss : StmtsSyntax) (block : Block) → ResolvesStmts integers resources ss block
+        → EachHold Below around block
+    block_below around _ _ no_stmt = tt
+    block_below around _ _ (stmt_then s s' ss block one rest) = (stmt_below around s s' one, block_below around ss block rest)
+
+    arms_below : (around : Bundle) (arms : ArmsSyntax) (arms' : Arms) → ResolvesArms integers resources arms arms'
+        → EachHoldAmong Below around arms'
+    arms_below around _ _ no_arm = tt
+    arms_below around _ _ (arm_then arm arm' arms arms' one rest) =
+        (block_below around arm arm' one, arms_below around arms arms' rest)
+
+-- the processes of a program ask only for its resources
+pub ask_below : (tree : ProgramSyntax) (program : Program) → Resolves tree program
+    → AskBelow (length program.resources) program.processes
+ask_below tree program is k d within =
+    let from = zip_at (ResolvesProcess (resource_names program)) tree.processes program.processes k (get_or program.processes k d)
+    is.processes (slice_get-get_or program.processes k d within) in
+    let process = get_or program.processes k d in
+    let below = block_below process.integers (resource_names program) [] from.0.body process.body from.2.body in
+    subst (λ (n : ℕ). EachHold (λ around asked. All (λ pair. pair.resource < n) asked) [] process.body)
+    (length-map program.resources (λ resource. resource.name)) below
+
+-- each resource of an order is one of these many
+pub order_below : (n : ℕ) (order : List ℕ) → IsOrder n order → All (λ r. r < n) order
+order_below n order is =
+    All-permutation (λ r. r < n) (range_with_len 0 n) order is
+    (λ k d within. let b = range_below 0 n k d within in omega (arith, b))
+
+-- an order that was found, if there is one, by what it has
+pub is_ordered : {X : Type 0} (items : X → List ℕ) (found : Option X) (n : ℕ) (processes : List Process) (program : Program)
+    → n ≡ length program.resources → processes ≡ program.processes → IfSome found (λ x. IsOrder n (items x))
+    → IfSome found (λ x. IsFollowed (items x) processes) → IfNone found ((other : List ℕ) → IsFollowed other processes → ⊥)
+    → MatchOption (option_map items found) ((other : List ℕ) → ¬ IsFollowed other program.processes) (IsOrderOf program)
+is_ordered items (Some x) n processes program many same is followed none = record {
+  all = subst (λ (k : ℕ). IsOrder k (items x)) many is;
+  followed = subst (IsFollowed (items x)) same followed;
+}
+is_ordered items None n processes program many same is followed none =
+    λ other of. none other (subst (IsFollowed other) (sym same) of)
+
+-- each resource of an order that was found is there
+pub found_below : {X : Type 0} (items : X → List ℕ) (found : Option X) (n m : ℕ) → n ≡ m → IfSome found (λ x. IsOrder n (items x))
+    → IfSome found (λ x. All (λ r. r < m) (items x))
+found_below items (Some x) n m same is = subst (λ (k : ℕ). All (λ r. r < k) (items x)) same (order_below n (items x) is)
+found_below items None n m same is = tt
