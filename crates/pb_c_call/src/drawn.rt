@@ -7,13 +7,13 @@ ghost use Rattle.pb_engines.specs.Records.{SaysOfRecord, SaysOfRecording};
 ghost use Rattle.pb_verifier.specs.Verified.{IsVerified};
 
 use pb_accept::accept::{compile_text, refuse};
+use pb_accept::run_text::{ended, too_long};
 use pb_base::device::{Input, Output};
 use pb_base::limits::{MAX_INPUT, MAX_PICKS};
 use pb_base::{Lending, NoMemory};
 use pb_command_io::Status;
 use pb_command_io::input::read_input;
 use pb_command_io::reply::{Reply, tell};
-use pb_accept::run_text::{ended, too_long};
 use pb_engines::record::drawn_run;
 use pb_picks::write_picks;
 use pb_verifier::Verified;

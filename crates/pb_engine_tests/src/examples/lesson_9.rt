@@ -85,7 +85,7 @@ order tape
 sort claim 5 tape lines 5 5
 tape capital 4 least 5 free 7
 bottleneck tape
-order tape
+no order
 ",
     },
 ];
