@@ -73,7 +73,7 @@ order tape
         output: b"p claim 6 tape lines 5 7 8
 tape capital 6 least 6 free 6
 no request waits
-order tape
+no order
 ",
     },
     Call {
