@@ -31,6 +31,7 @@ QUICK = (
     f"checks/usage.py {PROGRAM}",
     f"checks/check_formats.py {PROGRAM}",
     f"checks/terminal.py {PROGRAM}",
+    f"checks/adapter.py {PROGRAM}",
     "checks/rebuilds.py",
     f"checks/pictures.py {PROGRAM}",
     "checks/example_tests.py",
