@@ -57,7 +57,7 @@ def in_bytes(picks):
 def cases():
     """Returns the examples that are recorded, each with its module, its constant, its picks in bytes, and its parts."""
     examples = TOP / "examples"
-    for file in [*sorted(examples.glob("*.pb")), *sorted(examples.glob("[1-6]*/*.pb"))]:
+    for file in [*sorted(examples.glob("*.pb")), *sorted(examples.glob("[1-6]-*/*.pb"))]:
         text = file.read_bytes()
         picks = picks_of(text)
         if picks is not None:
