@@ -18,6 +18,8 @@ mod expected;
 #[cfg(test)]
 mod explore;
 #[cfg(test)]
+mod fair;
+#[cfg(test)]
 mod graph;
 #[cfg(test)]
 mod live;
