@@ -23,24 +23,26 @@ LONGEST = 200_000
 EXACT = 2**53 - 1
 NAME, NUMBER, PAIRS = "[A-Za-z][A-Za-z0-9_]*", "-?(?:0|[1-9][0-9]*)", r"(?P<amounts>(?: [1-9][0-9]* [A-Za-z][A-Za-z0-9_]*)+)"
 # The pattern of each line, as docs/FORMATS.md writes it, with what its object has at first. A word in angle brackets is the
-# key of a name or a number.
+# key of a name or a number. First those of the parts of an outcome or a deadlock.
+PARTS: list[tuple[str, dict[str, Any]]] = [
+    ("<process> ended", {"kind": "ended"}), ("<process> faulted", {"kind": "faulted"}), ("<process> waits", {"kind": "waits"}),
+    ("<process>.<integer> <value>", {"kind": "integer"}), ("printed", {"kind": "printed"}), ("<process>.<arm> print <value>", {"kind": "print"}),
+    ("<process> holds <amount> <resource>", {"kind": "holds"}), ("<process>.<arm> asks<amounts>", {"kind": "asks"}),
+    ("reached by", {"kind": "reached by"}), ("<process>.<arm> <count>", {"kind": "picks"}),
+]
 LINES: list[tuple[str, dict[str, Any]]] = [
     ("<process>.<arm> grant<amounts>", {"kind": "grant"}), ("<process>.<arm> return<amounts>", {"kind": "return"}),
     ("<process>.<arm> print <value>", {"kind": "print"}), ("<process>.<arm> fault <fault>", {"kind": "fault"}),
-    ("<process> end", {"kind": "end"}), ("done", {"kind": "done"}), ("open", {"kind": "open"}), ("deadlock", {"kind": "stuck"}),
+    ("<process> end", {"kind": "end"}), ("done", {"kind": "done"}), ("open", {"kind": "open"}), ("deadlock", {"kind": "deadlocked"}),
     ("limit <limit>", {"kind": "limit"}), ("memory", {"kind": "memory"}), ("threads", {"kind": "threads"}), ("ok", {"kind": "ok"}),
-    ("refused <code>", {"kind": "refused"}), ("refused <code> at <at>", {"kind": "refused"}),
-    ("refused <code> <process> <resource> claim <claim> capital <capital>", {"kind": "refused"}),
-    ("refused <code> <text>", {"kind": "refused"}),
     ("<process> claim <claim> <resource>", {"kind": "claim"}), ("<process> claim <claim> <resource> lines<lines>", {"kind": "claim"}),
     ("<resource> capital <capital> least <least> free <free>", {"kind": "resource"}),
     ("bottleneck <resource>", {"kind": "bottleneck"}), ("no request waits", {"kind": "no request waits"}),
-    ("order <text>", {"kind": "order"}), ("no order", {"kind": "no order"}),
+    ("order", {"kind": "order", "text": ""}), ("order <text>", {"kind": "order"}), ("no order", {"kind": "no order"}),
+    ("refused <code>", {"kind": "refused"}), ("refused <code> at <at>", {"kind": "refused"}),
+    ("refused <code> <process> <resource> claim <claim> capital <capital>", {"kind": "refused"}),
+    ("refused <code> <text>", {"kind": "refused"}),
     ("outcome <number>", {"kind": "outcome"}), ("deadlock <number>", {"kind": "deadlock"}),
-    ("<process> ended", {"kind": "ended"}), ("<process> faulted", {"kind": "faulted"}), ("<process> waits", {"kind": "waits"}),
-    ("<process>.<integer> <value>", {"kind": "integer"}), ("printed", {"kind": "printed"}), ("reached by", {"kind": "reached by"}),
-    ("<process> holds <amount> <resource>", {"kind": "holds"}), ("<process>.<arm> asks<amounts>", {"kind": "asks"}),
-    ("<process>.<arm> <count>", {"kind": "picks"}),
     ("<outcomes> outcomes?", {"kind": "outcomes", "deadlocks": 0, "endless": False}),
     ("<outcomes> outcomes?, some runs do not end", {"kind": "outcomes", "deadlocks": 0, "endless": True}),
     ("<outcomes> outcomes?, <deadlocks> deadlocks?", {"kind": "outcomes", "endless": False}),
@@ -56,7 +58,6 @@ LISTS = {
     "processes": ("ended", "faulted", "waits"), "integers": ("integer",), "holds": ("holds",), "asks": ("asks",), "prints": ("print",),
     "picks": ("picks",),
 }
-PARTS = {kind for kinds in LISTS.values() for kind in kinds} | {"printed", "reached by"}
 NAMES = ("process", "resource", "integer", "code", "fault")
 VALUES = {"amounts": PAIRS, "lines": r"(?P<lines>(?: [1-9][0-9]*)+)", "text": "(?P<text>.*)"}
 
@@ -70,7 +71,7 @@ def compiled(pattern: str) -> re.Pattern[str]:
     return re.compile(re.sub("<([a-z]+)>", group, pattern.replace(".<", r"\.<")))
 
 
-FORMS = [(compiled(pattern), first) for pattern, first in LINES]
+FORMS, FORMS_OF_PARTS = ([(compiled(pattern), first) for pattern, first in lines] for lines in (LINES, PARTS))
 
 
 def value_of(key: str, said: str) -> Any:
@@ -85,29 +86,28 @@ def value_of(key: str, said: str) -> Any:
     return int(said) if abs(int(said)) <= EXACT else said
 
 
-def object_of(line: str) -> dict[str, Any]:
-    """Returns the object of a line: that of the first pattern that it is of."""
-    for form, first in FORMS:
+def object_of(line: str, forms: list[tuple[re.Pattern[str], dict[str, Any]]]) -> dict[str, Any] | None:
+    """Returns the object of a line: that of the first form that it is of."""
+    for form, first in forms:
         if match := form.fullmatch(line):
             return first | {key: value_of(key, said) for key, said in match.groupdict().items()}
-    raise ValueError(line)
+    return None
 
 
 def objects_of(text: str) -> list[dict[str, Any]]:
     """Returns the objects of a text: one for an outcome or a deadlock with the lines that belong to it."""
     made: list[dict[str, Any]] = []
     within = False
-    for it in map(object_of, text.splitlines()):
-        if it["kind"] in ("outcome", "deadlock"):
-            made.append(it | {key: [] for key in LISTS})
-            within = True
-        elif within and it["kind"] in PARTS:
+    for line in text.splitlines():
+        if within and (part := object_of(line, FORMS_OF_PARTS)):
             for key, kinds in LISTS.items():
-                if it["kind"] in kinds:
-                    made[-1][key].append(it)
-        else:
-            made.append(it)
-            within = False
+                if part["kind"] in kinds:
+                    made[-1][key].append(part)
+            continue
+        it = object_of(line, FORMS)
+        assert it is not None, line
+        within = it["kind"] in ("outcome", "deadlock")
+        made.append(it | {key: [] for key in LISTS} if within else it)
     return made
 
 
@@ -170,6 +170,12 @@ def calls() -> list[tuple[list[str], bytes]]:
             made.append((words, file.read_bytes()))
     claim = b"resource tape = 1; process p begin hold 1 of tape do hold 1 of tape do skip od od end\n"
     great = b"process p begin integer x; x := 9007199254740992; print x; print x - 1; print 0 - x; x := 1 div 0 end\n"
+    names = (b"resource order = 1; resource refused = 2; process order begin integer x; hold 1 of order do print 1 od end\n"
+             b"process bottleneck begin integer x; hold 1 of refused do x := 1 div 0 od end process refused begin skip end\n")
+    nothing = b"process refused begin print 1 end\n"
+    for given in (names, nothing):
+        for words in (["run"], ["claims"], ["plan"], ["outcomes"], ["outcomes", "--prints"], ["outcomes", "--lend", "cash"]):
+            made.append((words, given))
     for words, given in ((["run"], claim), (["check"], claim + b"%%\nprocess p begin print y end\n%%\n" + great), (["run"], great),
                          (["outcomes"], great), (["run", "--steps", "3"], great), (["outcomes", "--run", "7"], great)):
         made.append((words, given))

@@ -1,6 +1,6 @@
 -- The lines of a text, one after another, and objects of them.
-use Rattle.std.proofs.Common.{◌≡◌, ℕ, suc, ◌+◌, ◌-◌, ◌<◌, ◌≤◌, ◌++◌, eqb, Bool, true, false, not, cond, List, [], ◌∷◌, length, take, drop}
-use Rattle.std.proofs.Common.{Option, Some, None, refl, sym, ap, ◌∙◌, arith, map, get_or}
+use Rattle.std.proofs.Common.{◌≡◌, ℕ, suc, ◌+◌, ◌-◌, ◌<◌, ◌≤◌, eqb, Bool, true, false, not, cond, List, [], ◌∷◌, length, take, drop}
+use Rattle.std.proofs.Common.{Some, None, refl, sym, ap, ◌∙◌, arith, map, get_or}
 use Rattle.std.specs.Borrow.{Bor}
 use Rattle.std.specs.Prelude.{nat_lt}
 use Rattle.std.specs.List.{position, position_or_len, prefix_len}
@@ -74,14 +74,14 @@ is_all text some found =
 abbrev texts : List (Bor (List ℕ)) → List (List ℕ)
 texts lines = map (λ l. l.now) lines
 
-pub parts_end : (lines : List (Bor (List ℕ))) (i : ℕ) (d : Bor (List ℕ)) → i < length lines → is_part (get_or lines i d).now ≡ false
-    → prefix_len is_part (texts lines) ≡ i + prefix_len is_part (texts (drop i lines)) → texts (take i lines) ≡ parts_of (texts lines)
+pub parts_end : (lines : List (Bor (List ℕ))) (i : ℕ) (d : Bor (List ℕ)) → i < length lines → is_part true (get_or lines i d).now ≡ false
+    → prefix_len (is_part true) (texts lines) ≡ i + prefix_len (is_part true) (texts (drop i lines)) → texts (take i lines) ≡ parts_of (texts lines)
 parts_end lines i d lt ends rest =
     let next : suc i ≡ i + 1 = omega arith in
     let behind_it = texts (drop (i + 1) lines) in
     let here : drop i lines ≡ get_or lines i d ∷ drop (i + 1) lines = drop-cons lines i d lt ∙ ap (λ k. get_or lines i d ∷ drop k lines) next in
-    let none : prefix_len is_part (texts (drop i lines)) ≡ 0 =
-    ap (λ (ls : List (Bor (List ℕ))). prefix_len is_part (texts ls)) here
-    ∙ ap (λ t. cond t (1 + prefix_len is_part behind_it) 0) ends in
-    let all : prefix_len is_part (texts lines) ≡ i = omega (arith, rest, none) in
+    let none : prefix_len (is_part true) (texts (drop i lines)) ≡ 0 =
+    ap (λ (ls : List (Bor (List ℕ))). prefix_len (is_part true) (texts ls)) here
+    ∙ ap (λ t. cond t (1 + prefix_len (is_part true) behind_it) 0) ends in
+    let all : prefix_len (is_part true) (texts lines) ≡ i = omega (arith, rest, none) in
     sym (take-map (λ (l : Bor (List ℕ)). l.now) i lines) ∙ ap (λ k. take k (texts lines)) (sym all)

@@ -1,5 +1,5 @@
 -- The forms of lines: for each what the line is, the first members of its object, and its pattern.
-use Rattle.std.specs.Prelude.{ℕ, List, [], ◌∷◌, ◌++◌, codes, Option, Some, None}
+use Rattle.std.specs.Prelude.{ℕ, Bool, cond, List, [], ◌∷◌, ◌++◌, codes, Option, Some, None}
 use Rattle.std.specs.List.{find}
 use Rattle.pb_json_lines.specs.Patterns.{fits, members}
 use Rattle.pb_json_lines.specs.declared.form.Form.{Form}
@@ -26,43 +26,50 @@ abbrev pub form_with : List ℕ → List ℕ → List ℕ → PlainForm
 form_with kind more pattern =
     record { section = Alone; first = codes "\"kind\":\"" ++ kind ++ codes "\"," ++ more; pattern = pattern }
 
--- all forms but the last, in the order in which they are tried
+-- the forms of the lines that belong to an outcome or a deadlock. Of the others none looks like one of these
+unfoldable pub parts : List PlainForm
+parts =
+    form Processes (codes "ended") (codes "P ended")
+    ∷ form Processes (codes "faulted") (codes "P faulted")
+    ∷ form Processes (codes "waits") (codes "P waits")
+    ∷ form Integers (codes "integer") (codes "P.X V")
+    ∷ form Heading (codes "printed") (codes "printed")
+    ∷ form Prints (codes "print") (codes "P.A print V")
+    ∷ form Holds (codes "holds") (codes "P holds M R")
+    ∷ form Asks (codes "asks") (codes "P.A asksB")
+    ∷ form Heading (codes "reached by") (codes "reached by")
+    ∷ form Picks (codes "picks") (codes "P.A Q")
+    ∷ []
+
+-- all other forms but the last, in the order in which they are tried
 unfoldable pub forms : List PlainForm
 forms =
     form Alone (codes "grant") (codes "P.A grantB")
     ∷ form Alone (codes "return") (codes "P.A returnB")
-    ∷ form Prints (codes "print") (codes "P.A print V")
+    ∷ form Alone (codes "print") (codes "P.A print V")
     ∷ form Alone (codes "fault") (codes "P.A fault F")
     ∷ form Alone (codes "end") (codes "P end")
     ∷ form Alone (codes "done") (codes "done")
     ∷ form Alone (codes "open") (codes "open")
-    ∷ form Alone (codes "stuck") (codes "deadlock")
+    ∷ form Alone (codes "deadlocked") (codes "deadlock")
     ∷ form Alone (codes "limit") (codes "limit S")
     ∷ form Alone (codes "memory") (codes "memory")
     ∷ form Alone (codes "threads") (codes "threads")
     ∷ form Alone (codes "ok") (codes "ok")
-    ∷ form Alone (codes "refused") (codes "refused C")
-    ∷ form Alone (codes "refused") (codes "refused C at I")
-    ∷ form Alone (codes "refused") (codes "refused C P R claim K capital G")
-    ∷ form Alone (codes "refused") (codes "refused C W")
     ∷ form Alone (codes "claim") (codes "P claim K R")
     ∷ form Alone (codes "claim") (codes "P claim K R linesH")
     ∷ form Alone (codes "resource") (codes "R capital G least L free E")
     ∷ form Alone (codes "bottleneck") (codes "bottleneck R")
     ∷ form Alone (codes "no request waits") (codes "no request waits")
+    ∷ form_with (codes "order") (codes "\"text\":\"\"") (codes "order")
     ∷ form Alone (codes "order") (codes "order W")
     ∷ form Alone (codes "no order") (codes "no order")
+    ∷ form Alone (codes "refused") (codes "refused C")
+    ∷ form Alone (codes "refused") (codes "refused C at I")
+    ∷ form Alone (codes "refused") (codes "refused C P R claim K capital G")
+    ∷ form Alone (codes "refused") (codes "refused C W")
     ∷ form Opens (codes "outcome") (codes "outcome N")
     ∷ form Opens (codes "deadlock") (codes "deadlock N")
-    ∷ form Processes (codes "ended") (codes "P ended")
-    ∷ form Processes (codes "faulted") (codes "P faulted")
-    ∷ form Processes (codes "waits") (codes "P waits")
-    ∷ form Integers (codes "integer") (codes "P.X V")
-    ∷ form Heading (codes "printed") (codes "printed")
-    ∷ form Holds (codes "holds") (codes "P holds M R")
-    ∷ form Asks (codes "asks") (codes "P.A asksB")
-    ∷ form Heading (codes "reached by") (codes "reached by")
-    ∷ form Picks (codes "picks") (codes "P.A Q")
     ∷ form_with (codes "outcomes") (codes "\"deadlocks\":0,\"endless\":false") (codes "O outcomeZ")
     ∷ form_with (codes "outcomes") (codes "\"deadlocks\":0,\"endless\":true") (codes "O outcomeZ, some runs do not end")
     ∷ form_with (codes "outcomes") (codes "\"endless\":false") (codes "O outcomeZ, D deadlockZ")
@@ -82,17 +89,22 @@ forms =
 abbrev pub other : PlainForm
 other = form Alone (codes "line") (codes "W")
 
-abbrev pub or_other : Option PlainForm → PlainForm
-or_other None = other
-or_other (Some f) = f
+-- the first of these forms that a line fits, or another one
+abbrev pub or_else : PlainForm → Option PlainForm → PlainForm
+or_else otherwise None = otherwise
+or_else otherwise (Some f) = f
 
--- the form of a line: the first that it fits
-unfoldable pub form_of : List ℕ → PlainForm
-form_of line = or_other (find (λ f. fits f.pattern line) forms)
+abbrev pub first_of : List PlainForm → (otherwise : PlainForm) → List ℕ → PlainForm
+first_of fs otherwise line = or_else otherwise (find (λ f. fits f.pattern line) fs)
+
+-- the form of a line. Behind the line of an outcome or a deadlock the forms of its parts come first, and elsewhere
+-- no line is of one of them
+unfoldable pub form_of : (is_open : Bool) → List ℕ → PlainForm
+form_of is_open line = cond is_open (first_of parts (first_of forms other line) line) (first_of forms other line)
 
 -- what the object of a line says
 unfoldable pub said_by : PlainForm → List ℕ → List ℕ
 said_by f line = f.first ++ members f.pattern line
 
-abbrev pub section_of : List ℕ → Section
-section_of line = (form_of line).section
+abbrev pub section_of : (is_open : Bool) → List ℕ → Section
+section_of is_open line = (form_of is_open line).section

@@ -1,5 +1,5 @@
 -- A text in JSON lines: an object for each line, and one for each outcome and deadlock with the lines that belong to it.
-use Rattle.std.specs.Prelude.{ℕ, Bool, true, false, cond, ◌&&◌, ◌||◌, ◌==◌, ◌+◌, List, [], ◌∷◌, ◌++◌, take, codes}
+use Rattle.std.specs.Prelude.{ℕ, Bool, true, false, cond, ◌||◌, ◌==◌, ◌+◌, List, [], ◌∷◌, ◌++◌, take, codes}
 use Rattle.std.specs.List.{prefix_len}
 use Rattle.pb_base.specs.Lines.{line}
 use Rattle.pb_json.specs.Values.{comma}
@@ -18,9 +18,9 @@ abbrev pub lines_of : List ℕ → List (List ℕ)
 lines_of [] = []
 lines_of (b ∷ bytes) = cond (b == 10) ([] ∷ lines_of bytes) (onto b (lines_of bytes))
 
--- the object of a line
-unfoldable pub object_of : List ℕ → List ℕ
-object_of text = codes "{" ++ said_by (form_of text) text ++ codes "}"
+-- the object of a line: `is_open` says that the line before it is that of an outcome or a deadlock, or belongs to one
+unfoldable pub object_of : (is_open : Bool) → List ℕ → List ℕ
+object_of is_open text = codes "{" ++ said_by (form_of is_open text) text ++ codes "}"
 
 -- the line is that of an outcome or a deadlock, with its number
 abbrev pub is_opening : Section → Bool
@@ -34,7 +34,7 @@ is_opening Holds = false
 is_opening Asks = false
 is_opening Picks = false
 
--- the line may belong to the outcome or the deadlock before it
+-- the line belongs to the outcome or the deadlock before it
 abbrev pub is_inner : Section → Bool
 is_inner Opens = false
 is_inner Alone = false
@@ -46,11 +46,11 @@ is_inner Holds = true
 is_inner Asks = true
 is_inner Picks = true
 
-abbrev pub opens : List ℕ → Bool
-opens text = is_opening (section_of text)
+abbrev pub opens : (is_open : Bool) → List ℕ → Bool
+opens is_open text = is_opening (section_of is_open text)
 
-abbrev pub is_part : List ℕ → Bool
-is_part text = is_inner (section_of text)
+abbrev pub is_part : (is_open : Bool) → List ℕ → Bool
+is_part is_open text = is_inner (section_of is_open text)
 
 -- the number of a section in the order in which an object has them
 abbrev pub place_of : Section → ℕ
@@ -65,13 +65,13 @@ place_of Prints = 7
 place_of Picks = 8
 
 abbrev pub is_of : Section → List ℕ → Bool
-is_of section text = place_of (section_of text) == place_of section
+is_of section text = place_of (section_of true text) == place_of section
 
--- the objects of those lines that are of a section, behind n others, with commas between them
+-- the objects of those parts that are of a section, behind n others, with commas between them
 abbrev pub items : Section → (n : ℕ) → List (List ℕ) → List ℕ
 items section n [] = []
 items section n (text ∷ lines) =
-    cond (is_of section text) (comma n ++ object_of text) [] ++ items section (n + cond (is_of section text) 1 0) lines
+    cond (is_of section text) (comma n ++ object_of true text) [] ++ items section (n + cond (is_of section text) 1 0) lines
 
 -- a member with the objects of the lines that are of a section
 abbrev pub list_of : List ℕ → Section → List (List ℕ) → List ℕ
@@ -79,7 +79,7 @@ list_of key section lines = codes ",\"" ++ key ++ codes "\":[" ++ items section 
 
 -- the first lines, which belong to the outcome or the deadlock before them
 abbrev pub parts_of : List (List ℕ) → List (List ℕ)
-parts_of lines = take (prefix_len is_part lines) lines
+parts_of lines = take (prefix_len (is_part true) lines) lines
 
 -- the object of an outcome or a deadlock: its line, and a list for each kind of the lines that belong to it
 unfoldable pub lists_of : List (List ℕ) → List ℕ
@@ -88,21 +88,19 @@ lists_of lines =
     ++ list_of (codes "holds") Holds lines ++ list_of (codes "asks") Asks lines
     ++ list_of (codes "prints") Prints lines ++ list_of (codes "picks") Picks lines
 
-unfoldable pub block_of : List ℕ → List (List ℕ) → List ℕ
-block_of first lines = codes "{" ++ said_by (form_of first) first ++ lists_of (parts_of lines) ++ codes "}"
+unfoldable pub block_of : (is_open : Bool) → List ℕ → List (List ℕ) → List ℕ
+block_of is_open first lines = codes "{" ++ said_by (form_of is_open first) first ++ lists_of (parts_of lines) ++ codes "}"
 
--- a line belongs to an outcome or a deadlock: `open` says that the line before it is one, or belongs to one
-abbrev pub stays : (is_open : Bool) → List ℕ → Bool
-stays is_open text = is_open && is_part text
-
--- what is written for a line, by whether it belongs to what is before it, and by the lines behind it
+-- what is written for a line, by the lines behind it: nothing, if it belongs to what is before it
 abbrev pub said_of : (is_open : Bool) → List ℕ → List (List ℕ) → List ℕ
 said_of is_open text lines =
-    cond (opens text) (line (block_of text lines)) (cond (stays is_open text) [] (line (object_of text)))
+    cond (opens is_open text) (line (block_of is_open text lines))
+    (cond (is_part is_open text) [] (line (object_of is_open text)))
 
 abbrev pub objects : (is_open : Bool) → List (List ℕ) → List ℕ
 objects is_open [] = []
-objects is_open (text ∷ lines) = said_of is_open text lines ++ objects (opens text || stays is_open text) lines
+objects is_open (text ∷ lines) =
+    said_of is_open text lines ++ objects (opens is_open text || is_part is_open text) lines
 
 -- the JSON lines of a text
 unfoldable pub json_lines : List ℕ → List ℕ

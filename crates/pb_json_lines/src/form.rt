@@ -38,8 +38,62 @@ pub struct Form {
     pub pattern: &'static str,
 }
 
-// All forms but the last, in the order in which they are tried.
-static FORMS: [Form; 47] = [
+// The forms of the lines that belong to an outcome or a deadlock.
+static PARTS: [Form; 10] = [
+    Form {
+        section: Section::Processes,
+        first: "\"kind\":\"ended\"",
+        pattern: "P ended",
+    },
+    Form {
+        section: Section::Processes,
+        first: "\"kind\":\"faulted\"",
+        pattern: "P faulted",
+    },
+    Form {
+        section: Section::Processes,
+        first: "\"kind\":\"waits\"",
+        pattern: "P waits",
+    },
+    Form {
+        section: Section::Integers,
+        first: "\"kind\":\"integer\"",
+        pattern: "P.X V",
+    },
+    Form {
+        section: Section::Heading,
+        first: "\"kind\":\"printed\"",
+        pattern: "printed",
+    },
+    Form {
+        section: Section::Prints,
+        first: "\"kind\":\"print\"",
+        pattern: "P.A print V",
+    },
+    Form {
+        section: Section::Holds,
+        first: "\"kind\":\"holds\"",
+        pattern: "P holds M R",
+    },
+    Form {
+        section: Section::Asks,
+        first: "\"kind\":\"asks\"",
+        pattern: "P.A asksB",
+    },
+    Form {
+        section: Section::Heading,
+        first: "\"kind\":\"reached by\"",
+        pattern: "reached by",
+    },
+    Form {
+        section: Section::Picks,
+        first: "\"kind\":\"picks\"",
+        pattern: "P.A Q",
+    },
+];
+
+// All other forms but the last, in the order in which they are tried.
+static FORMS: [Form; 39] = [
     Form {
         section: Section::Alone,
         first: "\"kind\":\"grant\"",
@@ -51,7 +105,7 @@ static FORMS: [Form; 47] = [
         pattern: "P.A returnB",
     },
     Form {
-        section: Section::Prints,
+        section: Section::Alone,
         first: "\"kind\":\"print\"",
         pattern: "P.A print V",
     },
@@ -77,7 +131,7 @@ static FORMS: [Form; 47] = [
     },
     Form {
         section: Section::Alone,
-        first: "\"kind\":\"stuck\"",
+        first: "\"kind\":\"deadlocked\"",
         pattern: "deadlock",
     },
     Form {
@@ -99,26 +153,6 @@ static FORMS: [Form; 47] = [
         section: Section::Alone,
         first: "\"kind\":\"ok\"",
         pattern: "ok",
-    },
-    Form {
-        section: Section::Alone,
-        first: "\"kind\":\"refused\"",
-        pattern: "refused C",
-    },
-    Form {
-        section: Section::Alone,
-        first: "\"kind\":\"refused\"",
-        pattern: "refused C at I",
-    },
-    Form {
-        section: Section::Alone,
-        first: "\"kind\":\"refused\"",
-        pattern: "refused C P R claim K capital G",
-    },
-    Form {
-        section: Section::Alone,
-        first: "\"kind\":\"refused\"",
-        pattern: "refused C W",
     },
     Form {
         section: Section::Alone,
@@ -147,6 +181,11 @@ static FORMS: [Form; 47] = [
     },
     Form {
         section: Section::Alone,
+        first: "\"kind\":\"order\",\"text\":\"\"",
+        pattern: "order",
+    },
+    Form {
+        section: Section::Alone,
         first: "\"kind\":\"order\"",
         pattern: "order W",
     },
@@ -154,6 +193,26 @@ static FORMS: [Form; 47] = [
         section: Section::Alone,
         first: "\"kind\":\"no order\"",
         pattern: "no order",
+    },
+    Form {
+        section: Section::Alone,
+        first: "\"kind\":\"refused\"",
+        pattern: "refused C",
+    },
+    Form {
+        section: Section::Alone,
+        first: "\"kind\":\"refused\"",
+        pattern: "refused C at I",
+    },
+    Form {
+        section: Section::Alone,
+        first: "\"kind\":\"refused\"",
+        pattern: "refused C P R claim K capital G",
+    },
+    Form {
+        section: Section::Alone,
+        first: "\"kind\":\"refused\"",
+        pattern: "refused C W",
     },
     Form {
         section: Section::Opens,
@@ -164,51 +223,6 @@ static FORMS: [Form; 47] = [
         section: Section::Opens,
         first: "\"kind\":\"deadlock\"",
         pattern: "deadlock N",
-    },
-    Form {
-        section: Section::Processes,
-        first: "\"kind\":\"ended\"",
-        pattern: "P ended",
-    },
-    Form {
-        section: Section::Processes,
-        first: "\"kind\":\"faulted\"",
-        pattern: "P faulted",
-    },
-    Form {
-        section: Section::Processes,
-        first: "\"kind\":\"waits\"",
-        pattern: "P waits",
-    },
-    Form {
-        section: Section::Integers,
-        first: "\"kind\":\"integer\"",
-        pattern: "P.X V",
-    },
-    Form {
-        section: Section::Heading,
-        first: "\"kind\":\"printed\"",
-        pattern: "printed",
-    },
-    Form {
-        section: Section::Holds,
-        first: "\"kind\":\"holds\"",
-        pattern: "P holds M R",
-    },
-    Form {
-        section: Section::Asks,
-        first: "\"kind\":\"asks\"",
-        pattern: "P.A asksB",
-    },
-    Form {
-        section: Section::Heading,
-        first: "\"kind\":\"reached by\"",
-        pattern: "reached by",
-    },
-    Form {
-        section: Section::Picks,
-        first: "\"kind\":\"picks\"",
-        pattern: "P.A Q",
     },
     Form {
         section: Section::Alone,
@@ -284,7 +298,14 @@ static OTHER: Form = Form {
     pattern: "W",
 };
 
-// Returns the forms.
+// Returns the forms of the lines that belong to an outcome or a deadlock.
+fn parts() -> &'static [Form]
+    ensures { map spec.plain_form result.now ≡ spec.parts }
+{
+    &PARTS
+}
+
+// Returns the other forms.
 fn forms() -> &'static [Form]
     ensures { map spec.plain_form result.now ≡ spec.forms }
 {
@@ -298,15 +319,26 @@ fn other() -> &'static Form
     &OTHER
 }
 
-/// Returns the form of a line.
-pub(crate) fn form_of(line: &[u8]) -> &'static Form
-    ensures { spec.plain_form result.now ≡ spec.form_of line.now }
+// Returns the first of these forms that a line fits, or another one.
+fn first_of(forms: &'static [Form], otherwise: &'static Form, line: &[u8]) -> &'static Form
+    ensures { spec.plain_form result.now ≡ spec.first_of (map spec.plain_form forms.now) (spec.plain_form otherwise.now) line.now }
 {
-    let forms = forms();
     for i in 0..forms.len() {
         if fits(forms[i].pattern.as_bytes(), line) {
             return &forms[i];
         }
     }
-    other()
+    otherwise
+}
+
+/// Returns the form of a line: `is_open` tells whether it may belong to an outcome or a deadlock before it.
+pub(crate) fn form_of(is_open: bool, line: &[u8]) -> &'static Form
+    ensures { spec.plain_form result.now ≡ spec.form_of is_open line.now }
+{
+    let alone = first_of(forms(), other(), line);
+    if is_open {
+        first_of(parts(), alone, line)
+    } else {
+        alone
+    }
 }

@@ -1,6 +1,6 @@
 //! A text in JSON lines.
 
-ghost use Rattle.std.specs.Prelude.{◌≡◌, ◌<◌, ◌++◌, ◌+◌, IfOk, IfSome, OnOk, IfErr, length, map, not, false, ◌||◌};
+ghost use Rattle.std.specs.Prelude.{◌≡◌, ◌<◌, ◌++◌, ◌+◌, IfOk, IfSome, OnOk, IfErr, length, map, not, true, false, ◌||◌};
 ghost use Rattle.std.specs.List.{position};
 ghost use Rattle.pb_json.specs.Values.{comma};
 ghost use Rattle.pb_json_lines.specs.Forms as forms;
@@ -16,21 +16,21 @@ use std::alloc::Global;
 
 // Appends what the object of a line says, without its braces.
 #[tactic(auto, unfolding(crate::specs::Forms::said_by))]
-fn put_said(out: &mut Vec<u8>, text: &[u8]) -> Result<(), NoMemory>
-    ensures { OnOk result (out.new.items ≡ out.old.items ++ forms.said_by (forms.form_of text.now) text.now) }
+fn put_said(out: &mut Vec<u8>, is_open: bool, text: &[u8]) -> Result<(), NoMemory>
+    ensures { OnOk result (out.new.items ≡ out.old.items ++ forms.said_by (forms.form_of is_open text.now) text.now) }
 {
-    let form = form_of(text);
+    let form = form_of(is_open, text);
     put(out, form.first.as_bytes())?;
     put_members(out, form.pattern.as_bytes(), text)
 }
 
 // Appends the object of a line.
 #[tactic(auto, unfolding(crate::specs::JsonLines::object_of))]
-fn put_object(out: &mut Vec<u8>, text: &[u8]) -> Result<(), NoMemory>
-    ensures { OnOk result (out.new.items ≡ out.old.items ++ spec.object_of text.now) }
+fn put_object(out: &mut Vec<u8>, is_open: bool, text: &[u8]) -> Result<(), NoMemory>
+    ensures { OnOk result (out.new.items ≡ out.old.items ++ spec.object_of is_open text.now) }
 {
     put(out, b"{")?;
-    put_said(out, text)?;
+    put_said(out, is_open, text)?;
     put(out, b"}")
 }
 
@@ -52,24 +52,24 @@ fn place_of(section: Section) -> u8
 }
 
 // Returns the section of a line.
-fn section_of(text: &[u8]) -> Section
-    ensures { result ≡ forms.section_of text.now }
+fn section_of(is_open: bool, text: &[u8]) -> Section
+    ensures { result ≡ forms.section_of is_open text.now }
 {
-    form_of(text).section
+    form_of(is_open, text).section
 }
 
-// Returns whether a line is of a section.
+// Returns whether a part of an outcome or a deadlock is of a section.
 fn is_of(section: Section, text: &[u8]) -> bool
     ensures { result ≡ spec.is_of section text.now }
 {
-    place_of(section_of(text)) == place_of(section)
+    place_of(section_of(true, text)) == place_of(section)
 }
 
 // Returns whether a line is that of an outcome or a deadlock.
-fn opens(text: &[u8]) -> bool
-    ensures { result ≡ spec.opens text.now }
+fn opens(is_open: bool, text: &[u8]) -> bool
+    ensures { result ≡ spec.opens is_open text.now }
 {
-    match section_of(text) {
+    match section_of(is_open, text) {
         Section::Opens => true,
         Section::Alone
         | Section::Heading
@@ -82,11 +82,11 @@ fn opens(text: &[u8]) -> bool
     }
 }
 
-// Returns whether a line may belong to the outcome or the deadlock before it.
-fn is_part(text: &[u8]) -> bool
-    ensures { result ≡ spec.is_part text.now }
+// Returns whether a line belongs to the outcome or the deadlock before it.
+fn is_part(is_open: bool, text: &[u8]) -> bool
+    ensures { result ≡ spec.is_part is_open text.now }
 {
-    match section_of(text) {
+    match section_of(is_open, text) {
         Section::Opens | Section::Alone => false,
         Section::Heading
         | Section::Processes
@@ -98,12 +98,12 @@ fn is_part(text: &[u8]) -> bool
     }
 }
 
-// Appends the object of a line behind others, with the comma before it.
+// Appends the object of a part behind others, with the comma before it.
 fn put_item(out: &mut Vec<u8>, before: usize, text: &[u8]) -> Result<(), NoMemory>
-    ensures { OnOk result (out.new.items ≡ out.old.items ++ (comma before ++ spec.object_of text.now)) }
+    ensures { OnOk result (out.new.items ≡ out.old.items ++ (comma before ++ spec.object_of true text.now)) }
 {
     put_comma(out, before)?;
-    put_object(out, text)
+    put_object(out, true, text)
 }
 
 // Appends the objects of those lines that are of a section.
@@ -154,7 +154,7 @@ fn parts_of<'s, 't>(lines: &'s [&'t [u8]]) -> &'s [&'t [u8]]
     ensures { map (λ l. l.now) result.now ≡ spec.parts_of (map (λ l. l.now) lines.now) }
 {
     for i in 0..lines.len() {
-        if !is_part(lines[i]) {
+        if !is_part(true, lines[i]) {
             return &lines[..i];
         }
     }
@@ -163,11 +163,16 @@ fn parts_of<'s, 't>(lines: &'s [&'t [u8]]) -> &'s [&'t [u8]]
 
 // Appends the object of an outcome or a deadlock.
 #[tactic(auto, unfolding(crate::specs::JsonLines::block_of))]
-fn put_block(out: &mut Vec<u8>, first: &[u8], lines: &[&[u8]]) -> Result<(), NoMemory>
-    ensures { OnOk result (out.new.items ≡ out.old.items ++ spec.block_of first.now (map (λ l. l.now) lines.now)) }
+fn put_block(
+    out: &mut Vec<u8>,
+    is_open: bool,
+    first: &[u8],
+    lines: &[&[u8]],
+) -> Result<(), NoMemory>
+    ensures { OnOk result (out.new.items ≡ out.old.items ++ spec.block_of is_open first.now (map (λ l. l.now) lines.now)) }
 {
     put(out, b"{")?;
-    put_said(out, first)?;
+    put_said(out, is_open, first)?;
     put_lists(out, parts_of(lines))?;
     put(out, b"}")
 }
@@ -176,22 +181,22 @@ fn put_block(out: &mut Vec<u8>, first: &[u8], lines: &[&[u8]]) -> Result<(), NoM
 fn put_for(out: &mut Vec<u8>, is_open: bool, text: &[u8], lines: &[&[u8]]) -> Result<(), NoMemory>
     ensures { OnOk result (out.new.items ≡ out.old.items ++ spec.said_of is_open text.now (map (λ l. l.now) lines.now)) }
 {
-    if opens(text) {
-        put_block(out, text, lines)?;
+    if opens(is_open, text) {
+        put_block(out, is_open, text, lines)?;
         return put(out, b"\n");
     }
-    if is_open && is_part(text) {
+    if is_part(is_open, text) {
         return Ok(());
     }
-    put_object(out, text)?;
+    put_object(out, is_open, text)?;
     put(out, b"\n")
 }
 
 // Returns whether the next line may belong to an outcome or a deadlock.
 fn stays_open(is_open: bool, text: &[u8]) -> bool
-    ensures { result ≡ spec.opens text.now || spec.stays is_open text.now }
+    ensures { result ≡ spec.opens is_open text.now || spec.is_part is_open text.now }
 {
-    opens(text) || (is_open && is_part(text))
+    opens(is_open, text) || is_part(is_open, text)
 }
 
 // Appends the objects of lines.

@@ -17,7 +17,7 @@ const EVENTS: [Case; 3] = [
     },
     Case {
         text: b"done\nopen\ndeadlock\nmemory\nthreads\nok",
-        lines: b"{\"kind\":\"done\"}\n{\"kind\":\"open\"}\n{\"kind\":\"stuck\"}\n{\"kind\":\"memory\"}\n{\"kind\":\"threads\"}\n{\"kind\":\"ok\"}\n",
+        lines: b"{\"kind\":\"done\"}\n{\"kind\":\"open\"}\n{\"kind\":\"deadlocked\"}\n{\"kind\":\"memory\"}\n{\"kind\":\"threads\"}\n{\"kind\":\"ok\"}\n",
     },
     Case {
         text: b"",
@@ -37,6 +37,18 @@ const CLAIMS: [Case; 2] = [
     },
 ];
 
+/// Names that make a line look like another one.
+const NAMES: [Case; 2] = [
+    Case {
+        text: b"outcome 1\norder ended\nbottleneck faulted\nrefused ended\nrefused.x 4\nprinted\nprinted.0 print 1\nreached by\norder.0 2\ndeadlock 1\nrefused waits\norder holds 2 order\n1 outcome, 1 deadlock\n",
+        lines: b"{\"kind\":\"outcome\",\"number\":1,\"processes\":[{\"kind\":\"ended\",\"process\":\"order\"},{\"kind\":\"faulted\",\"process\":\"bottleneck\"},{\"kind\":\"ended\",\"process\":\"refused\"}],\"integers\":[{\"kind\":\"integer\",\"process\":\"refused\",\"integer\":\"x\",\"value\":4}],\"holds\":[],\"asks\":[],\"prints\":[{\"kind\":\"print\",\"process\":\"printed\",\"arm\":0,\"value\":1}],\"picks\":[{\"kind\":\"picks\",\"process\":\"order\",\"arm\":0,\"count\":2}]}\n{\"kind\":\"deadlock\",\"number\":1,\"processes\":[{\"kind\":\"waits\",\"process\":\"refused\"}],\"integers\":[],\"holds\":[{\"kind\":\"holds\",\"process\":\"order\",\"amount\":2,\"resource\":\"order\"}],\"asks\":[],\"prints\":[],\"picks\":[]}\n{\"kind\":\"outcomes\",\"endless\":false,\"outcomes\":1,\"deadlocks\":1}\n",
+    },
+    Case {
+        text: b"refused claim 2 tape\norder claim 0 order lines 4\nrefused capital 4 least 3 free 5\nbottleneck ended\norder waits holds\norder\nno order\norder end\nrefused end\n",
+        lines: b"{\"kind\":\"claim\",\"process\":\"refused\",\"claim\":2,\"resource\":\"tape\"}\n{\"kind\":\"claim\",\"process\":\"order\",\"claim\":0,\"resource\":\"order\",\"lines\":[4]}\n{\"kind\":\"resource\",\"resource\":\"refused\",\"capital\":4,\"least\":3,\"free\":5}\n{\"kind\":\"bottleneck\",\"resource\":\"ended\"}\n{\"kind\":\"order\",\"text\":\"waits holds\"}\n{\"kind\":\"order\",\"text\":\"\"}\n{\"kind\":\"no order\"}\n{\"kind\":\"end\",\"process\":\"order\"}\n{\"kind\":\"end\",\"process\":\"refused\"}\n",
+    },
+];
+
 /// What `outcomes` writes.
 const OUTCOMES: [Case; 3] = [
     Case {
@@ -45,7 +57,7 @@ const OUTCOMES: [Case; 3] = [
     },
     Case {
         text: b"deadlock 1\na waits\na holds 1 tape\na.0 asks 1 disk\nreached by\na.0 1\nsomething else\na ended\n1 outcome, 1 deadlock, some runs do not end\n",
-        lines: b"{\"kind\":\"deadlock\",\"number\":1,\"processes\":[{\"kind\":\"waits\",\"process\":\"a\"}],\"integers\":[],\"holds\":[{\"kind\":\"holds\",\"process\":\"a\",\"amount\":1,\"resource\":\"tape\"}],\"asks\":[{\"kind\":\"asks\",\"process\":\"a\",\"arm\":0,\"amounts\":[{\"amount\":1,\"resource\":\"disk\"}]}],\"prints\":[],\"picks\":[{\"kind\":\"picks\",\"process\":\"a\",\"arm\":0,\"count\":1}]}\n{\"kind\":\"line\",\"text\":\"something else\"}\n{\"kind\":\"ended\",\"process\":\"a\"}\n{\"kind\":\"outcomes\",\"endless\":true,\"outcomes\":1,\"deadlocks\":1}\n",
+        lines: b"{\"kind\":\"deadlock\",\"number\":1,\"processes\":[{\"kind\":\"waits\",\"process\":\"a\"}],\"integers\":[],\"holds\":[{\"kind\":\"holds\",\"process\":\"a\",\"amount\":1,\"resource\":\"tape\"}],\"asks\":[{\"kind\":\"asks\",\"process\":\"a\",\"arm\":0,\"amounts\":[{\"amount\":1,\"resource\":\"disk\"}]}],\"prints\":[],\"picks\":[{\"kind\":\"picks\",\"process\":\"a\",\"arm\":0,\"count\":1}]}\n{\"kind\":\"line\",\"text\":\"something else\"}\n{\"kind\":\"line\",\"text\":\"a ended\"}\n{\"kind\":\"outcomes\",\"endless\":true,\"outcomes\":1,\"deadlocks\":1}\n",
     },
     Case {
         text: b"more than 5 configurations, there may be others\nno outcome 3\nas expected\nnot as expected: a deadlock\n\n p end\np.01 print 1\np.0 grant\np.0 grant 1 tape \n",
@@ -71,6 +83,13 @@ fn events_are_objects(rt: HostRuntime) {
 #[test]
 fn claims_and_refusals_are_objects(rt: HostRuntime) {
     for case in &CLAIMS {
+        assert!(rt; makes(rt.alloc(), case));
+    }
+}
+
+#[test]
+fn names_make_no_line_another_one(rt: HostRuntime) {
+    for case in &NAMES {
         assert!(rt; makes(rt.alloc(), case));
     }
 }

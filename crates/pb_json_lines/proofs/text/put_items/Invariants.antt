@@ -1,5 +1,4 @@
-use Rattle.std.proofs.Common.{◌≡◌, ◌++◌, ◌≤◌, drop, map, List, ℕ}
-use Rattle.std.specs.Borrow.{Bor}
+use Rattle.std.proofs.Common.{◌≡◌, ◌++◌, ◌≤◌, drop, map}
 use Rattle.pb_json_lines.specs.JsonLines.{items}
 use Rattle.pb_json_lines.proofs.text.put_items.Given as goal
 
