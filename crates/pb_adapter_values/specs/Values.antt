@@ -110,7 +110,7 @@ body_at position reason thread = object (member (codes "allThreadsStopped") (boo
     (member (codes "reason") (string reason)
     (member (codes "threadId") (number (unsigned thread)) no_members))))
 
--- the text that a session answers
+-- what a session answers, as text
 abbrev pub result_data : List ℕ → Data
 result_data text = object (member (codes "result") (string (utf8_lossy text))
     (member (codes "variablesReference") (number (unsigned 0)) no_members))
