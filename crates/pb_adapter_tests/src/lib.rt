@@ -3,3 +3,4 @@
 
 mod frames;
 mod requests;
+mod values;

@@ -3,7 +3,8 @@ use Rattle.std.specs.Prelude.{ℕ, zero, suc, ◌+◌, ◌*◌, ℤ, pos, nat_lt
 use Rattle.std.specs.Prelude.{List, [], ◌∷◌, ◌++◌, length, Option, Some, None, codes, slice_index_or}
 use Rattle.std.specs.Fmt.{decimal, signed_decimal}
 use Rattle.std.specs.Str.Lossy.{utf8_lossy}
-use Rattle.serde_json.specs.Data.{Data, boolean, number, string, object, unsigned, no_members, member}
+use Rattle.serde_json.specs.Data.{Data, array, boolean, number, string, object, unsigned, no_members, member}
+use Rattle.serde_json.specs.View.{items_of}
 use Rattle.pb_base.specs.Banker.{BankerState, processes, resources, cash, claim, loan}
 use Rattle.pb_base.specs.Lines.{name_of}
 use Rattle.pb_code.specs.Code.{CodeProcess, Thread, thread}
@@ -12,12 +13,17 @@ use Rattle.pb_machine.specs.declared.thread.ThreadState.{ThreadState}
 use Rattle.pb_machine.specs.declared.thread.ThreadState.TheVariants as given
 use Rattle.pb_adapter_requests.specs.Responses.{list_below, listed}
 
--- what the adapter can do
+-- what the adapter can do: it can stop at events, of which the client asks by this word
+abbrev pub events_filter : Data
+events_filter = object (member (codes "filter") (string (codes "events"))
+    (member (codes "label") (string (codes "Events")) no_members))
+
 abbrev pub capabilities_data : Data
-capabilities_data = object (member (codes "supportsConfigurationDoneRequest") (boolean true)
+capabilities_data = object (member (codes "exceptionBreakpointFilters") (array (items_of (events_filter ∷ [])))
+    (member (codes "supportsConfigurationDoneRequest") (boolean true)
     (member (codes "supportsRestartRequest") (boolean true)
     (member (codes "supportsStepBack") (boolean true)
-    (member (codes "supportsTerminateRequest") (boolean true) no_members))))
+    (member (codes "supportsTerminateRequest") (boolean true) no_members)))))
 
 -- the number of the thread that an arm of a process is
 abbrev pub thread_number : (p a : ℕ) → ℕ
@@ -72,10 +78,18 @@ scope_data name reference = object (member (codes "expensive") (boolean false)
     (member (codes "name") (string name)
     (member (codes "variablesReference") (number (unsigned reference)) no_members)))
 
--- integers by references from 1 on, loans by those from 65 on, cash by 129
-abbrev pub scopes_data : (p : ℕ) → Data
-scopes_data p = listed (codes "scopes")
-    (scope_data (codes "Integers") (p + 1) ∷ scope_data (codes "Loans") (p + 65) ∷ scope_data (codes "Cash") 129 ∷ [])
+-- integers by references from 1 on, loans by those from 65 on, cash by 129, operands by those from 130 on
+abbrev pub scopes_list : (p a : ℕ) → List Data
+scopes_list p a = scope_data (codes "Integers") (p + 1) ∷ scope_data (codes "Operands") (thread_number p a + 129)
+    ∷ scope_data (codes "Loans") (p + 65) ∷ scope_data (codes "Cash") 129 ∷ []
+
+-- those of an arm; none if there is no such arm
+abbrev pub scopes_if : (there : Bool) → (p a : ℕ) → List Data
+scopes_if false p a = []
+scopes_if true p a = scopes_list p a
+
+abbrev pub scopes_data : (there : Bool) → (p a : ℕ) → Data
+scopes_data there p a = listed (codes "scopes") (scopes_if there p a)
 
 -- ---- variables
 
@@ -89,6 +103,11 @@ variable_data name value = object (member (codes "name") (string (utf8_lossy nam
 abbrev pub integers_list : List (List ℕ) → List ℤ → List Data
 integers_list names vars =
     list_below (λ x. variable_data (name_of names x) (signed_decimal (slice_index_or vars x (pos 0)))) (length vars)
+
+-- operands by their numbers, the lowest first
+abbrev pub operands_list : List ℤ → List Data
+operands_list operands =
+    list_below (λ i. variable_data (decimal i) (signed_decimal (slice_index_or operands i (pos 0)))) (length operands)
 
 -- `K of claim C`, for each resource
 abbrev pub loan_words : (held claimed : ℕ) → List ℕ
@@ -110,7 +129,22 @@ body_at position reason thread = object (member (codes "allThreadsStopped") (boo
     (member (codes "reason") (string reason)
     (member (codes "threadId") (number (unsigned thread)) no_members))))
 
--- the text that a session answers
+-- the same, with a text
+abbrev pub saying_data : (shown reason : List ℕ) → (thread : ℕ) → (text : List ℕ) → Data
+saying_data shown reason thread text = object (member (codes "allThreadsStopped") (boolean true)
+    (member (codes "description") (string shown)
+    (member (codes "reason") (string reason)
+    (member (codes "text") (string text)
+    (member (codes "threadId") (number (unsigned thread)) no_members)))))
+
+abbrev pub position_words : ℕ → List ℕ
+position_words position = codes "position " ++ decimal position
+
+-- and what the text says: what the last pick came to, or why an arm does not go on
+abbrev pub saying_at : (position : ℕ) → (reason : List ℕ) → (thread : ℕ) → (text : List ℕ) → Data
+saying_at position reason thread text = saying_data (position_words position) reason thread (utf8_lossy text)
+
+-- what a session answers, as text
 abbrev pub result_data : List ℕ → Data
 result_data text = object (member (codes "result") (string (utf8_lossy text))
     (member (codes "variablesReference") (number (unsigned 0)) no_members))

@@ -14,6 +14,7 @@ pub fn capabilities(alloc: Global) -> Result<Value, AllocError>
     ensures { IfOk result (λ v. view v ≡ capabilities_data) }
 {
     json!(in alloc; {
+        "exceptionBreakpointFilters": [{"filter": "events", "label": "Events"}],
         "supportsConfigurationDoneRequest": true,
         "supportsRestartRequest": true,
         "supportsStepBack": true,
@@ -34,6 +35,41 @@ pub fn stopped_body(
     Ok(
         json!(in alloc; {"reason": reason, "description": shown, "threadId": thread, "allThreadsStopped": true})?,
     )
+}
+
+// Returns the same with a text, as a value.
+fn saying_value(
+    alloc: Global,
+    shown: &str,
+    reason: &str,
+    thread: u64,
+    text: &str,
+) -> Result<Value, AllocError>
+    ensures { IfOk result (λ v. view v ≡ spec.saying_data shown.now reason.now thread text.now) }
+{
+    json!(in alloc; {"reason": reason, "description": shown, "threadId": thread, "allThreadsStopped": true, "text": text})
+}
+
+// Returns `position I`.
+fn position_words(alloc: Global, position: u32) -> Result<String, NoMemory>
+    ensures { IfOk result (λ s. s.bytes.items ≡ spec.position_words position) }
+{
+    Ok(format!(in alloc; "position {position}")?)
+}
+
+/// Returns the same, with a text that says more.
+pub fn saying_body(
+    alloc: Global,
+    position: u32,
+    reason: &str,
+    thread: u64,
+    text: &[u8],
+) -> Result<Value, NoMemory>
+    ensures { IfOk result (λ v. view v ≡ spec.saying_at position reason.now thread text.now) }
+{
+    let shown = position_words(alloc, position)?;
+    let said = String::from_utf8_lossy(alloc, text)?;
+    Ok(saying_value(alloc, shown.as_str(), reason, thread, &said)?)
 }
 
 /// Returns the text that a session answered.

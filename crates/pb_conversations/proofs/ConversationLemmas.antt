@@ -37,7 +37,7 @@ texts_more messages told old mid new first wrote =
     ∙ (appended-appended old (texts messages) (texts told)
     ∙ ap (λ (t : List ℕ). appended old t) (sym (flat_map-append message_text messages told))))
 
--- a first part of what comes behind a text
+-- a prefix of what comes behind a text
 prefix_behind : (old mid new : Option (List ℕ)) (one more : List ℕ) → mid ≡ appended old one → AddsPrefix mid new more
     → AddsPrefix old new (one ++ more)
 prefix_behind old mid new one more first (done, left, is, wrote) = (
@@ -47,7 +47,7 @@ prefix_behind old mid new one more first (done, left, is, wrote) = (
   wrote ∙ (ap (λ o. appended o done) first ∙ appended-appended old one done),
 )
 
--- a text whole is a first part of it and more
+-- a whole text is a prefix of it and more
 prefix_whole : (old new : Option (List ℕ)) (one more : List ℕ) → new ≡ appended old one → AddsPrefix old new (one ++ more)
 prefix_whole old new one more wrote = (one, more, refl, wrote)
 
@@ -168,7 +168,7 @@ module _ {S : Type 0} (Answers : S → ℕ → Asked → List Data → S → Typ
         written = texts_more far.messages told old mid new far.written wrote;
       }
 
-      -- or nothing of the answer is written, or a first part
+      -- or nothing of the answer is written, or a prefix
       pub so_far_broken : (why : Stop) → WritesReply why told mid new → TalksSome Answers over s first bytes old new why
       so_far_broken stop.Broken wrote = absurd wrote
       so_far_broken stop.Memory wrote = record {

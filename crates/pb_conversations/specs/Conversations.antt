@@ -62,7 +62,7 @@ pub data Conversation {S : Type 0} (Answers : S → ℕ → Asked → List Data 
       → AnswersContent Answers mid (first + length messages) content told after
       → Conversation Answers over s first (contents ++ content ∷ []) (messages ++ told) after
 
--- first messages of the input are answered, and the rest is left; so many are written
+-- the first messages of the input are answered by these messages, and the rest of it is left
 pub record Talks {S : Type 0} (Answers : S → ℕ → Asked → List Data → S → Type 0) (over : S → Bool) (s : S) (first : ℕ)
     (bytes rest : List ℕ) (messages : List Data) (after : S) : Type 0 where
   pub contents : List (List ℕ)
@@ -102,21 +102,21 @@ IsOfBytes frame.TooLong = ⊤
 IsOfBytes frame.Memory = ⊥
 IsOfBytes frame.Device = ⊥
 
--- what is written if the rest begins with no message: the answers to those before it, and why
+-- if the rest does not begin with a message: the answers to the messages before it, and the reason
 pub record IsBroken (first : ℕ) (rest : List ℕ) (messages : List Data) (old new : Option (List ℕ)) : Type 0 where
   pub fault : FrameFault
   pub of_bytes : IsOfBytes fault
   pub is : IsFrameFault fault rest
   pub written : new ≡ appended old (texts messages ++ message_text (broken_data (first + length messages) fault))
 
--- how much is written: all, if out of memory; a first part, if a device failed
+-- how much is written: all, if out of memory; a prefix, if a device failed
 abbrev pub WritesBefore : Stop → (first : ℕ) → (rest : List ℕ) → List Data → (old new : Option (List ℕ)) → Type 0
 WritesBefore stop.Broken first rest messages old new = IsBroken first rest messages old new
 WritesBefore stop.Memory first rest messages old new = new ≡ appended old (texts messages)
 WritesBefore stop.Device first rest messages old new =
     (fault : FrameFault) × AddsPrefix old new (texts messages ++ message_text (broken_data (first + length messages) fault))
 
--- first messages of the input are answered, and then the conversation breaks off
+-- the first messages of the input are answered, and then the conversation breaks off
 pub record TalksSome {S : Type 0} (Answers : S → ℕ → Asked → List Data → S → Type 0) (over : S → Bool) (s : S) (first : ℕ)
     (bytes : List ℕ) (old new : Option (List ℕ)) (why : Stop) : Type 0 where
   pub rest : List ℕ
@@ -144,7 +144,7 @@ CountsWrites stop.Broken before after = after ≡ before
 CountsWrites stop.Memory before after = after ≡ before
 CountsWrites stop.Device before after = after ≡ one_more_failure before
 
--- how much of a reply is written: nothing if out of memory, a first part if a write failed
+-- how much of a reply is written: nothing if out of memory, a prefix if a write failed
 abbrev pub WritesReply : Stop → List Data → (old new : Option (List ℕ)) → Type 0
 WritesReply stop.Broken told old new = ⊥
 WritesReply stop.Memory told old new = new ≡ old

@@ -1,4 +1,4 @@
-//! Conversations, and who answers in them.
+//! Conversations, and the adapters that answer their requests.
 
 ghost use Rattle.std.specs.Prelude.{◌≡◌, ◌≢◌, ◌≤◌, ◌<◌, ◌^◌, ◌⊎◌, ◌∷◌, [], ℕ, List, Bool, IfErr, IfOk, IfSome, MatchBool, OnOk, false, true};
 ghost use Rattle.serde_json.specs.Data.{Data};
@@ -23,8 +23,8 @@ pub const MAX_MESSAGES: u64 = 4_294_967_295;
 /// Why a conversation breaks off.
 #[derive(Clone, Copy, Debug, PartialEq, Eq, thiserror::Error)]
 pub enum Stop {
-    /// What comes next in the input is no message.
-    #[error("what comes next is no message")]
+    /// What comes next in the input is not a message.
+    #[error("what comes next is not a message")]
     Broken,
     #[error("out of memory")]
     Memory,
@@ -33,7 +33,7 @@ pub enum Stop {
     Device,
 }
 
-/// Who answers messages.
+/// Answers the requests of a conversation.
 pub trait Adapter {
     /// A request is answered by these messages, numbered from a number on, and leads from a state to another.
     ghost Answers: { Self → ℕ → Asked → List Data → Self → Type 0 };
@@ -141,7 +141,7 @@ fn goes_on<A: Adapter>(adapter: &A, seq: u64) -> bool
 
 /// Answers the messages of an input, numbered from `first` on, each before the next is read, up to the end of
 /// the input or until there is nothing more to answer; returns the number of the next message. If what comes
-/// next is no message, a last message says so, and the conversation breaks off. If out of memory, nothing of a
+/// next is not a message, a last message says so, and the conversation breaks off. If out of memory, nothing of a
 /// reply is written that was not made whole.
 pub fn converse<A: Adapter, I: Input, O: Output>(
     alloc: Global,
