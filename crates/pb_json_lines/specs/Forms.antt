@@ -70,6 +70,7 @@ forms =
     ∷ form Alone (codes "refused") (codes "refused C W")
     ∷ form Opens (codes "outcome") (codes "outcome N")
     ∷ form Opens (codes "deadlock") (codes "deadlock N")
+    ∷ form Alone (codes "picks") (codes "P.A Q")
     ∷ form_with (codes "outcomes") (codes "\"deadlocks\":0,\"endless\":false") (codes "O outcomeZ")
     ∷ form_with (codes "outcomes") (codes "\"deadlocks\":0,\"endless\":true") (codes "O outcomeZ, some runs do not end")
     ∷ form_with (codes "outcomes") (codes "\"endless\":false") (codes "O outcomeZ, D deadlockZ")

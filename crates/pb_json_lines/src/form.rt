@@ -93,7 +93,7 @@ static PARTS: [Form; 10] = [
 ];
 
 // All other forms but the last, in the order in which they are tried.
-static FORMS: [Form; 39] = [
+static FORMS: [Form; 40] = [
     Form {
         section: Section::Alone,
         first: "\"kind\":\"grant\"",
@@ -223,6 +223,11 @@ static FORMS: [Form; 39] = [
         section: Section::Opens,
         first: "\"kind\":\"deadlock\"",
         pattern: "deadlock N",
+    },
+    Form {
+        section: Section::Alone,
+        first: "\"kind\":\"picks\"",
+        pattern: "P.A Q",
     },
     Form {
         section: Section::Alone,
