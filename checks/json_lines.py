@@ -43,6 +43,7 @@ LINES: list[tuple[str, dict[str, Any]]] = [
     ("refused <code> <process> <resource> claim <claim> capital <capital>", {"kind": "refused"}),
     ("refused <code> <text>", {"kind": "refused"}),
     ("outcome <number>", {"kind": "outcome"}), ("deadlock <number>", {"kind": "deadlock"}),
+    ("<process>.<arm> <count>", {"kind": "picks"}),
     ("<outcomes> outcomes?", {"kind": "outcomes", "deadlocks": 0, "endless": False}),
     ("<outcomes> outcomes?, some runs do not end", {"kind": "outcomes", "deadlocks": 0, "endless": True}),
     ("<outcomes> outcomes?, <deadlocks> deadlocks?", {"kind": "outcomes", "endless": False}),
