@@ -8,7 +8,11 @@ mod lines;
 mod list;
 mod marker;
 mod members;
+mod program_forms;
+mod session_forms;
 mod text;
+mod text_forms;
 
+pub use form::Dialect;
 pub use gathered::{Gathered, tell_json};
 pub use text::json_lines;
