@@ -1,3 +1,4 @@
+pub mod Dialects
 pub mod Forms
 pub mod JsonLines
 pub mod Lists
