@@ -12,13 +12,13 @@ use Rattle.pb_plan.proofs.circle.edge_between.Goals as goal
 
 pub returns-in-Some-clause-some : goal.returns-in-Some-clause-some
 returns-in-Some-clause-some g c =
-    let body = block_view c.index-processes-p.result.now.body.items in
+    let body = block_view c.index-processes-p.result.body.items in
     let is = sym c.in-Some.ensures in
     let its = nest_its c.args.outer c.args.inner None body c.in-Some.nest is in
     record {
       is = record {
-        process = process_view c.index-processes-p.result.now;
-        there = seen_process c.args.processes.now c.loop-p.p c.index-processes-p.result.now (omega arith) c.index-processes-p.ensures;
+        process = process_view c.index-processes-p.result;
+        there = seen_process c.args.processes.now c.loop-p.p c.index-processes-p.result (omega arith) c.index-processes-p.is;
         nest = is_nest c.args.outer c.args.inner body c.in-Some.nest is;
       };
       outer_is = its.0;
@@ -30,10 +30,10 @@ loop-p-preserved g c = λ k process u at. ⊎_elim
     (λ less. c.loop-p.invariant k process less at)
     (λ le.
     let same : k ≡ c.loop-p.p = omega (arith, u, le) in
-    let seen = seen_process c.args.processes.now c.loop-p.p c.index-processes-p.result.now (omega arith) c.index-processes-p.ensures in
-    let both : Some process ≡ Some (process_view c.index-processes-p.result.now) =
+    let seen = seen_process c.args.processes.now c.loop-p.p c.index-processes-p.result (omega arith) c.index-processes-p.is in
+    let both : Some process ≡ Some (process_view c.index-processes-p.result) =
     sym (subst (λ (i : ℕ). slice_get (map process_view c.args.processes.now) i ≡ Some process) same at) ∙ seen in
-    let one : process ≡ process_view c.index-processes-p.result.now = cc in
+    let one : process ≡ process_view c.index-processes-p.result = cc in
     subst (λ (p : Process). nest c.args.outer c.args.inner None p.body ≡ None) (sym one) (sym c.in_default.ensures))
     (cases_lt k c.loop-p.p)
 
