@@ -1,5 +1,5 @@
 -- No message has a number that is no integer.
-use Rattle.std.proofs.Common.{◌≡◌, ℕ, zero, suc, ◌+◌, ◌-◌, List, [], ◌∷◌, ◌++◌, length, Bool, true, false, ◌||◌, cond, Option, Some, None, codes, refl, sym, subst}
+use Rattle.std.proofs.Common.{◌≡◌, ℕ, ℤ, inl, inr, zero, suc, ◌+◌, ◌-◌, List, [], ◌∷◌, ◌++◌, length, Bool, true, false, ◌||◌, cond, Option, Some, None, codes, refl, sym, subst}
 use Rattle.std.specs.Prelude.{nat_eq, nat_lt, slice_get}
 use Rattle.std.proofs.lemmas.Bool.{or_from, or_parts}
 use Rattle.serde_json.specs.Data.{Data, null}
@@ -11,15 +11,15 @@ use Rattle.pb_code.specs.Code.{CodeProcess, Thread, thread}
 use Rattle.pb_conversations.specs.Conversations.{AreFloatFree}
 use Rattle.pb_debug.specs.Value.{Debugging, bank_state, state_of}
 use Rattle.pb_adapter_requests.specs.Breakpoints.{asked_lines}
-use Rattle.pb_adapter_requests.specs.Requests.{Asked, number_of, place_of, text_of}
+use Rattle.pb_adapter_requests.specs.Requests.{Asked, Place, number_of, place_of, text_of}
 use Rattle.pb_adapter_requests.specs.Responses.{done_data, event_data, list_below, refused_data}
 use Rattle.pb_adapter_requests.specs.declared.kind.Kind.{Kind}
 use Rattle.pb_adapter_requests.specs.declared.kind.Kind.TheVariants as kind
-use Rattle.pb_adapter_values.specs.Values.{arm_name, arms_below, arms_of, cash_list, is_idle, loans_list, thread_data, thread_if, thread_number}
-use Rattle.pb_adapter.specs.Answers.{AnswersKind, Client, Evaluates}
-use Rattle.pb_adapter.specs.Moves.{stopped_data}
+use Rattle.pb_adapter_values.specs.Values.{arm_name, arms_below, arms_of, cash_list, is_idle, loans_list, scopes_if, thread_data, thread_if, thread_number}
+use Rattle.pb_adapter.specs.Answers.{AnswersKind, Client, Evaluates, GoesTo}
+use Rattle.pb_adapter.specs.Moves.{end_data, saying_data, stopped_data, tried_reason}
 use Rattle.pb_adapter.specs.Values.{frames_if, integers_at, stack_data, threads_below, threads_data, variables_data, variables_list, vars_of}
-use Rattle.pb_adapter.specs.Values.{has_arm, reference_or_none}
+use Rattle.pb_adapter.specs.Values.{has_arm, operands_in, reference_or_none, scopes_at}
 
 -- no item of a list has one
 abbrev pub AreFree : List Data → Type 0
@@ -71,6 +71,9 @@ frames_free : (there : Bool) (frame : Data) → has_float frame ≡ false → Ar
 frames_free true frame free = one_free frame free
 frames_free false frame free = refl
 
+operands_of : Debugging → Place → List ℤ
+operands_of d at = operands_in (slice_get (state_of d).processes at.process) at.arm
+
 variables_free : (d : Debugging) (n : ℕ) → AreFree (variables_list d n)
 variables_free d n =
     let names = d.verified.code.names.resources in
@@ -79,7 +82,12 @@ variables_free d n =
     (cond_free (nat_lt n 65) (integers_at d (n - 1)) _ (below_free _ (λ i. refl) (length (vars_of (slice_get (state_of d).processes (n - 1)))))
     (cond_free (nat_lt n 129) (loans_list names s (n - 65)) _
     (cond_free (nat_lt (n - 65) (processes s)) _ [] (below_free _ (λ i. refl) (resources s)) refl)
-    (cond_free (nat_eq n 129) (cash_list names s) [] (below_free _ (λ i. refl) (resources s)) refl)))
+    (cond_free (nat_eq n 129) (cash_list names s) _ (below_free _ (λ i. refl) (resources s))
+    (below_free _ (λ i. refl) (length (operands_of d (place_of (Some (n - 129)))))))))
+
+scopes_free : (there : Bool) (p a : ℕ) → AreFree (scopes_if there p a)
+scopes_free true p a = refl
+scopes_free false p a = refl
 
 -- ---- messages
 
@@ -119,6 +127,11 @@ evaluated_free d next c c' seq r (Some words) told (text, session, same, is) =
     subst AreFloatFree (sym is)
     (moved_free (nat_eq d.position next.position) seq r _ (stopped_data (seq + 1) next (codes "goto")) refl refl)
 
+goes_free : (d next : Debugging) (seq : ℕ) (r : Asked) (found : Option ℕ) (told : List Data) → GoesTo d seq r found told next → AreFloatFree told
+goes_free d next seq r (Some k) told (moved, is) = told_free seq r null (stopped_data (seq + 1) next (codes "breakpoint")) told refl refl is
+goes_free d next seq r None told (text, said, is) =
+    told_free seq r null (end_data (seq + 1) next text) told refl refl is
+
 -- whatever is answered
 pub answers_free : (of : Kind) (d next : Debugging) (c c' : Client) (seq : ℕ) (r : Asked) (told : List Data)
     → AnswersKind of d c seq r told next c' → AreFloatFree told
@@ -136,18 +149,22 @@ answers_free kind.StackTrace d next c c' seq r told is =
     let at = place_of (number_of (codes "threadId") r) in
     shown_free seq r (stack_data d c.path at) told
     (listed_free _ (frames_free (has_arm (slice_get (state_of d).processes at.process) at.arm) _ refl)) is.0
-answers_free kind.Scopes d next c c' seq r told is = shown_free seq r _ told refl is.0
+answers_free kind.Scopes d next c c' seq r told is =
+    let at = place_of (number_of (codes "frameId") r) in
+    shown_free seq r (scopes_at d at) told
+    (listed_free _ (scopes_free (has_arm (slice_get (state_of d).processes at.process) at.arm) at.process at.arm)) is.0
 answers_free kind.Variables d next c c' seq r told is =
     let reference = number_of (codes "variablesReference") r in
     shown_free seq r (variables_data d reference) told (listed_free _ (variables_free d (reference_or_none reference))) is.0
 answers_free kind.Evaluate d next c c' seq r told is = evaluated_free d next c c' seq r (text_of (codes "expression") r) told is
 answers_free kind.Unknown d next c c' seq r told is = refused_free seq r _ told is.0
-answers_free kind.Continue d next c c' seq r told (stop, stops, moved, same, is) =
-    told_free seq r null (stopped_data (seq + 1) next stop.reason) told refl refl is
+answers_free kind.Continue d next c c' seq r told (found, first, goes, same) = goes_free d next seq r found told goes
 answers_free kind.ReverseContinue d next c c' seq r told (stop, stops, moved, same, is) =
     told_free seq r null (stopped_data (seq + 1) next stop.reason) told refl refl is
-answers_free kind.Step d next c c' seq r told (stop, stops, moved, same, is) =
+answers_free kind.Step d next c c' seq r told (inl (within, (stop, stops, moved, same, is))) =
     told_free seq r null (stopped_data (seq + 1) next stop.reason) told refl refl is
+answers_free kind.Step d next c c' seq r told (inr (end, (text, said, same, is))) =
+    told_free seq r null (saying_data (seq + 1) next (tried_reason d.position next.position) _ text) told refl refl is
 answers_free kind.StepBack d next c c' seq r told (stop, stops, moved, same, is) =
     told_free seq r null (stopped_data (seq + 1) next stop.reason) told refl refl is
 answers_free kind.Restart d next c c' seq r told (stop, stops, moved, same, is) =

@@ -1,6 +1,8 @@
 -- Where a request moves the run, and what is told of that.
-use Rattle.std.specs.Prelude.{◌≡◌, ℕ, zero, suc, ◌+◌, ◌-◌, List, [], ◌∷◌, length, Option, Some, None, codes, slice_get}
+use Rattle.std.specs.Prelude.{◌≡◌, ℕ, zero, suc, ◌+◌, ◌-◌, List, [], ◌∷◌, ◌++◌, length, Option, Some, None, codes, cond, nat_eq, slice_get}
 use Rattle.serde_json.specs.Data.{Data}
+use Rattle.std.specs.Str.{bytes_eq}
+use Rattle.pb_base.specs.Lines.{line, name_of}
 use Rattle.pb_base.specs.declared.pick.Pick.{Pick}
 use Rattle.pb_debug.specs.Value.{Debugging}
 use Rattle.pb_debug_positions.specs.Searches.{IsFirst, IsLast}
@@ -9,7 +11,7 @@ use Rattle.pb_adapter_requests.specs.Requests.{Place}
 use Rattle.pb_adapter_requests.specs.Responses.{event_data}
 use Rattle.pb_adapter_requests.specs.declared.kind.Kind.{Kind}
 use Rattle.pb_adapter_requests.specs.declared.kind.Kind.TheVariants as kind
-use Rattle.pb_adapter_values.specs.Values.{body_at, thread_number}
+use Rattle.pb_adapter_values.specs.Values.{arm_name, body_at, saying_at, thread_number}
 use Rattle.pb_adapter.specs.declared.moves.Stop.{Stop}
 
 -- a position, and why the run stops there
@@ -42,9 +44,6 @@ MovesArm d at = Moves d.verified.code d.labels d.picks at.process at.arm
 -- where the run stops: on by a search it is the first position after this one, back by a search the last
 -- before it, just after such a pick
 abbrev pub StopsAt : Debugging → (lines : List ℕ) → Place → Kind → StopPlace → Type 0
-StopsAt d lines at kind.Continue stop =
-    (found : Option ℕ) × IsFirst (Comes d lines) d.position (length d.picks) found
-    × (stop ≡ stop_of found (codes "breakpoint") (end_stop d))
 StopsAt d lines at kind.ReverseContinue stop =
     (found : Option ℕ) × IsLast (Comes d lines) 0 (d.position - 1) found
     × (stop ≡ stop_of found (codes "breakpoint") start_stop)
@@ -57,6 +56,7 @@ StopsAt d lines at kind.StepBack stop =
 StopsAt d lines at kind.Restart stop = stop ≡ start_stop
 StopsAt d lines at kind.ConfigurationDone stop = stop ≡ stop_at d.position (codes "entry")
 StopsAt d lines at kind.Pause stop = stop ≡ stop_at d.position (codes "pause")
+StopsAt d lines at kind.Continue stop = ⊥
 StopsAt d lines at kind.Initialize stop = ⊥
 StopsAt d lines at kind.Launch stop = ⊥
 StopsAt d lines at kind.SetBreakpoints stop = ⊥
@@ -85,6 +85,26 @@ stopped_body d reason = body_at d.position reason (thread_of (pick_before d.pick
 
 abbrev pub stopped_data : (seq : ℕ) → Debugging → List ℕ → Data
 stopped_data seq d reason = event_data seq (codes "stopped") (stopped_body d reason)
+
+-- where the picks end arms wait in a circle, or none do, by what a session answers to `circle`
+abbrev pub end_reason : (text : List ℕ) → List ℕ
+end_reason text = cond (bytes_eq text (line (codes "no circle"))) (codes "end") (codes "waits")
+
+-- the event of a thread, with a text that says more
+abbrev pub saying_data : (seq : ℕ) → Debugging → (reason : List ℕ) → (thread : ℕ) → (text : List ℕ) → Data
+saying_data seq d reason thread text = event_data seq (codes "stopped") (saying_at d.position reason thread text)
+
+-- the event where the picks end
+abbrev pub end_data : (seq : ℕ) → Debugging → (text : List ℕ) → Data
+end_data seq d text = saying_data seq d (end_reason text) (thread_of (pick_before d.picks d.position)) text
+
+-- the command by which a session tries a pick of an arm
+abbrev pub pick_words : Debugging → Place → List ℕ
+pick_words d at = codes "pick " ++ arm_name (name_of d.verified.code.names.processes at.process) at.arm
+
+-- an arm that was tried has made a step, or waits
+abbrev pub tried_reason : (before after : ℕ) → List ℕ
+tried_reason before after = cond (nat_eq after before) (codes "waits") (codes "step")
 
 -- the same, as the program has it
 abbrev pub stop_view : Stop → StopPlace

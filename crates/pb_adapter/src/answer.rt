@@ -3,26 +3,26 @@
 ghost use Rattle.std.specs.Prelude.{◌≡◌, ◌+◌, ◌<◌, ◌^◌, ◌∷◌, [], ℕ, List, IfOk, OnOk, codes};
 ghost use Rattle.serde_json.specs.Data.{null};
 ghost use Rattle.serde_json.specs.View.{view};
-ghost use Rattle.pb_debug_commands.specs.Lines.{lines_of};
-ghost use Rattle.pb_debug.specs.Sessions.{Session, session_bytes};
 ghost use Rattle.pb_debug.specs.Value.{moved_to};
 ghost use Rattle.pb_adapter_requests.specs.Breakpoints.{asked_lines as asked_by, breakpoints_data};
 ghost use Rattle.pb_adapter_requests.specs.Requests.{request_view, text_of as text_asked};
 ghost use Rattle.pb_adapter_requests.specs.Responses.{done_data, event_data, refused_data, told_by};
-ghost use Rattle.pb_adapter.specs.Answers.{Answers, AnswersKind, Client as AnyClient, Evaluates, event_if_moved};
+ghost use Rattle.pb_adapter.specs.Answers.{Answers, AnswersKind, Client as AnyClient, Evaluates, Says, StepsOn, event_if_moved};
 ghost use Rattle.pb_adapter.specs.Moves.{stop_at, stopped_data, stop_view};
 ghost use Rattle.pb_adapter_values.specs.Values.{result_data};
 
-use crate::arms::{stack, threads};
+use crate::arms::{scopes_at, stack, threads};
+use crate::continues::continue_on;
 use crate::evaluate::evaluate;
-use crate::moves::{START, Stop, last_breakpoint, last_line, next_breakpoint, next_line, stopped};
+use crate::moves::{START, Stop, last_breakpoint, last_line, next_line, stopped};
+use crate::tries::try_arm;
 use crate::variables::variables;
 use pb_adapter_requests::breakpoints::{asked_lines, breakpoints};
 use pb_adapter_requests::kind::kind_of;
 use pb_adapter_requests::request::{number_of, place_of, text_of};
 use pb_adapter_requests::response::{answered, done, event, refused, with_event};
 use pb_adapter_requests::{Kind, Reply, Request};
-use pb_adapter_values::{capabilities, scopes};
+use pb_adapter_values::capabilities;
 use pb_base::NoMemory;
 use pb_debug::Debugger;
 use serde_json::Value;
@@ -110,7 +110,7 @@ fn tell_evaluated(
 ) -> Result<Reply, NoMemory>
     requires few { seq < 2 ^ 63 }
     ensures { IfOk result (λ reply. (text : List ℕ)
-        × Session debugger.old (lines_of (session_bytes words.now)) text debugger.new
+        × Says debugger.old words.now text debugger.new
         × (told_by reply ≡ done_data seq (request_view request.entry) (result_data text)
         ∷ event_if_moved (seq + 1) debugger.old debugger.new)) }
 {
@@ -139,6 +139,25 @@ fn answer_evaluate(
         Some(words) => tell_evaluated(alloc, seq, debugger, request, words),
         None => refuse(alloc, seq, request, "there is no expression"),
     }
+}
+
+// Moves the run to where an arm is at another line; where the picks end, by a pick of the arm.
+fn step_on(
+    alloc: Global,
+    seq: u64,
+    debugger: &mut Debugger<'_>,
+    request: Request<'_>,
+) -> Result<Reply, NoMemory>
+    requires few { seq < 2 ^ 63 }
+    ensures { IfOk result (λ reply. (c : AnyClient)
+        → StepsOn debugger.old c seq (request_view request.entry) (told_by reply) debugger.new c) }
+{
+    let thread = number_of(request, "threadId");
+    if debugger.position() == debugger.len() {
+        return try_arm(alloc, seq, debugger, request, thread);
+    }
+    let stop = next_line(debugger, place_of(thread))?;
+    go(alloc, seq, debugger, request, stop)
 }
 
 // Sets the lines to stop at.
@@ -191,7 +210,7 @@ fn answer_kind(
         ),
         Kind::Scopes => {
             let of = place_of(number_of(request, "frameId"));
-            show(alloc, seq, request, scopes(alloc, of.process)?)
+            show(alloc, seq, request, scopes_at(alloc, debugger, of)?)
         }
         Kind::Variables => {
             let reference = number_of(request, "variablesReference");
@@ -199,18 +218,12 @@ fn answer_kind(
         }
         Kind::Evaluate => answer_evaluate(alloc, seq, debugger, request),
         Kind::Unknown => refuse(alloc, seq, request, "this request is not known"),
-        Kind::Continue => {
-            let stop = next_breakpoint(debugger, &client.lines)?;
-            go(alloc, seq, debugger, request, stop)
-        }
+        Kind::Continue => continue_on(alloc, seq, debugger, request, &client.lines),
         Kind::ReverseContinue => {
             let stop = last_breakpoint(debugger, &client.lines)?;
             go(alloc, seq, debugger, request, stop)
         }
-        Kind::Step => {
-            let stop = next_line(debugger, at)?;
-            go(alloc, seq, debugger, request, stop)
-        }
+        Kind::Step => step_on(alloc, seq, debugger, request),
         Kind::StepBack => {
             let stop = last_line(debugger, at)?;
             go(alloc, seq, debugger, request, stop)

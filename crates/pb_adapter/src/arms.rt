@@ -10,7 +10,8 @@ ghost use Rattle.pb_adapter_values.specs.Values as value;
 
 use pb_adapter_requests::Place;
 use pb_adapter_values::{
-    arm_name, frame, frames_body, list_arms, name_at, thread_number, threads_body,
+    arm_name, frame, frames_body, list_arms, name_at, no_scopes, scopes, thread_number,
+    threads_body,
 };
 use pb_base::NoMemory;
 use pb_debug::Debugger;
@@ -79,6 +80,16 @@ fn frame_of(
     let shown = arm_name(alloc, name, arm)?;
     let value = frame(alloc, path, shown.as_str(), thread_number(p, arm), line)?;
     Ok(value)
+}
+
+/// Returns what can be shown of an arm at the position; nothing if there is no such arm.
+pub fn scopes_at(alloc: Global, debugger: &Debugger<'_>, at: Place) -> Result<Value, NoMemory>
+    ensures { IfOk result (λ v. view v ≡ spec.scopes_at debugger.now (record { process = at.process; arm = at.arm })) }
+{
+    match line_of(debugger, at.process, at.arm) {
+        Some(_) => scopes(alloc, at.process, at.arm),
+        None => Ok(no_scopes(alloc)?),
+    }
 }
 
 /// Returns the line of an arm at the position, as its one frame; no frame if there is no such arm.

@@ -6,9 +6,11 @@
 
 pub mod answer;
 pub mod arms;
+pub mod continues;
 pub mod evaluate;
 pub mod moves;
 pub mod session;
+pub mod tries;
 pub mod variables;
 
 pub use answer::{Client, answer_request};

@@ -9,7 +9,7 @@ ghost use Rattle.pb_adapter.specs.Moves.{StopsAt, stop_view};
 
 use pb_adapter_requests::Place;
 use pb_adapter_requests::response::event;
-use pb_adapter_values::{stopped_body, thread_number};
+use pb_adapter_values::{saying_body, stopped_body, thread_number};
 use pb_base::NoMemory;
 use pb_debug::Debugger;
 use serde_json::Value;
@@ -52,15 +52,6 @@ fn stop_of(found: Option<u32>, reason: &'static str, other: Stop) -> Stop
     }
 }
 
-/// Returns the first position after this one at which an arm comes to one of the lines.
-pub fn next_breakpoint(debugger: &Debugger<'_>, lines: &[u32]) -> Result<Stop, NoMemory>
-    ensures { IfOk result (λ stop. (at : AnyPlace) → StopsAt debugger.now lines.now at kind.Continue (stop_view stop)) }
-{
-    let end = end_stop(debugger);
-    let found = debugger.next_stop(lines)?;
-    Ok(stop_of(found, "breakpoint", end))
-}
-
 /// Returns the last position before this one at which an arm comes to one of the lines.
 pub fn last_breakpoint(debugger: &Debugger<'_>, lines: &[u32]) -> Result<Stop, NoMemory>
     ensures { IfOk result (λ stop. (at : AnyPlace) → StopsAt debugger.now lines.now at kind.ReverseContinue (stop_view stop)) }
@@ -90,14 +81,29 @@ pub fn last_line(debugger: &Debugger<'_>, at: Place) -> Result<Stop, NoMemory>
     Ok(stop_of(found, "step", START))
 }
 
-// Returns the thread of the arm of the pick just before the position.
-fn last_thread(debugger: &Debugger<'_>) -> u64
+/// Returns the thread of the arm of the pick just before the position.
+pub fn last_thread(debugger: &Debugger<'_>) -> u64
     ensures { result ≡ spec.thread_of (spec.pick_before debugger.now.picks debugger.now.position) }
 {
     match debugger.last_pick() {
         Some(pick) => thread_number(usize::from(pick.process), usize::from(pick.arm)),
         None => 1,
     }
+}
+
+/// Returns the event that the run stands at the position, of a thread, with a text that says more.
+pub fn saying(
+    alloc: Global,
+    seq: u64,
+    debugger: &Debugger<'_>,
+    reason: &str,
+    thread: u64,
+    text: &[u8],
+) -> Result<Value, NoMemory>
+    ensures { IfOk result (λ v. view v ≡ spec.saying_data seq debugger.now reason.now thread text.now) }
+{
+    let body = saying_body(alloc, debugger.position(), reason, thread, text)?;
+    Ok(event(alloc, seq, "stopped", body)?)
 }
 
 /// Returns the event that the run stands at the position.

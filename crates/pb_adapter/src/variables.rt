@@ -1,11 +1,13 @@
-//! The integers, loans and cash at the position.
+//! The integers, operands, loans and cash at the position.
 
 ghost use Rattle.std.specs.Prelude.{◌≡◌, IfOk, map, slice_get};
 ghost use Rattle.serde_json.specs.View.{view};
 ghost use Rattle.pb_code.specs.View.{labels_view};
 ghost use Rattle.pb_adapter.specs.Values as spec;
 
-use pb_adapter_values::{all_cash, integers, loans_at, variables_body};
+use pb_adapter_requests::Place;
+use pb_adapter_requests::request::place_of;
+use pb_adapter_values::{all_cash, integers, loans_at, operands, variables_body};
 use pb_base::NoMemory;
 use pb_code::Labels;
 use pb_debug::Debugger;
@@ -33,6 +35,22 @@ fn integers_at(alloc: Global, debugger: &Debugger<'_>, p: usize) -> Result<Vec<V
     }
 }
 
+// Returns the operands of an arm at the position.
+fn operands_at(alloc: Global, debugger: &Debugger<'_>, at: Place) -> Result<Vec<Value>, NoMemory>
+    ensures { IfOk result (λ list. map view list.items ≡ spec.operands_at debugger.now (record { process = at.process; arm = at.arm })) }
+{
+    match debugger.threads(at.process) {
+        Ok(process) => {
+            if at.arm < process.arms() {
+                operands(alloc, process.thread(at.arm).operands())
+            } else {
+                Ok(Vec::new(alloc))
+            }
+        }
+        Err(_) => Ok(Vec::new(alloc)),
+    }
+}
+
 // Returns what a reference names at the position.
 fn variables_of(
     alloc: Global,
@@ -47,11 +65,11 @@ fn variables_of(
         1..=64 => integers_at(alloc, debugger, (reference - 1) as usize),
         65..=128 => loans_at(alloc, names, debugger.loans(), (reference - 65) as usize),
         129 => all_cash(alloc, names, debugger.loans()),
-        _ => Ok(Vec::new(alloc)),
+        _ => operands_at(alloc, debugger, place_of(Some(reference - 129))),
     }
 }
 
-/// Returns the integers, the loans or the cash at the position that a reference names.
+/// Returns the integers, the operands, the loans or the cash at the position that a reference names.
 pub fn variables(
     alloc: Global,
     debugger: &Debugger<'_>,

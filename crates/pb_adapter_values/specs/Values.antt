@@ -72,10 +72,18 @@ scope_data name reference = object (member (codes "expensive") (boolean false)
     (member (codes "name") (string name)
     (member (codes "variablesReference") (number (unsigned reference)) no_members)))
 
--- integers by references from 1 on, loans by those from 65 on, cash by 129
-abbrev pub scopes_data : (p : ℕ) → Data
-scopes_data p = listed (codes "scopes")
-    (scope_data (codes "Integers") (p + 1) ∷ scope_data (codes "Loans") (p + 65) ∷ scope_data (codes "Cash") 129 ∷ [])
+-- integers by references from 1 on, loans by those from 65 on, cash by 129, operands by those from 130 on
+abbrev pub scopes_list : (p a : ℕ) → List Data
+scopes_list p a = scope_data (codes "Integers") (p + 1) ∷ scope_data (codes "Operands") (thread_number p a + 129)
+    ∷ scope_data (codes "Loans") (p + 65) ∷ scope_data (codes "Cash") 129 ∷ []
+
+-- those of an arm; none if there is no such arm
+abbrev pub scopes_if : (there : Bool) → (p a : ℕ) → List Data
+scopes_if false p a = []
+scopes_if true p a = scopes_list p a
+
+abbrev pub scopes_data : (there : Bool) → (p a : ℕ) → Data
+scopes_data there p a = listed (codes "scopes") (scopes_if there p a)
 
 -- ---- variables
 
@@ -89,6 +97,11 @@ variable_data name value = object (member (codes "name") (string (utf8_lossy nam
 abbrev pub integers_list : List (List ℕ) → List ℤ → List Data
 integers_list names vars =
     list_below (λ x. variable_data (name_of names x) (signed_decimal (slice_index_or vars x (pos 0)))) (length vars)
+
+-- operands by their numbers, the lowest first
+abbrev pub operands_list : List ℤ → List Data
+operands_list operands =
+    list_below (λ i. variable_data (decimal i) (signed_decimal (slice_index_or operands i (pos 0)))) (length operands)
 
 -- `K of claim C`, for each resource
 abbrev pub loan_words : (held claimed : ℕ) → List ℕ
@@ -109,6 +122,14 @@ body_at position reason thread = object (member (codes "allThreadsStopped") (boo
     (member (codes "description") (string (codes "position " ++ decimal position))
     (member (codes "reason") (string reason)
     (member (codes "threadId") (number (unsigned thread)) no_members))))
+
+-- the same, with a text: what the last pick came to, or why an arm does not go on
+abbrev pub saying_at : (position : ℕ) → (reason : List ℕ) → (thread : ℕ) → (text : List ℕ) → Data
+saying_at position reason thread text = object (member (codes "allThreadsStopped") (boolean true)
+    (member (codes "description") (string (codes "position " ++ decimal position))
+    (member (codes "reason") (string reason)
+    (member (codes "text") (string (utf8_lossy text))
+    (member (codes "threadId") (number (unsigned thread)) no_members)))))
 
 -- what a session answers, as text
 abbrev pub result_data : List ℕ → Data

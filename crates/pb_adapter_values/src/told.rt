@@ -36,6 +36,23 @@ pub fn stopped_body(
     )
 }
 
+/// Returns the same, with a text that says more.
+pub fn saying_body(
+    alloc: Global,
+    position: u32,
+    reason: &str,
+    thread: u64,
+    text: &[u8],
+) -> Result<Value, NoMemory>
+    ensures { IfOk result (λ v. view v ≡ spec.saying_at position reason.now thread text.now) }
+{
+    let shown = format!(in alloc; "position {position}")?;
+    let said = String::from_utf8_lossy(alloc, text)?;
+    Ok(
+        json!(in alloc; {"reason": reason, "description": shown, "threadId": thread, "allThreadsStopped": true, "text": said})?,
+    )
+}
+
 /// Returns the text that a session answered.
 pub fn result_body(alloc: Global, text: &[u8]) -> Result<Value, NoMemory>
     ensures { IfOk result (λ v. view v ≡ result_data text.now) }

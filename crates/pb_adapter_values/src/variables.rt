@@ -1,6 +1,6 @@
 //! Integers, loans and cash as variables.
 
-ghost use Rattle.std.specs.Prelude.{◌≡◌, ◌<◌, ◌^◌, ◌∷◌, [], IfOk, codes, map};
+ghost use Rattle.std.specs.Prelude.{◌≡◌, ◌<◌, ◌^◌, ◌∷◌, [], IfOk, codes, map, true};
 ghost use Rattle.std.specs.Fmt.{decimal, signed_decimal};
 ghost use Rattle.serde_json.specs.View.{view};
 ghost use Rattle.pb_banker.specs.Lenders.{lender_state};
@@ -9,7 +9,7 @@ ghost use Rattle.pb_base.specs.Lines.{name_of};
 ghost use Rattle.pb_adapter_requests.specs.Responses.{list_below, listed};
 ghost use Rattle.pb_adapter_values.specs.Values as spec;
 
-use crate::names::name_at;
+use crate::names::{name_at, thread_number};
 use pb_banker::Lender;
 use pb_base::NoMemory;
 use serde_json::{Value, json};
@@ -38,6 +38,26 @@ pub fn integers(alloc: Global, names: &[Vec<u8>], vars: &[i64]) -> Result<Vec<Va
     let mut list = Vec::new(alloc);
     for i in 0..vars.len() {
         let item = integer(alloc, name_at(names, i), vars[i])?;
+        list.push(item)?;
+    }
+    Ok(list)
+}
+
+// Returns an operand with its number.
+fn operand(alloc: Global, i: usize, value: i64) -> Result<Value, NoMemory>
+    ensures { IfOk result (λ v. view v ≡ spec.variable_data (decimal i) (signed_decimal value)) }
+{
+    let name = format!(in alloc; "{i}")?;
+    integer(alloc, name.as_bytes(), value)
+}
+
+/// Returns operands by their numbers.
+pub fn operands(alloc: Global, values: &[i64]) -> Result<Vec<Value>, NoMemory>
+    ensures { IfOk result (λ list. map view list.items ≡ spec.operands_list values.now) }
+{
+    let mut list = Vec::new(alloc);
+    for i in 0..values.len() {
+        let item = operand(alloc, i, values[i])?;
         list.push(item)?;
     }
     Ok(list)
@@ -139,20 +159,31 @@ fn scopes_body(
     first: Value,
     second: Value,
     third: Value,
+    fourth: Value,
 ) -> Result<Value, AllocError>
-    ensures { IfOk result (λ v. view v ≡ listed (codes "scopes") (view first ∷ view second ∷ view third ∷ [])) }
+    ensures { IfOk result (λ v. view v ≡ listed (codes "scopes") (view first ∷ view second ∷ view third ∷ view fourth ∷ [])) }
 {
-    json!(in alloc; {"scopes": [first, second, third]})
+    json!(in alloc; {"scopes": [first, second, third, fourth]})
 }
 
-/// Returns what can be shown of a process: its integers, its loans and the cash.
-pub fn scopes(alloc: Global, p: usize) -> Result<Value, NoMemory>
-    requires { p < 2 ^ 63 }
-    ensures { IfOk result (λ v. view v ≡ spec.scopes_data p) }
+/// Returns what can be shown of an arm: the integers of its process, its operands, the loans and the cash.
+pub fn scopes(alloc: Global, p: usize, arm: usize) -> Result<Value, NoMemory>
+    requires process { p < 2 ^ 32 }
+    requires arm { arm < 2 ^ 32 }
+    ensures { IfOk result (λ v. view v ≡ spec.scopes_data true p arm) }
 {
     let number = p as u64;
     let integers = scope(alloc, "Integers", number + 1)?;
+    let operands = scope(alloc, "Operands", thread_number(p, arm) + 129)?;
     let loans = scope(alloc, "Loans", number + 65)?;
     let cash = scope(alloc, "Cash", 129)?;
-    Ok(scopes_body(alloc, integers, loans, cash)?)
+    Ok(scopes_body(alloc, integers, operands, loans, cash)?)
+}
+
+/// Returns the list of no scopes.
+pub fn no_scopes(alloc: Global) -> Result<Value, AllocError>
+    ensures { IfOk result (λ v. view v ≡ listed (codes "scopes") []) }
+{
+    let none: Vec<Value> = Vec::new(alloc);
+    json!(in alloc; {"scopes": none})
 }
