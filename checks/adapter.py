@@ -5,9 +5,8 @@
     checks/adapter.py --asked       writes the requests to standard output, each in its frame
     checks/adapter.py --said FILE   checks what was answered to them, as FILE has it
 
-The session is over examples/lost.run. Beside what is expected there, each request must have one response, in order, with
-its number and its command, and the messages must be numbered from 1 without a gap. Its status is 0 if all is as wanted,
-and 1 if not.
+The session is over examples/lost.run. Each request must have one response, in order, with its number and its command, and
+the messages must be numbered from 1 without a gap. The status is 0 if all is as wanted, and 1 if not.
 """
 from __future__ import annotations
 
@@ -37,8 +36,8 @@ def values(**wanted: str) -> Callable[[Any], bool]:
     return lambda body: {it["name"]: it["value"] for it in body["variables"]} == wanted
 
 
-def stopped(reason: str, position: int) -> Message:
-    return {"event": "stopped", "reason": reason, "description": f"position {position}"}
+def stopped(reason: str, position: int, **more: str) -> Message:
+    return {"event": "stopped", "reason": reason, "description": f"position {position}", **more}
 
 
 def anything(body: Any) -> bool:
@@ -60,7 +59,7 @@ SESSION: list[Asked] = [
     ("configurationDone", {}, anything, stopped("entry", 0)),
     ("threads", {}, lambda body: names(body) == ["p.0"], None),
     ("stackTrace", {"threadId": 1}, line(6), None),
-    ("scopes", {"frameId": 1}, lambda body: [it["variablesReference"] for it in body["scopes"]] == [1, 65, 129], None),
+    ("scopes", {"frameId": 1}, lambda body: [it["variablesReference"] for it in body["scopes"]] == [1, 130, 65, 129], None),
     ("variables", {"variablesReference": 1}, values(x="0"), None),
     ("continue", {"threadId": 1}, anything, stopped("breakpoint", 12)),
     ("stackTrace", {"threadId": 1}, line(10), None),
@@ -74,16 +73,19 @@ SESSION: list[Asked] = [
     ("variables", {"variablesReference": 1}, values(x="0"), None),
     ("next", {"threadId": 2}, anything, stopped("step", 7)),
     ("variables", {"variablesReference": 1}, values(x="1"), None),
+    ("variables", {"variablesReference": 132}, values(**{"0": "0", "1": "1"}), None),
     ("stepBack", {"threadId": 2}, anything, stopped("step", 1)),
     ("evaluate", {"expression": "why p.0"}, lambda body: body["result"] == "not asking\n", None),
     ("evaluate", {"expression": "to 7"}, lambda body: body["result"] == "at 7\n", stopped("goto", 7)),
     ("evaluate", {"expression": "to 99"}, lambda body: body["result"] == "refused G1\n", None),
     ("pause", {"threadId": 1}, anything, stopped("pause", 7)),
     ("setBreakpoints", {"breakpoints": []}, anything, None),
-    ("continue", {"threadId": 1}, anything, stopped("end", 15)),
+    ("continue", {"threadId": 1}, anything, stopped("end", 15, text="no circle\n")),
+    ("next", {"threadId": 1}, anything, stopped("waits", 15, text="not asking\n")),
     ("restart", {}, anything, stopped("entry", 0)),
     ("launch", {"text": "process p begin skip end"}, "a text is launched already", None),
     ("flyToTheMoon", {}, "this request is not known", None),
+    ("scopes", {"frameId": 99}, lambda body: body["scopes"] == [], None),
     ("terminate", {}, anything, {"event": "terminated"}),
     ("disconnect", {}, anything, None),
 ]
