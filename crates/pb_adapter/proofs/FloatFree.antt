@@ -16,8 +16,8 @@ use Rattle.pb_adapter_requests.specs.Responses.{done_data, event_data, list_belo
 use Rattle.pb_adapter_requests.specs.declared.kind.Kind.{Kind}
 use Rattle.pb_adapter_requests.specs.declared.kind.Kind.TheVariants as kind
 use Rattle.pb_adapter_values.specs.Values.{arm_name, arms_below, arms_of, cash_list, is_idle, loans_list, scopes_if, thread_data, thread_if, thread_number}
-use Rattle.pb_adapter.specs.Answers.{AnswersKind, Client, Evaluates, GoesTo}
-use Rattle.pb_adapter.specs.Moves.{end_data, saying_data, stopped_data, tried_reason}
+use Rattle.pb_adapter.specs.Answers.{AnswersKind, Client, ContinuesTo, Evaluates, GoesTo, StaysIf}
+use Rattle.pb_adapter.specs.Moves.{end_data, is_event_first, saying_data, stopped_data, tried_reason}
 use Rattle.pb_adapter.specs.Values.{frames_if, integers_at, stack_data, threads_below, threads_data, variables_data, variables_list, vars_of}
 use Rattle.pb_adapter.specs.Values.{has_arm, operands_in, reference_or_none, scopes_at}
 
@@ -132,6 +132,17 @@ goes_free d next seq r (Some k) told (moved, is) = told_free seq r null (stopped
 goes_free d next seq r None told (text, said, is) =
     told_free seq r null (end_data (seq + 1) next text) told refl refl is
 
+stays_free : (first : Bool) (mid next : Debugging) (seq : ℕ) (r : Asked) (found : Option ℕ) (text : List ℕ) (told : List Data)
+    → StaysIf first mid seq r found text told next → AreFloatFree told
+stays_free true mid next seq r found text told (same, is) = told_free seq r null (saying_data (seq + 1) next (codes "event") _ text) told refl refl is
+stays_free false mid next seq r found text told goes = goes_free mid next seq r found told goes
+
+continues_free : (events : Bool) (d next : Debugging) (seq : ℕ) (r : Asked) (found : Option ℕ) (told : List Data)
+    → ContinuesTo events d seq r found told next → AreFloatFree told
+continues_free false d next seq r found told goes = goes_free d next seq r found told goes
+continues_free true d next seq r found told (mid, text, says, stays) =
+    stays_free (is_event_first d.position mid.position found) mid next seq r found text told stays
+
 -- whatever is answered
 pub answers_free : (of : Kind) (d next : Debugging) (c c' : Client) (seq : ℕ) (r : Asked) (told : List Data)
     → AnswersKind of d c seq r told next c' → AreFloatFree told
@@ -139,7 +150,7 @@ answers_free kind.Initialize d next c c' seq r told is = shown_free seq r _ told
 answers_free kind.Launch d next c c' seq r told is = refused_free seq r _ told is.0
 answers_free kind.SetBreakpoints d next c c' seq r told is =
     shown_free seq r _ told (listed_free _ (below_free _ (λ i. refl) (length (asked_lines r)))) is.0
-answers_free kind.Accept d next c c' seq r told is = shown_free seq r null told refl is.0
+answers_free kind.SetEvents d next c c' seq r told (is, same, set) = shown_free seq r null told refl is
 answers_free kind.Disconnect d next c c' seq r told is = shown_free seq r null told refl is.0
 answers_free kind.Terminate d next c c' seq r told is = told_free seq r null _ told refl refl is.0
 answers_free kind.Threads d next c c' seq r told is =
@@ -158,7 +169,7 @@ answers_free kind.Variables d next c c' seq r told is =
     shown_free seq r (variables_data d reference) told (listed_free _ (variables_free d (reference_or_none reference))) is.0
 answers_free kind.Evaluate d next c c' seq r told is = evaluated_free d next c c' seq r (text_of (codes "expression") r) told is
 answers_free kind.Unknown d next c c' seq r told is = refused_free seq r _ told is.0
-answers_free kind.Continue d next c c' seq r told (found, first, goes, same) = goes_free d next seq r found told goes
+answers_free kind.Continue d next c c' seq r told (found, first, goes, same) = continues_free c.events d next seq r found told goes
 answers_free kind.ReverseContinue d next c c' seq r told (stop, stops, moved, same, is) =
     told_free seq r null (stopped_data (seq + 1) next stop.reason) told refl refl is
 answers_free kind.Step d next c c' seq r told (inl (within, (stop, stops, moved, same, is))) =

@@ -1,24 +1,26 @@
 -- What is answered to a request, at the position of a debugger, and where the debugger then is.
-use Rattle.std.specs.Prelude.{◌≡◌, ◌⊎◌, ℕ, ◌+◌, ◌<◌, List, [], ◌∷◌, length, Option, Some, None, codes, cond, nat_eq, unwrap_or}
+use Rattle.std.specs.Prelude.{◌≡◌, ◌⊎◌, ℕ, ◌+◌, ◌<◌, List, [], ◌∷◌, length, Option, Some, None, Bool, true, false, codes, cond, nat_eq, unwrap_or}
 use Rattle.serde_json.specs.Data.{Data, null}
 use Rattle.pb_debug_commands.specs.Lines.{lines_of}
 use Rattle.pb_debug.specs.Sessions.{Session, session_bytes}
 use Rattle.pb_debug.specs.Value.{Debugging, moved_to}
 use Rattle.pb_debug_positions.specs.Searches.{IsFirst}
-use Rattle.pb_adapter_requests.specs.Breakpoints.{asked_lines, breakpoints_data}
+use Rattle.pb_adapter_requests.specs.Breakpoints.{asked_lines, asks_events, breakpoints_data}
 use Rattle.pb_adapter_requests.specs.Kinds.{kind_of}
 use Rattle.pb_adapter_requests.specs.Requests.{Asked, number_of, place_of, text_of}
 use Rattle.pb_adapter_requests.specs.Responses.{done_data, event_data, refused_data}
 use Rattle.pb_adapter_requests.specs.declared.kind.Kind.{Kind}
 use Rattle.pb_adapter_requests.specs.declared.kind.Kind.TheVariants as kind
-use Rattle.pb_adapter.specs.Moves.{Comes, StopPlace, StopsAt, end_data, pick_words, saying_data, stopped_data}
-use Rattle.pb_adapter.specs.Moves.{tried_reason}
+use Rattle.pb_adapter.specs.Moves.{Comes, StopPlace, StopsAt, end_data, is_event_first, pick_before, pick_words}
+use Rattle.pb_adapter.specs.Moves.{saying_data, stopped_data, thread_of, tried_reason}
 use Rattle.pb_adapter.specs.Values.{scopes_at, stack_data, threads_data, variables_data}
 use Rattle.pb_adapter_values.specs.Values.{capabilities_data, result_data}
 
--- what a client has set and what is shown to it: the lines to stop at, and the path of the text
+-- what a client has set and what is shown to it: the lines to stop at, whether to stop at events, and the path of
+-- the text
 pub record Client : Type 0 where
   pub lines : List ℕ
+  pub events : Bool
   pub path : List ℕ
 
 -- a request is carried out, and nothing changes
@@ -50,11 +52,26 @@ GoesTo d seq r None told next =
     (text : List ℕ) × Says (moved_to d (length d.picks)) (codes "circle") text next
     × (told ≡ done_data seq r null ∷ end_data (seq + 1) next text ∷ [])
 
--- to the first position after this one at which an arm comes to one of the lines
+-- the run stays just after the event that a session has gone to, if that is the first stop, and its line is told; else
+-- it goes on
+abbrev pub StaysIf : Bool → Debugging → ℕ → Asked → Option ℕ → (text : List ℕ) → List Data → Debugging → Type 0
+StaysIf true mid seq r found text told next =
+    (next ≡ mid) × (told ≡ done_data seq r null
+    ∷ saying_data (seq + 1) next (codes "event") (thread_of (pick_before next.picks next.position)) text ∷ [])
+StaysIf false mid seq r found text told next = GoesTo mid seq r found told next
+
+-- to the first position after this one at which an arm comes to one of the lines, or, if the client wants it, to that
+-- just after the next event, as a session goes to it, if it is not later
+abbrev pub ContinuesTo : (events : Bool) → Debugging → ℕ → Asked → Option ℕ → List Data → Debugging → Type 0
+ContinuesTo false d seq r found told next = GoesTo d seq r found told next
+ContinuesTo true d seq r found told next =
+    (mid : Debugging) × (text : List ℕ) × Says d (codes "next") text mid
+    × StaysIf (is_event_first d.position mid.position found) mid seq r found text told next
+
 abbrev pub Continues : Debugging → Client → ℕ → Asked → List Data → Debugging → Client → Type 0
 Continues d c seq r told next c' =
     (found : Option ℕ) × IsFirst (Comes d c.lines) d.position (length d.picks) found
-    × GoesTo d seq r found told next × (c' ≡ c)
+    × ContinuesTo c.events d seq r found told next × (c' ≡ c)
 
 -- behind the last pick one of the arm is tried: the event says what it came to, or why the arm does not go on
 abbrev pub TriesArm : Debugging → Client → ℕ → Asked → (thread : Option ℕ) → List Data → Debugging → Client → Type 0
@@ -87,7 +104,8 @@ AnswersKind kind.Launch d c seq r told next c' = Refuses d c seq r (codes "a tex
 AnswersKind kind.SetBreakpoints d c seq r told next c' =
     (told ≡ done_data seq r (breakpoints_data d.labels (asked_lines r)) ∷ []) × (next ≡ d)
     × (c' ≡ record c { lines = asked_lines r })
-AnswersKind kind.Accept d c seq r told next c' = Shows d c seq r null told next c'
+AnswersKind kind.SetEvents d c seq r told next c' =
+    (told ≡ done_data seq r null ∷ []) × (next ≡ d) × (c' ≡ record c { events = asks_events r })
 AnswersKind kind.Disconnect d c seq r told next c' = Shows d c seq r null told next c'
 AnswersKind kind.Terminate d c seq r told next c' =
     (told ≡ done_data seq r null ∷ event_data (seq + 1) (codes "terminated") null ∷ []) × (next ≡ d) × (c' ≡ c)

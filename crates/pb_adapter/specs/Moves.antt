@@ -1,5 +1,5 @@
 -- Where a request moves the run, and what is told of that.
-use Rattle.std.specs.Prelude.{◌≡◌, ℕ, zero, suc, ◌+◌, ◌-◌, List, [], ◌∷◌, ◌++◌, length, Option, Some, None, codes, cond, nat_eq, slice_get}
+use Rattle.std.specs.Prelude.{◌≡◌, ℕ, zero, suc, ◌+◌, ◌-◌, List, [], ◌∷◌, ◌++◌, length, Option, Some, None, codes, Bool, false, cond, nat_eq, nat_lt, not, slice_get}
 use Rattle.serde_json.specs.Data.{Data}
 use Rattle.std.specs.Str.{bytes_eq}
 use Rattle.pb_base.specs.Lines.{line, name_of}
@@ -60,7 +60,7 @@ StopsAt d lines at kind.Continue stop = ⊥
 StopsAt d lines at kind.Initialize stop = ⊥
 StopsAt d lines at kind.Launch stop = ⊥
 StopsAt d lines at kind.SetBreakpoints stop = ⊥
-StopsAt d lines at kind.Accept stop = ⊥
+StopsAt d lines at kind.SetEvents stop = ⊥
 StopsAt d lines at kind.Disconnect stop = ⊥
 StopsAt d lines at kind.Terminate stop = ⊥
 StopsAt d lines at kind.Threads stop = ⊥
@@ -85,6 +85,11 @@ stopped_body d reason = body_at d.position reason (thread_of (pick_before d.pick
 
 abbrev pub stopped_data : (seq : ℕ) → Debugging → List ℕ → Data
 stopped_data seq d reason = event_data seq (codes "stopped") (stopped_body d reason)
+
+-- whether the run has moved to just after an event, and no pick that was looked for comes before that of the event
+abbrev pub is_event_first : (before after : ℕ) → Option ℕ → Bool
+is_event_first before after None = not (nat_eq after before)
+is_event_first before after (Some k) = cond (nat_eq after before) false (not (nat_lt (k + 1) after))
 
 -- where the picks end arms wait in a circle, or none do, by what a session answers to `circle`
 abbrev pub end_reason : (text : List ℕ) → List ℕ

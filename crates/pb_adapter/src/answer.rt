@@ -4,7 +4,7 @@ ghost use Rattle.std.specs.Prelude.{◌≡◌, ◌+◌, ◌<◌, ◌^◌, ◌∷
 ghost use Rattle.serde_json.specs.Data.{null};
 ghost use Rattle.serde_json.specs.View.{view};
 ghost use Rattle.pb_debug.specs.Value.{moved_to};
-ghost use Rattle.pb_adapter_requests.specs.Breakpoints.{asked_lines as asked_by, breakpoints_data};
+ghost use Rattle.pb_adapter_requests.specs.Breakpoints.{asked_lines as asked_by, asks_events as events_asked, breakpoints_data};
 ghost use Rattle.pb_adapter_requests.specs.Requests.{request_view, text_of as text_asked};
 ghost use Rattle.pb_adapter_requests.specs.Responses.{done_data, event_data, refused_data, told_by};
 ghost use Rattle.pb_adapter.specs.Answers.{Answers, AnswersKind, Client as AnyClient, Evaluates, Says, StepsOn, event_if_moved};
@@ -17,7 +17,7 @@ use crate::evaluate::evaluate;
 use crate::moves::{START, Stop, last_breakpoint, last_line, next_line, stopped};
 use crate::tries::try_arm;
 use crate::variables::variables;
-use pb_adapter_requests::breakpoints::{asked_lines, breakpoints};
+use pb_adapter_requests::breakpoints::{asked_lines, asks_events, breakpoints};
 use pb_adapter_requests::kind::kind_of;
 use pb_adapter_requests::request::{number_of, place_of, text_of};
 use pb_adapter_requests::response::{answered, done, event, refused, with_event};
@@ -34,6 +34,8 @@ use std::marker::Model;
 pub struct Client {
     /// The lines to stop at.
     pub lines: Vec<u32>,
+    /// Whether to stop at events.
+    pub events: bool,
     pub path: String,
 }
 
@@ -42,7 +44,7 @@ impl Model for Client {
 
     ghost Value = { Client };
 
-    ghost view = { λ c. record { lines = c.lines.items; path = c.path.bytes.items } };
+    ghost view = { λ c. record { lines = c.lines.items; events = c.events; path = c.path.bytes.items } };
 }
 
 // Returns the reply that a request is carried out, with what it asks for.
@@ -179,6 +181,21 @@ fn set_breakpoints(
     Ok(reply)
 }
 
+// Sets whether to stop at events.
+fn set_events(
+    alloc: Global,
+    seq: u64,
+    client: &mut Client,
+    request: Request<'_>,
+) -> Result<Reply, NoMemory>
+    ensures told { IfOk result (λ reply. told_by reply ≡ done_data seq (request_view request.entry) null ∷ []) }
+    ensures set { OnOk result (client.new ≡ record client.old { events = events_asked (request_view request.entry) }) }
+{
+    let reply = answered(alloc, seq, request, Value::Null)?;
+    client.events = asks_events(request);
+    Ok(reply)
+}
+
 // Answers a request of a kind.
 fn answer_kind(
     alloc: Global,
@@ -198,7 +215,7 @@ fn answer_kind(
         Kind::Initialize => show(alloc, seq, request, capabilities(alloc)?),
         Kind::Launch => refuse(alloc, seq, request, "a text is launched already"),
         Kind::SetBreakpoints => set_breakpoints(alloc, seq, debugger, client, request),
-        Kind::Accept => show(alloc, seq, request, Value::Null),
+        Kind::SetEvents => set_events(alloc, seq, client, request),
         Kind::Disconnect => show(alloc, seq, request, Value::Null),
         Kind::Terminate => end_run(alloc, seq, request),
         Kind::Threads => show(alloc, seq, request, threads(alloc, debugger)?),
@@ -218,7 +235,7 @@ fn answer_kind(
         }
         Kind::Evaluate => answer_evaluate(alloc, seq, debugger, request),
         Kind::Unknown => refuse(alloc, seq, request, "this request is not known"),
-        Kind::Continue => continue_on(alloc, seq, debugger, request, &client.lines),
+        Kind::Continue => continue_on(alloc, seq, debugger, request, &client.lines, client.events),
         Kind::ReverseContinue => {
             let stop = last_breakpoint(debugger, &client.lines)?;
             go(alloc, seq, debugger, request, stop)

@@ -116,12 +116,15 @@ module _ (bytes : List ℕ) (left old mid : Option (List ℕ)) (after : WaitingV
     texts t.messages ++ text,
     done,
     says.launched t.rest t.messages after t.talks l is text done of,
-    inr ((
-      texts t.messages ++ part,
-      rest,
-      ap (λ (x : List ℕ). texts t.messages ++ x) cut ∙ sym (append_assoc (texts t.messages) part rest),
-      wrote ∙ (ap (λ (o : Option (List ℕ)). appended o part) t.written ∙ appended-appended old (texts t.messages) part),
-    ), same),
+    inr (
+      (
+        texts t.messages ++ part,
+        rest,
+        ap (λ (x : List ℕ). texts t.messages ++ x) cut ∙ sym (append_assoc (texts t.messages) part rest),
+        wrote ∙ (ap (λ (o : Option (List ℕ)). appended o part) t.written ∙ appended-appended old (texts t.messages) part),
+      ),
+      same,
+    ),
   )
 
   -- what was launched is debugged

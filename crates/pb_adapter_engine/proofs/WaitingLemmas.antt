@@ -32,7 +32,7 @@ waiting_free kind.Launch s next seq r told is =
     launch_free s next seq r (text_of (codes "text") r) (lending_said (text_of (codes "lend") r)) told is
 waiting_free kind.SetBreakpoints s next seq r told is = refused_free seq r _ told is.0
 waiting_free kind.ConfigurationDone s next seq r told is = refused_free seq r _ told is.0
-waiting_free kind.Accept s next seq r told is = refused_free seq r _ told is.0
+waiting_free kind.SetEvents s next seq r told is = refused_free seq r _ told is.0
 waiting_free kind.Disconnect s next seq r told is = shown_free seq r null told refl is.0
 waiting_free kind.Terminate s next seq r told is = refused_free seq r _ told is.0
 waiting_free kind.Threads s next seq r told is = refused_free seq r _ told is.0
@@ -76,7 +76,7 @@ kind_ends kind.Launch s next seq r told is ends =
 kind_ends kind.Disconnect s next seq r told is ends = subst EndsAtLaunch (sym is.1) (λ l same. refl)
 kind_ends kind.SetBreakpoints s next seq r told is ends = same_ends s next is.1 ends
 kind_ends kind.ConfigurationDone s next seq r told is ends = same_ends s next is.1 ends
-kind_ends kind.Accept s next seq r told is ends = same_ends s next is.1 ends
+kind_ends kind.SetEvents s next seq r told is ends = same_ends s next is.1 ends
 kind_ends kind.Terminate s next seq r told is ends = same_ends s next is.1 ends
 kind_ends kind.Threads s next seq r told is ends = same_ends s next is.1 ends
 kind_ends kind.StackTrace s next seq r told is ends = same_ends s next is.1 ends

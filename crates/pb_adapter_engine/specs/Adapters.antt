@@ -50,11 +50,11 @@ pub data SaysOfSession (s : Debugged) (first : ℕ) (bytes : List ℕ) : List �
       → (why : Stop) (text : List ℕ) → WritesText why first rest messages text
       → SaysOfSession s first bytes text (stop_status why)
 
--- the session of what was launched, at the start, with no breakpoints
+-- the session of what was launched, at the start, with nothing to stop at
 abbrev pub opened : LaunchedText → Debugged
 opened l = record {
   debugger = showing (Some l.source) (at_start l.lending l.verified l.labels (spread l.counted));
-  client = record { lines = []; path = l.path };
+  client = record { lines = []; events = false; path = l.path };
   over = false;
 }
 

@@ -77,6 +77,7 @@ pub fn debug_launched<I: Input, O: Output>(
             let shown = debugger.with_source(Some(&source));
             let client = Client {
                 lines: Vec::new(alloc),
+                events: false,
                 path,
             };
             let mut session = Session::new(shown, client);

@@ -1,7 +1,9 @@
--- The lines at which a client wants the run to stop.
+-- The lines and the events at which a client wants the run to stop.
 use Rattle.std.specs.Prelude.{ℕ, zero, suc, nat_eq, nat_lt, cond, List, [], ◌∷◌, ◌++◌, length, slice_index_or, Bool, false, Option, Some, None, codes}
 use Rattle.std.specs.List.{list_any}
+use Rattle.std.specs.Str.{bytes_eq}
 use Rattle.serde_json.specs.Data.{Data, Items, no_items, item, null, boolean, number, object, unsigned, no_members, member}
+use Rattle.serde_json.specs.Find.{as_str}
 use Rattle.pb_base.specs.declared.limits.TheConstants.{MAX_LINE}
 use Rattle.pb_code.specs.Whole.{ProcessLabels}
 use Rattle.pb_adapter_requests.specs.Requests.{Asked, items_asked, number_in}
@@ -36,6 +38,23 @@ lines_if (Some items) = lines_in (datas_in items)
 -- the lines that a request asks for
 abbrev pub asked_lines : Asked → List ℕ
 asked_lines r = lines_if (items_asked (codes "breakpoints") r)
+
+-- whether a text is this word
+abbrev pub is_word : (word : List ℕ) → Option (List ℕ) → Bool
+is_word word None = false
+is_word word (Some text) = bytes_eq text word
+
+-- whether an item of a list is the word that asks to stop at events
+abbrev pub is_events : Data → Bool
+is_events d = is_word (codes "events") (as_str d)
+
+abbrev pub events_if : Option Items → Bool
+events_if None = false
+events_if (Some items) = list_any is_events (datas_in items)
+
+-- whether a request asks to stop at events
+abbrev pub asks_events : Asked → Bool
+asks_events r = events_if (items_asked (codes "filters") r)
 
 -- whether a place of the code has this line
 abbrev pub is_line : ℕ → Option ℕ → Bool

@@ -31,7 +31,7 @@ kind_of c =
     cond (bytes_eq c (codes "initialize")) kind.Initialize
     (cond (bytes_eq c (codes "launch")) kind.Launch
     (cond (bytes_eq c (codes "setBreakpoints")) kind.SetBreakpoints
-    (cond (bytes_eq c (codes "setExceptionBreakpoints")) kind.Accept
+    (cond (bytes_eq c (codes "setExceptionBreakpoints")) kind.SetEvents
     (cond (bytes_eq c (codes "disconnect")) kind.Disconnect
     (cond (bytes_eq c (codes "configurationDone")) kind.ConfigurationDone
     (cond (bytes_eq c (codes "terminate")) kind.Terminate

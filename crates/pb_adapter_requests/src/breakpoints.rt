@@ -1,4 +1,4 @@
-//! The lines at which a client wants the run to stop.
+//! The lines and the events at which a client wants the run to stop.
 
 ghost use Rattle.std.specs.Prelude.{◌≡◌, ◌++◌, IfOk, OnOk, codes, map};
 ghost use Rattle.std.specs.List.{list_any};
@@ -50,6 +50,34 @@ pub fn asked_lines(alloc: Global, request: Request<'_>) -> Result<Vec<u32>, NoMe
     match list_of(request, "breakpoints") {
         Some(list) => lines_in(alloc, list),
         None => Ok(Vec::new(alloc)),
+    }
+}
+
+// Returns whether an item of a list asks to stop at events.
+fn is_events(value: &Value) -> bool
+    ensures { result ≡ spec.is_events (view value.now) }
+{
+    match value.as_str() {
+        Some(text) => text.as_bytes() == b"events".as_slice(),
+        None => false,
+    }
+}
+
+// Returns whether one of these asks to stop at events.
+fn any_events(list: &[Value]) -> bool
+    ensures { result ≡ list_any (λ v. spec.is_events (view v)) list.now }
+{
+    list.iter().any(|value| is_events(value))
+}
+
+/// Returns whether a request asks to stop at events.
+#[tactic(auto, using(crate::proofs::BreakpointLemmas::datas_of, crate::proofs::BreakpointLemmas::any_viewed))]
+pub fn asks_events(request: Request<'_>) -> bool
+    ensures { result ≡ spec.asks_events (request_view request.entry) }
+{
+    match list_of(request, "filters") {
+        Some(list) => any_events(list),
+        None => false,
     }
 }
 

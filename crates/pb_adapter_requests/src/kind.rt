@@ -15,8 +15,8 @@ pub enum Kind {
     SetBreakpoints,
     /// That the run stands at its first position.
     ConfigurationDone,
-    /// Nothing but that it is answered.
-    Accept,
+    /// Whether to stop at events.
+    SetEvents,
     /// The end of the session.
     Disconnect,
     /// The end of the run.
@@ -105,7 +105,7 @@ pub fn kind_of(command: &str) -> Kind
     } else if is(command, "setBreakpoints") {
         Kind::SetBreakpoints
     } else if is(command, "setExceptionBreakpoints") {
-        Kind::Accept
+        Kind::SetEvents
     } else if is(command, "disconnect") {
         Kind::Disconnect
     } else if is(command, "configurationDone") {

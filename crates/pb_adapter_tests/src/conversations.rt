@@ -14,7 +14,7 @@ struct Case {
     said: &'static [&'static str],
 }
 
-const CASES: [Case; 5] = [
+const CASES: [Case; 6] = [
     // Before a launch.
     Case {
         asked: &[
@@ -28,7 +28,7 @@ const CASES: [Case; 5] = [
             "{\"seq\":11,\"command\":\"threads\"}",
         ],
         said: &[
-            "{\"body\":{\"supportsConfigurationDoneRequest\":true,\"supportsRestartRequest\":true,\"supportsStepBack\":true,\"supportsTerminateRequest\":true},\"command\":\"initialize\",\"request_seq\":1,\"seq\":1,\"success\":true,\"type\":\"response\"}",
+            "{\"body\":{\"exceptionBreakpointFilters\":[{\"filter\":\"events\",\"label\":\"Events\"}],\"supportsConfigurationDoneRequest\":true,\"supportsRestartRequest\":true,\"supportsStepBack\":true,\"supportsTerminateRequest\":true},\"command\":\"initialize\",\"request_seq\":1,\"seq\":1,\"success\":true,\"type\":\"response\"}",
             "{\"command\":\"threads\",\"message\":\"no text is launched\",\"request_seq\":7,\"seq\":2,\"success\":false,\"type\":\"response\"}",
             "{\"command\":\"launch\",\"message\":\"there is no text\",\"request_seq\":8,\"seq\":3,\"success\":false,\"type\":\"response\"}",
             "{\"command\":\"launch\",\"message\":\"refused N3 at 16\",\"request_seq\":9,\"seq\":4,\"success\":false,\"type\":\"response\"}",
@@ -144,6 +144,36 @@ const CASES: [Case; 5] = [
             "{\"body\":null,\"command\":\"continue\",\"request_seq\":7,\"seq\":9,\"success\":true,\"type\":\"response\"}",
             "{\"body\":{\"allThreadsStopped\":true,\"description\":\"position 2\",\"reason\":\"waits\",\"text\":\"p.0 waits b holder q\\nq.0 waits a holder p\\n\",\"threadId\":65},\"event\":\"stopped\",\"seq\":10,\"type\":\"event\"}",
             "{\"body\":null,\"command\":\"disconnect\",\"request_seq\":6,\"seq\":11,\"success\":true,\"type\":\"response\"}",
+        ],
+    },
+    // Stops at events, if the client wants that, and at breakpoints.
+    Case {
+        asked: &[
+            "{\"seq\":1,\"command\":\"launch\",\"arguments\":{\"text\":\"process p begin\\nprint 7;\\nprint 8;\\nprint 9 end\\n%%\\np.0 7\\n\"}}",
+            "{\"seq\":2,\"command\":\"setExceptionBreakpoints\",\"arguments\":{\"filters\":[\"faults\",\"events\"]}}",
+            "{\"seq\":3,\"command\":\"continue\"}",
+            "{\"seq\":4,\"command\":\"setBreakpoints\",\"arguments\":{\"breakpoints\":[{\"line\":4}]}}",
+            "{\"seq\":5,\"command\":\"continue\"}",
+            "{\"seq\":6,\"command\":\"setExceptionBreakpoints\",\"arguments\":{\"filters\":[\"faults\"]}}",
+            "{\"seq\":7,\"command\":\"restart\"}",
+            "{\"seq\":8,\"command\":\"continue\"}",
+            "{\"seq\":9,\"command\":\"disconnect\"}",
+        ],
+        said: &[
+            "{\"body\":null,\"command\":\"launch\",\"request_seq\":1,\"seq\":1,\"success\":true,\"type\":\"response\"}",
+            "{\"body\":null,\"event\":\"initialized\",\"seq\":2,\"type\":\"event\"}",
+            "{\"body\":null,\"command\":\"setExceptionBreakpoints\",\"request_seq\":2,\"seq\":3,\"success\":true,\"type\":\"response\"}",
+            "{\"body\":null,\"command\":\"continue\",\"request_seq\":3,\"seq\":4,\"success\":true,\"type\":\"response\"}",
+            "{\"body\":{\"allThreadsStopped\":true,\"description\":\"position 2\",\"reason\":\"event\",\"text\":\"at 2 p.0 print 7\\n\",\"threadId\":1},\"event\":\"stopped\",\"seq\":5,\"type\":\"event\"}",
+            "{\"body\":{\"breakpoints\":[{\"line\":4,\"verified\":true}]},\"command\":\"setBreakpoints\",\"request_seq\":4,\"seq\":6,\"success\":true,\"type\":\"response\"}",
+            "{\"body\":null,\"command\":\"continue\",\"request_seq\":5,\"seq\":7,\"success\":true,\"type\":\"response\"}",
+            "{\"body\":{\"allThreadsStopped\":true,\"description\":\"position 4\",\"reason\":\"event\",\"text\":\"at 4 p.0 print 8\\n\",\"threadId\":1},\"event\":\"stopped\",\"seq\":8,\"type\":\"event\"}",
+            "{\"body\":null,\"command\":\"setExceptionBreakpoints\",\"request_seq\":6,\"seq\":9,\"success\":true,\"type\":\"response\"}",
+            "{\"body\":null,\"command\":\"restart\",\"request_seq\":7,\"seq\":10,\"success\":true,\"type\":\"response\"}",
+            "{\"body\":{\"allThreadsStopped\":true,\"description\":\"position 0\",\"reason\":\"entry\",\"threadId\":1},\"event\":\"stopped\",\"seq\":11,\"type\":\"event\"}",
+            "{\"body\":null,\"command\":\"continue\",\"request_seq\":8,\"seq\":12,\"success\":true,\"type\":\"response\"}",
+            "{\"body\":{\"allThreadsStopped\":true,\"description\":\"position 4\",\"reason\":\"breakpoint\",\"threadId\":1},\"event\":\"stopped\",\"seq\":13,\"type\":\"event\"}",
+            "{\"body\":null,\"command\":\"disconnect\",\"request_seq\":9,\"seq\":14,\"success\":true,\"type\":\"response\"}",
         ],
     },
     // A seed draws the picks.

@@ -12,7 +12,7 @@ fn commands_have_their_kinds(rt: HostRuntime) {
         ("initialize", Kind::Initialize),
         ("launch", Kind::Launch),
         ("setBreakpoints", Kind::SetBreakpoints),
-        ("setExceptionBreakpoints", Kind::Accept),
+        ("setExceptionBreakpoints", Kind::SetEvents),
         ("configurationDone", Kind::ConfigurationDone),
         ("disconnect", Kind::Disconnect),
         ("terminate", Kind::Terminate),

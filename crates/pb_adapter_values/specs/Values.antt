@@ -3,7 +3,8 @@ use Rattle.std.specs.Prelude.{ℕ, zero, suc, ◌+◌, ◌*◌, ℤ, pos, nat_lt
 use Rattle.std.specs.Prelude.{List, [], ◌∷◌, ◌++◌, length, Option, Some, None, codes, slice_index_or}
 use Rattle.std.specs.Fmt.{decimal, signed_decimal}
 use Rattle.std.specs.Str.Lossy.{utf8_lossy}
-use Rattle.serde_json.specs.Data.{Data, boolean, number, string, object, unsigned, no_members, member}
+use Rattle.serde_json.specs.Data.{Data, array, boolean, number, string, object, unsigned, no_members, member}
+use Rattle.serde_json.specs.View.{items_of}
 use Rattle.pb_base.specs.Banker.{BankerState, processes, resources, cash, claim, loan}
 use Rattle.pb_base.specs.Lines.{name_of}
 use Rattle.pb_code.specs.Code.{CodeProcess, Thread, thread}
@@ -12,12 +13,17 @@ use Rattle.pb_machine.specs.declared.thread.ThreadState.{ThreadState}
 use Rattle.pb_machine.specs.declared.thread.ThreadState.TheVariants as given
 use Rattle.pb_adapter_requests.specs.Responses.{list_below, listed}
 
--- what the adapter can do
+-- what the adapter can do: it can stop at events, of which the client asks by this word
+abbrev pub events_filter : Data
+events_filter = object (member (codes "filter") (string (codes "events"))
+    (member (codes "label") (string (codes "Events")) no_members))
+
 abbrev pub capabilities_data : Data
-capabilities_data = object (member (codes "supportsConfigurationDoneRequest") (boolean true)
+capabilities_data = object (member (codes "exceptionBreakpointFilters") (array (items_of (events_filter ∷ [])))
+    (member (codes "supportsConfigurationDoneRequest") (boolean true)
     (member (codes "supportsRestartRequest") (boolean true)
     (member (codes "supportsStepBack") (boolean true)
-    (member (codes "supportsTerminateRequest") (boolean true) no_members))))
+    (member (codes "supportsTerminateRequest") (boolean true) no_members)))))
 
 -- the number of the thread that an arm of a process is
 abbrev pub thread_number : (p a : ℕ) → ℕ

@@ -14,6 +14,7 @@ pub fn capabilities(alloc: Global) -> Result<Value, AllocError>
     ensures { IfOk result (λ v. view v ≡ capabilities_data) }
 {
     json!(in alloc; {
+        "exceptionBreakpointFilters": [{"filter": "events", "label": "Events"}],
         "supportsConfigurationDoneRequest": true,
         "supportsRestartRequest": true,
         "supportsStepBack": true,
