@@ -129,13 +129,20 @@ body_at position reason thread = object (member (codes "allThreadsStopped") (boo
     (member (codes "reason") (string reason)
     (member (codes "threadId") (number (unsigned thread)) no_members))))
 
--- the same, with a text: what the last pick came to, or why an arm does not go on
-abbrev pub saying_at : (position : ℕ) → (reason : List ℕ) → (thread : ℕ) → (text : List ℕ) → Data
-saying_at position reason thread text = object (member (codes "allThreadsStopped") (boolean true)
-    (member (codes "description") (string (codes "position " ++ decimal position))
+-- the same, with a text
+abbrev pub saying_data : (shown reason : List ℕ) → (thread : ℕ) → (text : List ℕ) → Data
+saying_data shown reason thread text = object (member (codes "allThreadsStopped") (boolean true)
+    (member (codes "description") (string shown)
     (member (codes "reason") (string reason)
-    (member (codes "text") (string (utf8_lossy text))
+    (member (codes "text") (string text)
     (member (codes "threadId") (number (unsigned thread)) no_members)))))
+
+abbrev pub position_words : ℕ → List ℕ
+position_words position = codes "position " ++ decimal position
+
+-- and what the text says: what the last pick came to, or why an arm does not go on
+abbrev pub saying_at : (position : ℕ) → (reason : List ℕ) → (thread : ℕ) → (text : List ℕ) → Data
+saying_at position reason thread text = saying_data (position_words position) reason thread (utf8_lossy text)
 
 -- what a session answers, as text
 abbrev pub result_data : List ℕ → Data

@@ -37,6 +37,26 @@ pub fn stopped_body(
     )
 }
 
+// Returns the same with a text, as a value.
+fn saying_value(
+    alloc: Global,
+    shown: &str,
+    reason: &str,
+    thread: u64,
+    text: &str,
+) -> Result<Value, AllocError>
+    ensures { IfOk result (λ v. view v ≡ spec.saying_data shown.now reason.now thread text.now) }
+{
+    json!(in alloc; {"reason": reason, "description": shown, "threadId": thread, "allThreadsStopped": true, "text": text})
+}
+
+// Returns `position I`.
+fn position_words(alloc: Global, position: u32) -> Result<String, NoMemory>
+    ensures { IfOk result (λ s. s.bytes.items ≡ spec.position_words position) }
+{
+    Ok(format!(in alloc; "position {position}")?)
+}
+
 /// Returns the same, with a text that says more.
 pub fn saying_body(
     alloc: Global,
@@ -47,11 +67,9 @@ pub fn saying_body(
 ) -> Result<Value, NoMemory>
     ensures { IfOk result (λ v. view v ≡ spec.saying_at position reason.now thread text.now) }
 {
-    let shown = format!(in alloc; "position {position}")?;
+    let shown = position_words(alloc, position)?;
     let said = String::from_utf8_lossy(alloc, text)?;
-    Ok(
-        json!(in alloc; {"reason": reason, "description": shown, "threadId": thread, "allThreadsStopped": true, "text": said})?,
-    )
+    Ok(saying_value(alloc, shown.as_str(), reason, thread, &said)?)
 }
 
 /// Returns the text that a session answered.
