@@ -4,3 +4,4 @@
 mod conversations;
 mod frames;
 mod requests;
+mod values;

@@ -1,7 +1,7 @@
 //! Requests of a client.
 
 use pb_adapter_requests::Kind;
-use pb_adapter_requests::breakpoints::asked_lines;
+use pb_adapter_requests::breakpoints::{asked_lines, asks_events};
 use pb_adapter_requests::kind::kind_of;
 use pb_adapter_requests::request::{number_of, place_of, request_of, text_of};
 use serde_json::Value;
@@ -55,6 +55,32 @@ fn requests_are_read(rt: HostRuntime) {
         panic!(rt; "out of memory");
     };
     assert!(rt; lines.as_slice() == [7, 0, 0].as_slice());
+}
+
+/// Whether the request that a text is asks to stop at events.
+fn asks(rt: HostRuntime, text: &str) -> Option<bool> {
+    let Ok(message) = Value::from_str(rt.alloc(), text) else {
+        return None;
+    };
+    Some(asks_events(request_of(&message)?))
+}
+
+#[test]
+fn events_are_asked_for(rt: HostRuntime) {
+    for (filters, wanted) in [
+        ("[\"events\"]", true),
+        ("[\"faults\",\"events\"]", true),
+        ("[\"event\",7]", false),
+        ("[]", false),
+        ("\"events\"", false),
+    ] {
+        let Ok(text) = format!(in rt.alloc();
+            "{{\"seq\":1,\"command\":\"setExceptionBreakpoints\",\"arguments\":{{\"filters\":{filters}}}}}"
+        ) else {
+            panic!(rt; "out of memory");
+        };
+        assert!(rt; asks(rt, text.as_str()) == Some(wanted));
+    }
 }
 
 #[test]
