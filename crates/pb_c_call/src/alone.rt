@@ -10,8 +10,8 @@ ghost use Rattle.pb_c_call.specs.Replies.{RefusesThreads};
 
 use crate::drawn::record_drawn_engine;
 use pb_accept::{check_engine, claims_engine, emit_engine, migrate_engine, replay_engine};
-use pb_answer::answer::{debug, refuse, shown};
 use pb_adapter_engine::adapter_engine;
+use pb_answer::answer::{debug, refuse, shown};
 use pb_bank_engine::bank_engine;
 use pb_base::device::{Input, Output};
 use pb_command_io::Status;

@@ -404,8 +404,7 @@ fn with_bank<'a>(
     let about =
         "Be the banker of jobs that come and go: answer each command on standard input as it comes";
     let command = with_made(command, plain(alloc, "bank", about));
-    let about =
-        "Answer an editor by the Debug Adapter Protocol on standard input and output";
+    let about = "Answer an editor by the Debug Adapter Protocol on standard input and output";
     with_made(command, plain(alloc, "dap", about))
 }
 
