@@ -1,8 +1,8 @@
-//! The fair runs of small texts and of a graph.
+//! The fair runs of small texts.
 
-use pb_base::{Lending, Pick};
+use pb_base::Lending;
 use pb_codegen::compile;
-use pb_search_fair::{FairRuns, Graph, Move, fair_runs, has_fair_run};
+use pb_search_fair::{FairRuns, fair_runs};
 use std::alloc::Global;
 
 /// A text, and what is told of its fair runs.
@@ -64,37 +64,4 @@ fn fair_runs_of_texts(rt: HostRuntime) {
 fn too_many_for_fair_runs(rt: HostRuntime) {
     let text = CASES[0].text;
     assert!(rt; told(rt.alloc(), text, Lending::ByBanker, 2) == Some(FairRuns::TooMany));
-}
-
-/// Returns a move by the first arm of a process.
-fn step(process: u8, to: u32) -> Move {
-    Move {
-        pick: Pick { process, arm: 0 },
-        to,
-    }
-}
-
-/// Returns whether a graph of three numbers has a fair run: by moves of one process two of them lead to one another;
-/// those of another process lead from the first to the third, and from the second too if `always`, where all ends.
-fn has_run_of_three(alloc: Global, always: bool) -> Option<bool> {
-    let mut graph = Graph::new(alloc);
-    let mut second = vec![in alloc; step(0, 0)].ok()?;
-    if always {
-        second.push(step(1, 2)).ok()?;
-    }
-    graph
-        .push(vec![in alloc; step(0, 1), step(1, 2)].ok()?)
-        .ok()?;
-    graph.push(second).ok()?;
-    graph.push(Vec::new(alloc)).ok()?;
-    if graph.len() != 3 || graph.moves(0).len() != 2 {
-        return None;
-    }
-    has_fair_run(alloc, &graph).ok()
-}
-
-#[test]
-fn fair_runs_of_three_numbers(rt: HostRuntime) {
-    assert!(rt; has_run_of_three(rt.alloc(), true) == Some(false));
-    assert!(rt; has_run_of_three(rt.alloc(), false) == Some(true));
 }
