@@ -144,7 +144,7 @@ position_words position = codes "position " ++ decimal position
 abbrev pub saying_at : (position : ℕ) → (reason : List ℕ) → (thread : ℕ) → (text : List ℕ) → Data
 saying_at position reason thread text = saying_data (position_words position) reason thread (utf8_lossy text)
 
--- what a session answers, as text
+-- the result of a command of the session, with its text
 abbrev pub result_data : List ℕ → Data
 result_data text = object (member (codes "result") (string (utf8_lossy text))
     (member (codes "variablesReference") (number (unsigned 0)) no_members))

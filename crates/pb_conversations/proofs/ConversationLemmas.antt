@@ -37,7 +37,7 @@ texts_more messages told old mid new first wrote =
     ∙ (appended-appended old (texts messages) (texts told)
     ∙ ap (λ (t : List ℕ). appended old t) (sym (flat_map-append message_text messages told))))
 
--- a prefix of what comes behind a text
+-- if a text was written whole, and then a prefix of another one, a prefix of both together was written
 prefix_behind : (old mid new : Option (List ℕ)) (one more : List ℕ) → mid ≡ appended old one → AddsPrefix mid new more
     → AddsPrefix old new (one ++ more)
 prefix_behind old mid new one more first (done, left, is, wrote) = (

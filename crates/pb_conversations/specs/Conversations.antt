@@ -102,7 +102,7 @@ IsOfBytes frame.TooLong = ⊤
 IsOfBytes frame.Memory = ⊥
 IsOfBytes frame.Device = ⊥
 
--- if the rest does not begin with a message: the answers to the messages before it, and the reason
+-- the rest of the input does not begin with a message: a last message with the reason is written
 pub record IsBroken (first : ℕ) (rest : List ℕ) (messages : List Data) (old new : Option (List ℕ)) : Type 0 where
   pub fault : FrameFault
   pub of_bytes : IsOfBytes fault

@@ -33,7 +33,7 @@ pub enum Stop {
     Device,
 }
 
-/// Answers the requests of a conversation.
+/// A type that answers the requests of a conversation.
 pub trait Adapter {
     /// A request is answered by these messages, numbered from a number on, and leads from a state to another.
     ghost Answers: { Self → ℕ → Asked → List Data → Self → Type 0 };
