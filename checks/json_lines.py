@@ -51,6 +51,8 @@ LINES: list[tuple[str, dict[str, Any]]] = [
     ("more than <limit> configurations(?:, there may be others)?", {"kind": "others", "of": "configurations"}),
     ("more than <limit> picks(?:, there may be others)?", {"kind": "others", "of": "picks"}),
     ("first deadlock, there may be others", {"kind": "others", "of": "deadlocks"}),
+    ("every fair run ends", {"kind": "every fair run ends"}), ("some fair runs do not end", {"kind": "some fair runs do not end"}),
+    ("more than <limit> configurations for fair runs", {"kind": "others", "of": "fair runs"}),
     ("no outcome <number>", {"kind": "no outcome"}), ("no deadlock <number>", {"kind": "no deadlock"}),
     ("as expected", {"kind": "as expected"}), ("not as expected: <text>", {"kind": "not as expected"}), ("<text>", {"kind": "line"}),
 ]

@@ -155,6 +155,7 @@ fn options(case: &Case) -> Option<OutcomesOptions> {
         lend: case.lend,
         first_deadlock: false,
         prints: false,
+        fair: false,
         expect: true,
         any_order: case.any_order,
         run: None,

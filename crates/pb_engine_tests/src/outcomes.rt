@@ -20,6 +20,20 @@ const MANY: OutcomesOptions = OutcomesOptions {
     lend: Lend::Banker,
     first_deadlock: false,
     prints: false,
+    fair: false,
+    expect: false,
+    any_order: false,
+    run: None,
+    deadlock: None,
+};
+
+/// The same, and what is told of fair runs.
+const FAIR: OutcomesOptions = OutcomesOptions {
+    states: 1_000_000,
+    lend: Lend::Banker,
+    first_deadlock: false,
+    prints: false,
+    fair: true,
     expect: false,
     any_order: false,
     run: None,
@@ -31,6 +45,7 @@ const CASH: OutcomesOptions = OutcomesOptions {
     lend: Lend::Cash,
     first_deadlock: false,
     prints: false,
+    fair: false,
     expect: false,
     any_order: false,
     run: None,
@@ -42,6 +57,7 @@ const PRINTS: OutcomesOptions = OutcomesOptions {
     lend: Lend::Banker,
     first_deadlock: false,
     prints: true,
+    fair: false,
     expect: false,
     any_order: false,
     run: None,
@@ -56,7 +72,7 @@ const LOST: &[u8] =
 const DEVICES: &[u8] =
     b"resource tape = 1; resource disk = 1;\nprocess a begin hold 1 of tape do hold 1 of disk do print 1 od od end\nprocess b begin hold 1 of disk do hold 1 of tape do print 2 od od end\n";
 
-const CASES: [Case; 16] = [
+const CASES: [Case; 19] = [
     Case {
         text: LOST,
         options: MANY,
@@ -106,6 +122,24 @@ const CASES: [Case; 16] = [
         status: Status::Done,
     },
     Case {
+        text: b"process p begin integer x; while 1 do x := 0 od end",
+        options: FAIR,
+        said: b"0 outcomes, some runs do not end\nsome fair runs do not end\n",
+        status: Status::Done,
+    },
+    Case {
+        text: b"process p begin integer x; parbegin while x = 0 do skip od; x := 1 parend end",
+        options: FAIR,
+        said: b"",
+        status: Status::Done,
+    },
+    Case {
+        text: LOST,
+        options: FAIR,
+        said: b"outcome 1\np ended\np.x 2\nreached by\np.0 1\np.1 5\np.2 5\np.0 4\noutcome 2\np ended\np.x 1\nreached by\np.0 1\np.1 3\np.2 3\np.1 2\np.2 2\np.0 4\n2 outcomes\nevery fair run ends\n",
+        status: Status::Done,
+    },
+    Case {
         text: b"process p begin integer x, y; parbegin x := 1; y := 1 div 0 parend end",
         options: MANY,
         said: b"outcome 1\np faulted\np.x 1\np.y 0\nreached by\np.0 1\np.1 1\np.2 2\np.1 2\np.2 1\noutcome 2\np faulted\np.x 0\np.y 0\nreached by\np.0 1\np.1 1\np.2 3\n2 outcomes\n",
@@ -118,6 +152,7 @@ const CASES: [Case; 16] = [
             lend: Lend::Banker,
             first_deadlock: false,
             prints: false,
+            fair: false,
             expect: false,
             any_order: false,
             run: None,
@@ -133,6 +168,7 @@ const CASES: [Case; 16] = [
             lend: Lend::Banker,
             first_deadlock: false,
             prints: false,
+            fair: false,
             expect: false,
             any_order: false,
             run: None,

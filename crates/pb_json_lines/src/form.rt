@@ -93,7 +93,7 @@ static PARTS: [Form; 10] = [
 ];
 
 // All other forms but the last, in the order in which they are tried.
-static FORMS: [Form; 40] = [
+static FORMS: [Form; 43] = [
     Form {
         section: Section::Alone,
         first: "\"kind\":\"grant\"",
@@ -273,6 +273,21 @@ static FORMS: [Form; 40] = [
         section: Section::Alone,
         first: "\"kind\":\"others\",\"of\":\"picks\"",
         pattern: "more than S picks",
+    },
+    Form {
+        section: Section::Alone,
+        first: "\"kind\":\"every fair run ends\"",
+        pattern: "every fair run ends",
+    },
+    Form {
+        section: Section::Alone,
+        first: "\"kind\":\"some fair runs do not end\"",
+        pattern: "some fair runs do not end",
+    },
+    Form {
+        section: Section::Alone,
+        first: "\"kind\":\"others\",\"of\":\"fair runs\"",
+        pattern: "more than S configurations for fair runs",
     },
     Form {
         section: Section::Alone,

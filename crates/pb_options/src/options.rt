@@ -134,6 +134,8 @@ pub struct OutcomesOptions {
     pub first_deadlock: bool,
     /// Whether outcomes with different prints are different ones, and are shown with them.
     pub prints: bool,
+    /// Whether it is said behind all else if some fair run never ends.
+    pub fair: bool,
     /// Whether the prints of every run are compared with lines that follow the text.
     pub expect: bool,
     /// Whether those lines may be printed in any order.

@@ -2,6 +2,7 @@ pub mod CountLemmas
 pub mod ExpectLemmas
 pub mod ExpectedLaw
 pub mod ExpectedSource
+pub mod FairLemmas
 pub mod LineLemmas
 pub mod OneRunLemmas
 pub mod OutcomeLemmas

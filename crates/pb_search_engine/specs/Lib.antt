@@ -1,6 +1,7 @@
 pub mod DeadlockLines
 pub mod Expected
 pub mod ExpectedLaws
+pub mod FairLines
 pub mod OutcomeLines
 pub mod PrintLines
 pub mod SaysExpected

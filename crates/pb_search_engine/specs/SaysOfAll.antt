@@ -18,7 +18,8 @@ target_of None None = None
 abbrev pub SaysWhich : Option Target → OutcomesOptions → List ℕ → List ℕ → Status → Type 0
 SaysWhich (Some target) options =
     SaysOfOne target options.lend options.first_deadlock options.prints options.states
-SaysWhich None options = SaysOfOutcomes options.lend options.first_deadlock options.prints options.states
+SaysWhich None options =
+    SaysOfOutcomes options.lend options.first_deadlock options.prints options.fair options.states
 
 -- whether all runs are as expected, if that is asked; else a run or all outcomes
 abbrev pub SaysWhether : (expect : Bool) → OutcomesOptions → List ℕ → List ℕ → Status → Type 0

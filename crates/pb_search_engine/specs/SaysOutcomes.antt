@@ -1,5 +1,5 @@
 -- What `outcomes` says of an input, and with which status.
-use Rattle.std.specs.Prelude.{ℕ, zero, suc, Bool, true, false, List, ◌++◌, length}
+use Rattle.std.specs.Prelude.{◌≡◌, ℕ, zero, suc, Bool, true, false, List, ◌++◌, length}
 use Rattle.pb_code.specs.Whole.{Code, ProcessLabels}
 use Rattle.pb_codegen.specs.Compiled.{IsCompiled}
 use Rattle.pb_accept.specs.Refusals.{SaysOfRefusedText}
@@ -16,7 +16,10 @@ use Rattle.pb_search_stages.specs.declared.print.Mode.{Mode}
 use Rattle.pb_options.specs.Lends.{lending_for}
 use Rattle.pb_options.specs.declared.options.Lend.{Lend}
 use Rattle.pb_search_engine.specs.DeadlockLines.{AreDeadlockLines}
+use Rattle.pb_search_engine.specs.FairLines.{fair_line, status_with}
 use Rattle.pb_search_engine.specs.OutcomeLines.{AreOutcomeLines, last_line}
+use Rattle.pb_search_fair.specs.CodeRuns.{TellsFairRuns}
+use Rattle.pb_search_fair.specs.declared.runs.FairRuns.{FairRuns}
 
 -- what the search goes through, by the options
 abbrev pub mode_for : Lend → (prints : Bool) → Mode
@@ -46,11 +49,20 @@ pub data SaysOfSearch (mode : Mode) (until : Until) (code : Code) (labels : List
       → SaysOfSearch mode until code labels states
       ((lines ++ stuck) ++ last_line states (length found) (length deadlocks) extent) (status_of extent (length deadlocks))
 
+-- the same, and then, if that is asked, what is told of fair runs, whatever they print
+abbrev pub SaysFairly : (fair : Bool) → Mode → Until → Code → List ProcessLabels → (states : ℕ) → List ℕ → Status → Type 0
+SaysFairly false mode until code labels states text status = SaysOfSearch mode until code labels states text status
+SaysFairly true mode until code labels states text status =
+    (before : List ℕ) × (was : Status) × (told : FairRuns) × SaysOfSearch mode until code labels states before was
+    × TellsFairRuns (record { lending = mode.lending; prints = false }) code states told
+    × (text ≡ before ++ fair_line states told) × (status ≡ status_with was told)
+
 -- what is said of a text: it is refused; or it is accepted, and the outcomes and deadlocks of its code are
--- told
-pub data SaysOfOutcomes (lend : Lend) (first_deadlock prints : Bool) (states : ℕ) (bytes : List ℕ) : List ℕ → Status → Type 0 where
+-- told, and its fair runs if that is asked
+pub data SaysOfOutcomes (lend : Lend) (first_deadlock prints fair : Bool) (states : ℕ) (bytes : List ℕ) : List ℕ → Status → Type 0 where
   refused : (text : List ℕ) (status : Status) → SaysOfRefusedText bytes text status
-      → SaysOfOutcomes lend first_deadlock prints states bytes text status
+      → SaysOfOutcomes lend first_deadlock prints fair states bytes text status
   accepted : (code : Code) (labels : List ProcessLabels) → IsCompiled bytes code labels
-      → (text : List ℕ) (status : Status) → SaysOfSearch (mode_for lend prints) (until_for first_deadlock) code labels states text status
-      → SaysOfOutcomes lend first_deadlock prints states bytes text status
+      → (text : List ℕ) (status : Status)
+      → SaysFairly fair (mode_for lend prints) (until_for first_deadlock) code labels states text status
+      → SaysOfOutcomes lend first_deadlock prints fair states bytes text status

@@ -1,12 +1,16 @@
 //! The command `outcomes`, over any input and output.
 
-ghost use Rattle.std.specs.Prelude.{◌≡◌, ◌≤◌, IfOk, IfSome, length};
+ghost use Rattle.std.specs.Prelude.{◌≡◌, ◌≤◌, ◌++◌, IfOk, IfSome, IsTrue, false, length};
 ghost use Rattle.pb_code.specs.Limits.{AreLabels};
 ghost use Rattle.pb_command_io.specs.Answers.{Tells};
 ghost use Rattle.pb_command_io.specs.Faults.{TellsFaults, TellsWriteFaults};
 ghost use Rattle.pb_command_io.specs.Inputs.{SaysOfInput};
 ghost use Rattle.pb_search_engine.specs.SaysOfAll.{SaysOfSearches, target_of};
-ghost use Rattle.pb_search_engine.specs.SaysOutcomes.{SaysOfSearch, SaysOfOutcomes, mode_for, status_of, until_for};
+ghost use Rattle.pb_search.specs.Outcomes.{IsBounded};
+ghost use Rattle.pb_search.specs.declared.found.Extent.TheVariants.{All as AllFound};
+ghost use Rattle.pb_search_engine.specs.FairLines.{fair_line, status_with};
+ghost use Rattle.pb_search_engine.specs.SaysOutcomes.{SaysFairly, SaysOfSearch, SaysOfOutcomes, mode_for, status_of, until_for};
+ghost use Rattle.pb_search_fair.specs.CodeRuns.{TellsFairRuns};
 
 use crate::expect::tell_expected;
 use crate::lines::outcomes_text;
@@ -15,6 +19,7 @@ use pb_accept::accept::{compile_text, refuse};
 use pb_base::NoMemory;
 use pb_base::device::{Input, Output};
 use pb_base::limits::MAX_INPUT;
+use pb_base::writing::put_number;
 use pb_codegen::Compiled;
 use pb_command_io::Status;
 use pb_command_io::input::read_input;
@@ -22,6 +27,7 @@ use pb_command_io::reply::{Reply, tell};
 use pb_options::{Lend, OutcomesOptions};
 use pb_search::explore::explore_by;
 use pb_search::{Extent, Until};
+use pb_search_fair::{FairRuns, fair_runs};
 use pb_search_stages::Mode;
 use std::alloc::Global;
 
@@ -34,8 +40,10 @@ use std::alloc::Global;
 /// what was found by then is written, and the last line says that there may be others; the status is `Limit`, and
 /// else `Deadlock` if a deadlock was found. With `options.first_deadlock` the search ends at the first deadlock,
 /// which the last line says. With `options.prints` what was printed is shown too, behind a line `printed`, and
-/// outcomes and deadlocks with different prints are different ones. Of a text that is refused its refusal line is
-/// written.
+/// outcomes and deadlocks with different prints are different ones. With `options.fair` a last line says whether some
+/// run never ends in which no arm that is enabled from some point on is never picked again (weak fairness), or that
+/// more than `options.states` configurations are reached by single picks, with the status `Limit`. Of a text that is
+/// refused its refusal line is written.
 ///
 /// With `options.run` or `options.deadlock` the text is written with the picks that lead to the one with this
 /// number, as `replay` reads it, or that there is none. With `options.expect` the input is a text and print lines
@@ -100,7 +108,7 @@ fn tell_outcomes<O: Output>(
     output: &mut O,
 ) -> Status
     requires { length text.now ≤ MAX_INPUT }
-    ensures text { Tells (SaysOfInput (SaysOfOutcomes options.lend options.first_deadlock options.prints options.states) text.now) (O.written output.old) (O.written output.new) result }
+    ensures text { Tells (SaysOfInput (SaysOfOutcomes options.lend options.first_deadlock options.prints options.fair options.states) text.now) (O.written output.old) (O.written output.new) result }
     ensures faults { TellsWriteFaults (O.failures output.old) (O.failures output.new) result }
 {
     match compile_text(alloc, text) {
@@ -109,12 +117,41 @@ fn tell_outcomes<O: Output>(
     }
 }
 
-// Returns the lines of the outcomes and deadlocks of a compiled text.
+// Returns the lines of the outcomes and deadlocks of a compiled text, and of its fair runs if that is asked.
 fn reply(alloc: Global, options: OutcomesOptions, compiled: &Compiled) -> Result<Reply, NoMemory>
     requires { AreLabels compiled.now.verified.code compiled.now.labels }
     ensures { IfOk result (λ r.
-        SaysOfSearch (mode_for options.lend options.prints) (until_for options.first_deadlock) compiled.now.verified.code
+        SaysFairly options.fair (mode_for options.lend options.prints) (until_for options.first_deadlock) compiled.now.verified.code
         compiled.now.labels options.states r.text.items r.status) }
+{
+    let found = found_reply(alloc, options, compiled)?;
+    if !options.fair {
+        return Ok(found.reply);
+    }
+    let told = fair_told(alloc, options, compiled, found.all_end)?;
+    let reply = with_fair_line(found.reply, told, options.states)?;
+    Ok(reply)
+}
+
+// What is said of outcomes and deadlocks, and whether it is known that every run ends.
+#[derive(Drop)]
+struct FoundReply {
+    reply: Reply,
+    all_end: bool,
+}
+
+// Returns the lines of the outcomes and deadlocks of a compiled text.
+fn found_reply(
+    alloc: Global,
+    options: OutcomesOptions,
+    compiled: &Compiled,
+) -> Result<FoundReply, NoMemory>
+    requires { AreLabels compiled.now.verified.code compiled.now.labels }
+    ensures said { IfOk result (λ r.
+        SaysOfSearch (mode_for options.lend options.prints) (until_for options.first_deadlock) compiled.now.verified.code
+        compiled.now.labels options.states r.reply.text.items r.reply.status) }
+    ensures all_end { IfOk result (λ r.
+        IsTrue r.all_end → IsBounded (mode_for options.lend options.prints) compiled.now.verified.code) }
 {
     let verified = compiled.verified();
     let code = verified.code();
@@ -123,10 +160,70 @@ fn reply(alloc: Global, options: OutcomesOptions, compiled: &Compiled) -> Result
     let states = options.states;
     let told = explore_by(alloc, verified, mode, until, states)?;
     let text = outcomes_text(alloc, &code.names, compiled.labels(), &told, states)?;
-    Ok(Reply {
-        text,
-        status: status(told.extent, told.deadlocks.len()),
+    Ok(FoundReply {
+        reply: Reply {
+            text,
+            status: status(told.extent, told.deadlocks.len()),
+        },
+        all_end: all_end(told.extent),
     })
+}
+
+// Returns whether all was found, and no run never ends.
+fn all_end(extent: Extent) -> bool
+    ensures { IsTrue result → extent ≡ AllFound false }
+{
+    match extent {
+        Extent::All { cycles } => !cycles,
+        Extent::TooMany | Extent::TooLong | Extent::AtDeadlock => false,
+    }
+}
+
+// Returns what is told of the fair runs of a compiled text, of which it may be known that every run ends.
+fn fair_told(
+    alloc: Global,
+    options: OutcomesOptions,
+    compiled: &Compiled,
+    all_end: bool,
+) -> Result<FairRuns, NoMemory>
+    requires { IsTrue all_end → IsBounded (mode_for options.lend options.prints) compiled.now.verified.code }
+    ensures { IfOk result (TellsFairRuns (mode_for options.lend false) compiled.now.verified.code options.states) }
+{
+    if all_end {
+        return Ok(FairRuns::AllEnd);
+    }
+    fair_runs(
+        alloc,
+        compiled.verified(),
+        options.lend.lending(),
+        options.states,
+    )
+}
+
+// Returns the same with the line of what is told of fair runs behind all else.
+fn with_fair_line(reply: Reply, told: FairRuns, states: u32) -> Result<Reply, NoMemory>
+    ensures text { IfOk result (λ r. r.text.items ≡ reply.text.items ++ fair_line states told) }
+    ensures status { IfOk result (λ r. r.status ≡ status_with reply.status told) }
+{
+    let Reply { mut text, status } = reply;
+    match told {
+        FairRuns::AllEnd => {
+            text.extend_from_slice(b"every fair run ends\n")?;
+            Ok(Reply { text, status })
+        }
+        FairRuns::SomeDoNotEnd => {
+            text.extend_from_slice(b"some fair runs do not end\n")?;
+            Ok(Reply { text, status })
+        }
+        FairRuns::TooMany => {
+            put_number(&mut text, b"more than ", states)?;
+            text.extend_from_slice(b" configurations for fair runs\n")?;
+            Ok(Reply {
+                text,
+                status: Status::Limit,
+            })
+        }
+    }
 }
 
 // Returns the status, by how much was found and how many deadlocks there are.

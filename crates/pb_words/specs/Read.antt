@@ -78,6 +78,7 @@ HasCode rows code = one_of (codes "CODE") rows ≡ option_map code_name code
 abbrev pub HasSearchOptions : List Row → OutcomesOptions → Type 0
 HasSearchOptions rows o = HasNumber rows (codes "states") o.states × HasLend rows o.lend
     × HasFlag rows (codes "first-deadlock") o.first_deadlock × HasFlag rows (codes "prints") o.prints
+    × HasFlag rows (codes "fair") o.fair
     × HasFlag rows (codes "expect") o.expect × HasFlag rows (codes "any-order") o.any_order
     × HasOptionalNumberIn rows (codes "run") 1 MAX_STATES o.run × HasOptionalNumberIn rows (codes "deadlock") 1 MAX_STATES o.deadlock
 

@@ -160,6 +160,7 @@ fn outcomes_options(matches: &ArgMatches<'_>) -> Option<OutcomesOptions>
         lend,
         first_deadlock: flag(matches, "first-deadlock"),
         prints: flag(matches, "prints"),
+        fair: flag(matches, "fair"),
         expect: flag(matches, "expect"),
         any_order: flag(matches, "any-order"),
         run,

@@ -1,46 +1,17 @@
-use Rattle.std.proofs.Common.{◌∙◌, ap, subst}
-use Rattle.pb_code.specs.View.{code_view, labels_view}
-use Rattle.pb_search.specs.declared.found.Until.{Until}
-use Rattle.pb_search_stages.specs.declared.print.Mode.{Mode}
-use Rattle.pb_search_engine.specs.SaysOutcomes.{SaysOfSearch, mode_for, status_of}
-use Rattle.pb_search_engine.proofs.OutcomeLemmas.{deadlocks_few, deadlocks_here, found_few, found_here, says_told, some_told}
+use Rattle.std.proofs.Common.{sym, subst}
+use Rattle.pb_search_engine.proofs.FairLemmas.{says_fairly, says_plainly}
+use Rattle.pb_search_engine.specs.SaysOutcomes.{mode_for, until_for}
 use Rattle.pb_search_engine.proofs.outcomes.reply.Goals as goal
 
-pub outcomes_text-requires-clause-found : goal.outcomes_text-requires-clause-found
-outcomes_text-requires-clause-found c =
-    let told = c.in_ok-told.told in
-    found_here c.mode-mode.result c.args.compiled.now.verified c.verified-verified.result.now c.verified-verified.ensures (code_view c.code-code.result.now)
-    c.code-code.ensures.code c.args.compiled.now.labels (labels_view c.labels.result.now) c.labels.ensures.labels told.found.items
-    (some_told c.mode-mode.result c.verified-verified.result.now.code c.until-until.result c.args.options.states told c.in_ok-told.ensures).0 c.code-code.ensures.verified
-
-pub outcomes_text-requires-clause-found_few : goal.outcomes_text-requires-clause-found_few
-outcomes_text-requires-clause-found_few c =
-    let told = c.in_ok-told.told in
-    found_few c.mode-mode.result c.verified-verified.result.now.code told.found.items
-    (some_told c.mode-mode.result c.verified-verified.result.now.code c.until-until.result c.args.options.states told c.in_ok-told.ensures).0
-
-pub outcomes_text-requires-clause-deadlocks : goal.outcomes_text-requires-clause-deadlocks
-outcomes_text-requires-clause-deadlocks c =
-    let told = c.in_ok-told.told in
-    deadlocks_here c.mode-mode.result c.args.compiled.now.verified c.verified-verified.result.now c.verified-verified.ensures (code_view c.code-code.result.now)
-    c.code-code.ensures.code c.args.compiled.now.labels (labels_view c.labels.result.now) c.labels.ensures.labels told.deadlocks.items
-    (some_told c.mode-mode.result c.verified-verified.result.now.code c.until-until.result c.args.options.states told c.in_ok-told.ensures).1 c.code-code.ensures.verified
-
-pub outcomes_text-requires-clause-deadlocks_few : goal.outcomes_text-requires-clause-deadlocks_few
-outcomes_text-requires-clause-deadlocks_few c =
-    let told = c.in_ok-told.told in
-    deadlocks_few c.mode-mode.result c.verified-verified.result.now.code told.deadlocks.items
-    (some_told c.mode-mode.result c.verified-verified.result.now.code c.until-until.result c.args.options.states told c.in_ok-told.ensures).1
+pub returns-then-not-options : goal.returns-then-not-options
+returns-then-not-options c =
+    says_plainly c.args.options.fair (mode_for c.args.options.lend c.args.options.prints) (until_for c.args.options.first_deadlock)
+    c.args.compiled.now.verified.code c.args.compiled.now.labels c.args.options.states _ _ c.if-not-options.true
+    c.in_ok-found.ensures.said
 
 pub returns : goal.returns
 returns c =
-    let told = c.in_ok-told.told in
-    let (lines, stuck, are, stuck_are, is) = c.in_ok-text.ensures in
-    subst (λ (until : Until). SaysOfSearch (mode_for c.args.options.lend c.args.options.prints) until c.args.compiled.now.verified.code c.args.compiled.now.labels
-    c.args.options.states c.in_ok-text.text.items c.status.result) c.until-until.ensures
-    (subst (λ (mode : Mode). SaysOfSearch mode c.until-until.result c.args.compiled.now.verified.code c.args.compiled.now.labels c.args.options.states
-    c.in_ok-text.text.items c.status.result) c.mode-mode.ensures
-    (says_told c.mode-mode.result c.args.compiled.now.verified c.verified-verified.result.now c.verified-verified.ensures (code_view c.code-code.result.now)
-    c.code-code.ensures.code c.args.compiled.now.labels (labels_view c.labels.result.now) c.labels.ensures.labels
-    c.until-until.result told c.args.options.states lines stuck _ c.status.result c.in_ok-told.ensures are stuck_are is
-    (c.status.ensures ∙ ap (status_of told.extent) (c.len.ensures ∙ told.deadlocks.ok.0))))
+    says_fairly c.args.options.fair (mode_for c.args.options.lend c.args.options.prints) (until_for c.args.options.first_deadlock)
+    c.args.compiled.now.verified.code c.args.compiled.now.labels c.args.options.states c.in_ok-found.found.reply.text.items
+    c.in_ok-found.found.reply.status c.in_ok-told.told _ _ c.if-not-options.false c.in_ok-found.ensures.said
+    c.in_ok-told.ensures c.in_ok-reply.ensures.text c.in_ok-reply.ensures.status
