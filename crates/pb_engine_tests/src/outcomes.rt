@@ -130,7 +130,7 @@ const CASES: [Case; 19] = [
     Case {
         text: b"process p begin integer x; parbegin while x = 0 do skip od; x := 1 parend end",
         options: FAIR,
-        said: b"",
+        said: b"outcome 1\np ended\np.x 1\nreached by\np.0 1\np.2 3\np.1 5\np.0 2\n1 outcome, some runs do not end\nevery fair run ends\n",
         status: Status::Done,
     },
     Case {
