@@ -18,11 +18,11 @@ use Rattle.pb_message_stops.specs.Stops.{HoldsPick}
 use Rattle.pb_messages.specs.Messages.{IsMessage, IsMessageAt}
 use Rattle.pb_messages.specs.Said.{AreSaid, HasNoMark, IsLastLabel, SaysMore, SaysByReading, SaysOfFirstFormat, SaysWhetherFirst}
 use Rattle.pb_messages.specs.Said.{SaysOfPickLines, SaysOfPickedObject, SaysOfPickedText, SaysOfTexts, TellsObject}
-use Rattle.pb_messages.specs.Said.{SaysOfPrintLines, all, stopped, unread, unsaid}
+use Rattle.pb_messages.specs.Said.{SaysOfExpectedText, SaysOfPrintLines, all, stopped, unread, unsaid}
 use Rattle.pb_search_engine.specs.PrintLines.{IsBadPrint}
 use Rattle.pb_search_engine.specs.declared.print_lines.PrintFault.TheVariants.{NotPrint}
 use Rattle.pb_accept.specs.declared.cause.Cause.{Cause}
-use Rattle.pb_messages.specs.declared.message.Reading.TheVariants.{Debugged}
+use Rattle.pb_messages.specs.declared.message.Reading.TheVariants.{Debugged, Expected, Replayed}
 
 module _ {W E : Type 0} (seen : W → List ℕ) where
   -- the message of a fault of an object
@@ -59,6 +59,20 @@ module _ {W E : Type 0} (seen : W → List ℕ) where
   format_told text code labels shown (Ok told) compiled same says =
       inl (code, labels, compiled, subst (λ (c : Code). SaysWhetherFirst text c (seen told)) same says)
   format_told text code labels shown (Err e) compiled same says = says
+
+  -- what is said of a text and pick lines
+  pub text_replayed : (lending : Lending) (bytes text lines : List ℕ) (made : Result W E) → AreTwoParts bytes text lines
+      → IfOk made (λ told. SaysOfPickedText lending text lines (seen told))
+      → IfOk made (λ told. SaysByReading (Replayed lending) bytes (seen told))
+  text_replayed lending bytes text lines (Ok told) parts says = (text, lines, parts, says)
+  text_replayed lending bytes text lines (Err e) parts says = says
+
+  -- what is said of a text and print lines
+  pub text_expected : (bytes text lines : List ℕ) (made : Result W E) → AreTwoParts bytes text lines
+      → IfOk made (λ told. SaysOfExpectedText text lines (seen told))
+      → IfOk made (λ told. SaysByReading Expected bytes (seen told))
+  text_expected bytes text lines (Ok told) parts says = (text, lines, parts, says)
+  text_expected bytes text lines (Err e) parts says = says
 
   -- what is said of an object, pick lines and commands
   pub object_debugged : (lending : Lending) (bytes source rest lines commands : List ℕ) (made : Result W E) → AreTwoParts bytes source rest

@@ -1,4 +1,4 @@
-use Rattle.std.proofs.Common.{ℕ, ap, codes, sym, subst, ◌∙◌}
+use Rattle.std.proofs.Common.{ℕ, Some, ap, sym, subst, ◌∙◌}
 use Rattle.std.proofs.lemmas.Result.{MatchResult-weaker}
 use Rattle.pb_accept.specs.Causes.{cause_line}
 use Rattle.pb_options.specs.declared.code.Code.TheVariants.{K1}
