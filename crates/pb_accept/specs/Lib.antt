@@ -1,3 +1,4 @@
+pub mod Causes
 pub mod Checks
 pub mod ClaimLines
 pub mod Emissions

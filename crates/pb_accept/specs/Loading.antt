@@ -1,11 +1,12 @@
 -- When the bytes of an object give code that is safe to run, and what is said if they do not.
-use Rattle.std.specs.Prelude.{◌≡◌, ℕ, List, Option, Some}
+use Rattle.std.specs.Prelude.{◌≡◌, ℕ, List, Option, Some, option_map}
 use Rattle.pb_object.specs.Answers.{SpellsCode, IsFaultOf}
 use Rattle.pb_code.specs.Whole.{Code, ProcessLabels}
 use Rattle.pb_object.specs.declared.format.Format.{Format}
 use Rattle.pb_verifier.specs.Verified.{IsAnnotated, IsRefusedFor}
 use Rattle.pb_base.specs.Lines.{line}
-use Rattle.pb_accept.specs.Refusals.{object_line, verify_line}
+use Rattle.pb_accept.specs.Causes.{cause_line, object_cause, verify_cause}
+use Rattle.pb_accept.specs.declared.cause.Cause.{Cause}
 use Rattle.pb_accept.specs.declared.load.LoadFault.{LoadFault}
 use Rattle.pb_accept.specs.declared.load.LoadFault.TheVariants.{Object, Unsafe}
 use Rattle.pb_command_io.specs.declared.status.Status.{Status}
@@ -24,10 +25,14 @@ IsLoadFault bytes (Unsafe fault) =
     (format : Format) × (code : Code) × (labels : List ProcessLabels) × SpellsCode format code labels bytes
     × IsRefusedFor code fault
 
--- the line of a fault; there is none if it is out of memory
+-- the cause of a fault; there is none if it is out of memory
+abbrev pub load_cause : LoadFault → Option Cause
+load_cause (Object fault) = object_cause fault
+load_cause (Unsafe fault) = verify_cause fault
+
+-- its line
 abbrev pub load_line : LoadFault → Option (List ℕ)
-load_line (Object fault) = object_line fault
-load_line (Unsafe fault) = verify_line fault
+load_line fault = option_map cause_line (load_cause fault)
 
 -- what is said of bytes that give no safe code
 pub data SaysOfNoCode (bytes : List ℕ) : List ℕ → Status → Type 0 where

@@ -1,5 +1,5 @@
 -- What `replay` says of an input, and with which status.
-use Rattle.std.specs.Prelude.{◌≡◌, ◌++◌, ℕ, List, Option, Some, None, codes, length, take}
+use Rattle.std.specs.Prelude.{◌≡◌, ◌++◌, ℕ, List, Option, Some, codes, length, option_map, take}
 use Rattle.pb_base.specs.declared.event.Event.{Event}
 use Rattle.pb_base.specs.declared.lending.Lending.{Lending}
 use Rattle.pb_base.specs.declared.lending.Lending.TheVariants.{ByBanker}
@@ -12,14 +12,14 @@ use Rattle.pb_history.specs.Entries.{Entry, events_of}
 use Rattle.pb_history.specs.Replays.{IsReplayBy, IsStoppedBy, spread}
 use Rattle.pb_history.specs.declared.counted.CountedPick.{CountedPick}
 use Rattle.pb_history.specs.declared.fault.ReplayFault.{ReplayFault}
-use Rattle.pb_history.specs.declared.fault.ReplayFault.TheVariants as replay
 use Rattle.pb_names.specs.Meaning.{SourceCanBy}
 use Rattle.pb_picks.specs.PickLines.{IsFaulty, SpellsPicks}
 use Rattle.pb_picks.specs.declared.fault.PickFault.{PickFault}
-use Rattle.pb_picks.specs.declared.fault.PickFault.TheVariants as picks
 use Rattle.pb_command_io.specs.Answers.{memory_line}
 use Rattle.pb_command_io.specs.Parts.{AreTwoParts}
-use Rattle.pb_accept.specs.Refusals.{RefusesWith, at_place}
+use Rattle.pb_accept.specs.Causes.{cause_line, picks_cause, stop_cause}
+use Rattle.pb_accept.specs.declared.cause.Cause.{Cause}
+use Rattle.pb_accept.specs.Refusals.{RefusesWith}
 use Rattle.pb_accept.specs.ToldEvents.{HasFault, event_lines}
 use Rattle.pb_accept.specs.declared.ending.Ending.{Ending}
 use Rattle.pb_accept.specs.declared.ending.Ending.TheVariants.{Over, Stuck, Open}
@@ -53,21 +53,14 @@ IsLinesFaultBy lending code lines (NotMade fault) =
 abbrev pub IsLinesFault : Code → List ℕ → LinesFault → Type 0
 IsLinesFault code = IsLinesFaultBy ByBanker code
 
--- the line of lines that say no picks: where the first faulty one begins, counted from behind the line `%%`
-abbrev pub picks_line : PickFault → Option (List ℕ)
-picks_line (picks.NotPicks at) = Some (at_place (codes "refused K1") at)
-picks_line picks.TooMany = Some (codes "refused K2")
-picks_line picks.NoMemory = None
+-- the cause of a fault; there is none if it is out of memory
+abbrev pub lines_cause : LinesFault → Option Cause
+lines_cause (NotRead fault) = picks_cause fault
+lines_cause (NotMade fault) = stop_cause fault
 
--- the line of the first pick that is not enabled: its number, counted from 0
-abbrev pub stop_line : ReplayFault → Option (List ℕ)
-stop_line (replay.NotEnabled i) = Some (at_place (codes "refused H1") i)
-stop_line replay.NoMemory = None
-
--- the line of a fault; there is none if it is out of memory
+-- its line
 abbrev pub lines_line : LinesFault → Option (List ℕ)
-lines_line (NotRead fault) = picks_line fault
-lines_line (NotMade fault) = stop_line fault
+lines_line fault = option_map cause_line (lines_cause fault)
 
 -- what is said of lines that have a fault under this lending
 pub data SaysOfNoPicksBy (lending : Lending) (code : Code) (lines : List ℕ) : List ℕ → Status → Type 0 where

@@ -8,7 +8,8 @@ ghost use Rattle.pb_codegen.specs.Numbered.{IsReadAs};
 ghost use Rattle.pb_names.specs.View.{resolved_view};
 ghost use Rattle.pb_command_io.specs.Faults.{TellsWriteFaults};
 
-use crate::refusal::{claims_text, lex_text, names_text, parse_text};
+use crate::cause::{lex_cause, parse_cause};
+use crate::refusal::{claims_text, names_text, refusal_text};
 use bumpalo::Bump;
 use pb_base::NoMemory;
 use pb_base::device::Output;
@@ -34,8 +35,8 @@ fn fault_line(alloc: Global, fault: CompileFault) -> Result<Vec<u8>, NoMemory>
         → IfOk result (λ line. RefusesEarly text line.items) }
 {
     match fault {
-        CompileFault::Lex(fault) => lex_text(alloc, fault),
-        CompileFault::Parse(fault) => parse_text(alloc, fault),
+        CompileFault::Lex(fault) => refusal_text(alloc, lex_cause(fault)),
+        CompileFault::Parse(fault) => refusal_text(alloc, parse_cause(fault)),
         CompileFault::Names(fault) => names_text(alloc, fault),
         CompileFault::Claims(fault) => claims_text(alloc, &fault),
         CompileFault::Memory => Err(NoMemory),

@@ -3,6 +3,7 @@
 #![tactic(auto)]
 
 pub mod accept;
+mod cause;
 pub mod check;
 pub mod claims;
 pub mod emit;
@@ -15,9 +16,14 @@ mod refusal;
 pub mod replay;
 pub mod run_text;
 
+pub use cause::{
+    Cause, lex_cause, names_cause, object_cause, parse_cause, picks_cause, stop_cause, text_cause,
+    verify_cause,
+};
 pub use check::check_engine;
 pub use claims::claims_engine;
 pub use emit::emit_engine;
 pub use migrate::migrate_engine;
 pub use pb_options::{CheckOptions, EmitOptions};
+pub use refusal::cause_text;
 pub use replay::replay_engine;

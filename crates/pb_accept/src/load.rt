@@ -1,11 +1,13 @@
 //! Objects, read and verified.
-ghost use Rattle.std.specs.Prelude.{◌≡◌, ◌<◌, ℕ, IfErr, IfOk, List, Some, length};
+ghost use Rattle.std.specs.Prelude.{◌≡◌, ◌<◌, ℕ, IfErr, IfOk, List, length};
 ghost use Rattle.pb_object.specs.Answers.{HasText};
 ghost use Rattle.pb_code.specs.View.{labels_view};
 ghost use Rattle.pb_object.specs.declared.format.Format.TheVariants.{Two};
-ghost use Rattle.pb_accept.specs.Loading.{IsLoaded, IsLoadFault, SaysOfNoCode, load_line};
+ghost use Rattle.pb_accept.specs.Loading as spec;
+ghost use Rattle.pb_accept.specs.Loading.{IsLoaded, IsLoadFault, SaysOfNoCode};
 
-use crate::refusal::{object_text, verify_text};
+use crate::cause::{Cause, object_cause, verify_cause};
+use crate::refusal::refusal_text;
 use pb_base::NoMemory;
 use pb_base::limits::MAX_INPUT;
 use pb_code::Labels;
@@ -41,13 +43,13 @@ pub fn load(alloc: Global, bytes: &[u8]) -> Result<(Verified, Labels), LoadFault
     }
 }
 
-// Returns the line of a refusal, without a line feed. A fault that is out of memory has none.
-fn load_text(alloc: Global, fault: LoadFault) -> Result<Vec<u8>, NoMemory>
-    ensures { IfOk result (λ text. load_line fault ≡ Some text.items) }
+/// Returns the cause of a refused object; none if it is out of memory.
+pub fn load_cause(fault: LoadFault) -> Option<Cause>
+    ensures { result ≡ spec.load_cause fault }
 {
     match fault {
-        LoadFault::Object(fault) => object_text(alloc, fault),
-        LoadFault::Unsafe(fault) => verify_text(alloc, fault),
+        LoadFault::Object(fault) => object_cause(fault),
+        LoadFault::Unsafe(fault) => verify_cause(fault),
     }
 }
 
@@ -57,6 +59,6 @@ pub fn load_refusal(alloc: Global, fault: LoadFault) -> Result<Reply, NoMemory>
     ensures { (bytes : List ℕ) → IsLoadFault bytes fault
         → IfOk result (λ r. SaysOfNoCode bytes r.text.items r.status) }
 {
-    let text = load_text(alloc, fault)?;
+    let text = refusal_text(alloc, load_cause(fault))?;
     refused(text)
 }

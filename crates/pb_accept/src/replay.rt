@@ -1,5 +1,5 @@
 //! The command `replay`, over any input and output.
-ghost use Rattle.std.specs.Prelude.{◌≡◌, ◌≢◌, ◌≤◌, ℕ, List, All, IfErr, IfOk, IfSome, Some, length};
+ghost use Rattle.std.specs.Prelude.{◌≡◌, ◌≢◌, ◌≤◌, ℕ, List, All, IfErr, IfOk, IfSome, length};
 ghost use Rattle.pb_base.specs.Lines.{HasNames};
 ghost use Rattle.pb_base.specs.declared.lending.Lending.{Lending as LendingValue};
 ghost use Rattle.pb_command_io.specs.Answers.{Tells};
@@ -7,7 +7,7 @@ ghost use Rattle.pb_command_io.specs.Faults.{TellsFaults, TellsWriteFaults};
 ghost use Rattle.pb_command_io.specs.Inputs.{SaysOfInput};
 ghost use Rattle.pb_accept.specs.ReplayLines.{AreReplayed, AreReplayedBy, IsEndStatus, IsLinesFault, IsLinesFaultBy};
 ghost use Rattle.pb_accept.specs.ReplayLines.{IsStatusAt, SaysOfEvents, SaysOfLines, SaysOfNoPicksBy, SaysOfReplay};
-ghost use Rattle.pb_accept.specs.ReplayLines.{lines_line};
+ghost use Rattle.pb_accept.specs.ReplayLines as spec;
 ghost use Rattle.pb_history.specs.Entries.{events_of};
 ghost use Rattle.pb_base.specs.Steppers.{State};
 ghost use Rattle.pb_code.specs.Code.{CodeProcess};
@@ -17,10 +17,11 @@ ghost use Rattle.pb_options.specs.Lends.{lending_for};
 ghost use Rattle.pb_command_io.specs.declared.status.Status.TheVariants.{Device};
 
 use crate::accept::{compile_text, refuse};
+use crate::cause::{Cause, picks_cause, stop_cause};
 use crate::ending::{Ending, ending_of};
 use crate::events::tell_events;
 use crate::faults::has_fault;
-use crate::refusal::{picks_text, stop_text};
+use crate::refusal::refusal_text;
 use pb_base::device::{Input, Output};
 use pb_base::limits::MAX_INPUT;
 use pb_base::{Lending, NoMemory};
@@ -144,13 +145,13 @@ pub fn make_lines_by(
     }
 }
 
-// Returns the line of a refusal, without a line feed. A fault that is out of memory has none.
-fn lines_text(alloc: Global, fault: LinesFault) -> Result<Vec<u8>, NoMemory>
-    ensures { IfOk result (λ text. lines_line fault ≡ Some text.items) }
+/// Returns the cause of refused pick lines; none if it is out of memory.
+pub fn lines_cause(fault: LinesFault) -> Option<Cause>
+    ensures { result ≡ spec.lines_cause fault }
 {
     match fault {
-        LinesFault::NotRead(fault) => picks_text(alloc, fault),
-        LinesFault::NotMade(fault) => stop_text(alloc, fault),
+        LinesFault::NotRead(fault) => picks_cause(fault),
+        LinesFault::NotMade(fault) => stop_cause(fault),
     }
 }
 
@@ -160,7 +161,7 @@ pub fn lines_refusal(alloc: Global, fault: LinesFault) -> Result<Reply, NoMemory
     ensures { (lending : LendingValue) (code : Code) (lines : List ℕ) → IsLinesFaultBy lending code lines fault
         → IfOk result (λ r. SaysOfNoPicksBy lending code lines r.text.items r.status) }
 {
-    let text = lines_text(alloc, fault)?;
+    let text = refusal_text(alloc, lines_cause(fault))?;
     refused(text)
 }
 

@@ -1,7 +1,7 @@
 -- What was recorded can be replayed.
 use Rattle.std.proofs.Common.{◌≡◌, ◌≢◌, ◌↔◌, ℕ, zero, suc, ◌<◌, ◌≤◌, ◌⊎◌, List, [], ◌∷◌, length, length-append, take}
 use Rattle.std.proofs.Common.{Option, Some, None, refl, sym, ap, subst, ◌∙◌, inl, inr, arith}
-use Rattle.std.specs.Prelude.{slice_get}
+use Rattle.std.specs.Prelude.{option_map, slice_get}
 use Rattle.pb_base.specs.declared.event.Event.{Event}
 use Rattle.pb_base.specs.declared.pick.Pick.{Pick}
 use Rattle.pb_base.specs.declared.lending.Lending.{Lending}
@@ -34,8 +34,9 @@ use Rattle.pb_record.specs.Recorded.{IsRecorded}
 use Rattle.pb_engines.specs.Records.{no_threads, recorded_status, refused, too_long, written}
 use Rattle.pb_accept.specs.Refusals.{RefusesWith, refused as by_line}
 use Rattle.pb_accept.specs.ReplayLines.{AreReplayedBy, IsEnding, IsEndStatus, IsLinesFaultBy, IsStatusAt, SaysOfEvents, SaysOfReplay, all_told}
-use Rattle.pb_accept.specs.ReplayLines.{lines_line, made_again, no_fault, no_picks, no_text, out_of_memory, picks_line}
-use Rattle.pb_accept.specs.ReplayLines.{refused as not_made, some_fault, stop_line}
+use Rattle.pb_accept.specs.Causes.{cause_line, picks_cause, stop_cause}
+use Rattle.pb_accept.specs.ReplayLines.{lines_line, made_again, no_fault, no_picks, no_text, out_of_memory}
+use Rattle.pb_accept.specs.ReplayLines.{refused as not_made, some_fault}
 use Rattle.pb_accept.specs.declared.ending.Ending.{Ending}
 use Rattle.pb_accept.specs.declared.ending.Ending.TheVariants.{Over, Stuck, Open}
 use Rattle.pb_accept.specs.declared.replay.LinesFault.{LinesFault}
@@ -97,10 +98,10 @@ module _ (lending : Lending) (code : Code) (annotated : IsAnnotated code) (steps
 
   pub no_line_is_refused : (fault : LinesFault) → IsLinesFaultBy lending code lines fault → lines_line fault ≡ None
   no_line_is_refused (NotRead fault) faulty =
-      ap picks_line (spelled_is_not_faulty code lines picks fault limits said_lines faulty)
+      ap (λ f. option_map cause_line (picks_cause f)) (spelled_is_not_faulty code lines picks fault limits said_lines faulty)
   no_line_is_refused (NotMade fault) (counted, spelled, stopped) =
       let same : counted ≡ picks = spells_at_most_one code lines counted picks limits spelled said_lines in
-      ap stop_line (recorded_never_stops lending code steps seed picks end recorded fault
+      ap (λ f. option_map cause_line (stop_cause f)) (recorded_never_stops lending code steps seed picks end recorded fault
       (subst (λ (cs : List CountedPick). IsStoppedBy lending code (spread cs) fault) same stopped))
 
 -- ---- what `record` wrote

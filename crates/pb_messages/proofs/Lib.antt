@@ -1,3 +1,2 @@
-pub mod CauseLemmas
 pub mod LiveLemmas
 pub mod SaidLemmas

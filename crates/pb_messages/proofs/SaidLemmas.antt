@@ -5,9 +5,9 @@ use Rattle.std.proofs.lemmas.List.{length-drop}
 use Rattle.pb_base.specs.declared.lending.Lending.{Lending}
 use Rattle.pb_code.specs.Whole.{Code, ProcessLabels}
 use Rattle.pb_codegen.specs.Compiled.{IsCompiled}
-use Rattle.pb_accept.specs.Loading.{IsLoadFault, load_line}
+use Rattle.pb_accept.specs.Causes.{picks_cause}
+use Rattle.pb_accept.specs.Loading.{IsLoadFault, load_cause}
 use Rattle.pb_command_io.specs.Parts.{AreTwoParts, IsCutAt, IsMark}
-use Rattle.pb_accept.specs.ReplayLines.{picks_line}
 use Rattle.pb_accept.specs.declared.load.LoadFault.{LoadFault}
 use Rattle.pb_history.specs.Replays.{IsStoppedBy, spread}
 use Rattle.pb_history.specs.declared.counted.CountedPick.{CountedPick}
@@ -15,28 +15,26 @@ use Rattle.pb_history.specs.declared.fault.ReplayFault.TheVariants.{NotEnabled}
 use Rattle.pb_picks.specs.PickLines.{IsFaulty, SpellsPicks}
 use Rattle.pb_picks.specs.declared.fault.PickFault.{PickFault}
 use Rattle.pb_message_stops.specs.Stops.{HoldsPick}
-use Rattle.pb_messages.specs.Causes.{IsCauseOf}
 use Rattle.pb_messages.specs.Messages.{IsMessage, IsMessageAt}
 use Rattle.pb_messages.specs.Said.{AreSaid, HasNoMark, IsLastLabel, SaysMore, SaysByReading, SaysOfFirstFormat, SaysWhetherFirst}
 use Rattle.pb_messages.specs.Said.{SaysOfPickLines, SaysOfPickedObject, SaysOfPickedText, SaysOfTexts, TellsObject}
-use Rattle.pb_messages.specs.Said.{SaysOfPrintLines, all, stopped, unread, unsaid}
+use Rattle.pb_messages.specs.Said.{SaysOfExpectedText, SaysOfPrintLines, all, stopped, unread, unsaid}
 use Rattle.pb_search_engine.specs.PrintLines.{IsBadPrint}
 use Rattle.pb_search_engine.specs.declared.print_lines.PrintFault.TheVariants.{NotPrint}
-use Rattle.pb_messages.specs.declared.cause.Cause.{Cause}
-use Rattle.pb_messages.specs.declared.message.Reading.TheVariants.{Debugged}
+use Rattle.pb_accept.specs.declared.cause.Cause.{Cause}
+use Rattle.pb_messages.specs.declared.message.Reading.TheVariants.{Debugged, Expected, Replayed}
 
 module _ {W E : Type 0} (seen : W → List ℕ) where
   -- the message of a fault of an object
-  pub object_told : (bytes : List ℕ) (fault : LoadFault) (line : Option (List ℕ)) (cause : Cause) (made : Result W E)
-      → IsLoadFault bytes fault → load_line fault ≡ line → IsCauseOf line (Some cause)
+  pub object_told : (bytes : List ℕ) (fault : LoadFault) (cause : Cause) (made : Result W E)
+      → IsLoadFault bytes fault → load_cause fault ≡ Some cause
       → IfOk made (λ told. IsMessage [] bytes cause (seen told)) → IfOk made (λ told. TellsObject bytes (seen told))
-  object_told bytes fault line cause (Ok told) is same caused message =
-      (fault, cause, is, subst (λ (l : Option (List ℕ)). IsCauseOf l (Some cause)) (sym same) caused, message)
-  object_told bytes fault line cause (Err e) is same caused message = message
+  object_told bytes fault cause (Ok told) is caused message = (fault, cause, is, caused, message)
+  object_told bytes fault cause (Err e) is caused message = message
 
   -- the message of lines that say no picks
   pub lines_told : (lending : Lending) (code : Code) (lines : List ℕ) (fault : PickFault) (cause : Cause) (made : Result W E) → IsFaulty code lines fault
-      → IsCauseOf (picks_line fault) (Some cause) → IfOk made (λ told. IsMessage (codes "pick ") lines cause (seen told))
+      → picks_cause fault ≡ Some cause → IfOk made (λ told. IsMessage (codes "pick ") lines cause (seen told))
       → IfOk made (λ told. SaysOfPickLines lending code lines (seen told))
   lines_told lending code lines fault cause (Ok told) is caused message = unread fault cause (seen told) is caused message
   lines_told lending code lines fault cause (Err e) is caused message = message
@@ -61,6 +59,20 @@ module _ {W E : Type 0} (seen : W → List ℕ) where
   format_told text code labels shown (Ok told) compiled same says =
       inl (code, labels, compiled, subst (λ (c : Code). SaysWhetherFirst text c (seen told)) same says)
   format_told text code labels shown (Err e) compiled same says = says
+
+  -- what is said of a text and pick lines
+  pub text_replayed : (lending : Lending) (bytes text lines : List ℕ) (made : Result W E) → AreTwoParts bytes text lines
+      → IfOk made (λ told. SaysOfPickedText lending text lines (seen told))
+      → IfOk made (λ told. SaysByReading (Replayed lending) bytes (seen told))
+  text_replayed lending bytes text lines (Ok told) parts says = (text, lines, parts, says)
+  text_replayed lending bytes text lines (Err e) parts says = says
+
+  -- what is said of a text and print lines
+  pub text_expected : (bytes text lines : List ℕ) (made : Result W E) → AreTwoParts bytes text lines
+      → IfOk made (λ told. SaysOfExpectedText text lines (seen told))
+      → IfOk made (λ told. SaysByReading Expected bytes (seen told))
+  text_expected bytes text lines (Ok told) parts says = (text, lines, parts, says)
+  text_expected bytes text lines (Err e) parts says = says
 
   -- what is said of an object, pick lines and commands
   pub object_debugged : (lending : Lending) (bytes source rest lines commands : List ℕ) (made : Result W E) → AreTwoParts bytes source rest

@@ -1,8 +1,11 @@
 -- What a message says of a refusal.
 use Rattle.std.specs.Prelude.{◌≡◌, ◌≢◌, ◌<◌, ℕ, List, [], ◌++◌, Option, None, Some, codes, length, min, slice_index}
-use Rattle.pb_messages.specs.Causes.{TellsCause}
+use Rattle.pb_accept.specs.Causes.{text_cause}
 use Rattle.pb_message_excerpts.specs.Places.{IsPlace, excerpt}
-use Rattle.pb_messages.specs.declared.cause.Cause.{Cause}
+use Rattle.pb_accept.specs.declared.cause.Cause.{Cause}
+use Rattle.pb_codegen.specs.Compiled.{IsRefused}
+use Rattle.pb_codegen.specs.declared.fault.CompileFault.{CompileFault}
+use Rattle.pb_options.specs.Codes.{code_name}
 use Rattle.pb_message_excerpts.specs.declared.place.Place.{Place}
 
 -- the place of a fault as it is shown: nothing if it has none; one behind the text is that of its end
@@ -29,8 +32,12 @@ IsMessageAt label text code at told =
 
 -- the message of a cause
 abbrev pub IsMessage : (label text : List ℕ) → Cause → List ℕ → Type 0
-IsMessage label text cause told = IsMessageAt label text cause.code.now cause.at told
+IsMessage label text cause told = IsMessageAt label text (code_name cause.code) cause.at told
 
--- the message tells a refusal line that the text has: its code and its offset
+-- the text is refused for this cause, which its refusal line tells
+abbrev pub HasCause : (text : List ℕ) → Cause → Type 0
+HasCause text cause = (fault : CompileFault) × IsRefused text fault × (text_cause fault ≡ Some cause)
+
+-- the message tells the cause of the refusal of a text: its code and its offset
 abbrev pub TellsRefusal : (label text told : List ℕ) → Type 0
-TellsRefusal label text told = (cause : Cause) × TellsCause text cause × IsMessage label text cause told
+TellsRefusal label text told = (cause : Cause) × HasCause text cause × IsMessage label text cause told

@@ -8,18 +8,17 @@ use Rattle.pb_code.specs.Code.{CodeProcess}
 use Rattle.pb_code.specs.Whole.{Code, ProcessLabels}
 use Rattle.pb_codegen.specs.Compiled.{IsCompiled}
 use Rattle.pb_codegen.specs.Numbered.{IsReadAs}
-use Rattle.pb_accept.specs.Loading.{IsLoadFault, IsLoaded, load_line}
+use Rattle.pb_accept.specs.Causes.{picks_cause}
+use Rattle.pb_accept.specs.Loading.{IsLoadFault, IsLoaded, load_cause}
 use Rattle.pb_command_io.specs.Parts.{AreTwoParts, IsCutAt, IsMarkAt}
 use Rattle.pb_accept.specs.Refusals.{IsAcceptedText}
-use Rattle.pb_accept.specs.ReplayLines.{picks_line}
 use Rattle.pb_accept.specs.declared.load.LoadFault.{LoadFault}
 use Rattle.pb_history.specs.Entries.{Entry}
 use Rattle.pb_history.specs.Replays.{IsReplayBy, IsStoppedBy, spread}
 use Rattle.pb_history.specs.declared.counted.CountedPick.{CountedPick}
 use Rattle.pb_history.specs.declared.fault.ReplayFault.TheVariants.{NotEnabled}
-use Rattle.pb_messages.specs.Causes.{IsCauseOf}
 use Rattle.pb_messages.specs.Messages.{IsMessage, IsMessageAt, TellsRefusal}
-use Rattle.pb_messages.specs.declared.cause.Cause.{Cause}
+use Rattle.pb_accept.specs.declared.cause.Cause.{Cause}
 use Rattle.pb_messages.specs.declared.message.Reading.{Reading}
 use Rattle.pb_messages.specs.declared.message.Reading.TheVariants.{Text, Claims, Recorded, FirstFormat, Texts, Object}
 use Rattle.pb_messages.specs.declared.message.Reading.TheVariants.{Replayed, Expected, Debugged}
@@ -105,7 +104,7 @@ pub data SaysOfTexts (bytes : List ℕ) : List ℕ → Type 0 where
 -- the message of an object that is not read, or is not safe
 abbrev pub TellsObject : (bytes told : List ℕ) → Type 0
 TellsObject bytes told =
-    (fault : LoadFault) × (cause : Cause) × IsLoadFault bytes fault × IsCauseOf (load_line fault) (Some cause)
+    (fault : LoadFault) × (cause : Cause) × IsLoadFault bytes fault × (load_cause fault ≡ Some cause)
     × IsMessage [] bytes cause told
 
 -- of an object: why it is refused, or nothing
@@ -119,7 +118,7 @@ pub data SaysOfPickLines (lending : Lending) (code : Code) (lines : List ℕ) : 
   made : (picks : List CountedPick) (entries : List Entry) (end : State CodeProcess)
       → SpellsPicks code lines picks → IsReplayBy lending code (spread picks) entries end → SaysOfPickLines lending code lines []
   unread : (fault : PickFault) (cause : Cause) (told : List ℕ)
-      → IsFaulty code lines fault → IsCauseOf (picks_line fault) (Some cause)
+      → IsFaulty code lines fault → picks_cause fault ≡ Some cause
       → IsMessage (codes "pick ") lines cause told → SaysOfPickLines lending code lines told
   stopped : (picks : List CountedPick) (number : ℕ) (told : List ℕ)
       → SpellsPicks code lines picks → IsStoppedBy lending code (spread picks) (NotEnabled number)

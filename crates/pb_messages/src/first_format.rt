@@ -5,9 +5,9 @@ ghost use Rattle.pb_code.specs.View.{code_view};
 ghost use Rattle.pb_messages.specs.Messages.{IsMessageAt};
 ghost use Rattle.pb_messages.specs.Said.{SaysOfFirstFormat, SaysWhetherFirst};
 
-use crate::cause::Cause;
 use crate::texts::text_message;
 use crate::worded::worded;
+use pb_accept::Cause;
 use pb_base::NoMemory;
 use pb_code::Code;
 use pb_message_wording::unsaid_wording;
@@ -41,7 +41,7 @@ fn unsaid_message(alloc: Global, text: &[u8]) -> Result<Vec<u8>, NoMemory>
 {
     let wording = unsaid_wording(alloc, text)?;
     let cause = Cause {
-        code: b"E1",
+        code: pb_options::Code::E1,
         at: None,
     };
     worded(alloc, "", text, &cause, &wording)

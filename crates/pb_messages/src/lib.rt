@@ -1,7 +1,6 @@
 //! Messages for a person: what a refused input has wrong, where, and what is usually meant.
 #![tactic(auto)]
 
-pub mod cause;
 mod first_format;
 pub mod kept;
 pub mod live;
@@ -13,7 +12,6 @@ pub mod standard_error;
 pub mod texts;
 mod worded;
 
-pub use cause::Cause;
 pub use kept::KeptInput;
 pub use live::live_message;
 pub use message::{Reading, message_of};

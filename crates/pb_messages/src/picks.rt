@@ -7,8 +7,8 @@ ghost use Rattle.pb_history.specs.Replays.{IsStoppedBy, spread};
 ghost use Rattle.pb_messages.specs.Said.{SaysOfPickLines};
 ghost use Rattle.pb_picks.specs.PickLines.{IsFaulty, SpellsPicks};
 
-use crate::cause::{Cause, picks_cause};
 use crate::worded::worded;
+use pb_accept::{Cause, picks_cause};
 use pb_base::{Lending, NoMemory};
 use pb_code::Code;
 use pb_history::replay::replay_counted_by;
@@ -90,7 +90,7 @@ fn stop_message(
         "hint: leave the pick out, or make others before it; debug shows the run up to here",
     );
     let cause = Cause {
-        code: b"H1",
+        code: pb_options::Code::H1,
         at: Some(stop.line),
     };
     worded(alloc, LABEL, lines.text, &cause, &wording)

@@ -5,8 +5,8 @@ ghost use Rattle.pb_code.specs.View.{code_view};
 ghost use Rattle.pb_messages.specs.Said.{SaysOfPrintLines};
 ghost use Rattle.pb_search_engine.specs.PrintLines.{IsBadPrint};
 
-use crate::cause::Cause;
 use crate::worded::worded;
+use pb_accept::Cause;
 use pb_base::NoMemory;
 use pb_code::Code;
 use pb_message_stops::lines::{Lines, bad_print_line};
@@ -46,7 +46,7 @@ fn unsaid_message(
     };
     let wording = bad_print_line(alloc, code, lines, at);
     let cause = Cause {
-        code: b"K1",
+        code: pb_options::Code::K1,
         at: Some(at),
     };
     worded(alloc, LABEL, lines.text, &cause, &wording)

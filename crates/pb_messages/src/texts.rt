@@ -5,9 +5,9 @@ ghost use Rattle.pb_codegen.specs.Compiled.{IsCompiled, IsRefused};
 ghost use Rattle.pb_messages.specs.Messages.{TellsRefusal};
 ghost use Rattle.pb_messages.specs.Said.{SaysOfProgram};
 
-use crate::cause::text_cause;
 use crate::worded::worded;
 use bumpalo::Bump;
+use pb_accept::text_cause;
 use pb_base::NoMemory;
 use pb_codegen::{CompileFault, Compiled, analyze, compile};
 use pb_message_wording::text_wording;

@@ -1,9 +1,10 @@
 //! The message of a cause, put together.
 
 ghost use Rattle.std.specs.Prelude.{◌≡◌, ◌++◌, IfOk, IsTrue, OnOk};
+ghost use Rattle.pb_options.specs.Codes.{code_name};
 ghost use Rattle.pb_messages.specs.Messages.{IsMessage, IsShown, IsSummary, message};
 
-use crate::cause::Cause;
+use pb_accept::Cause;
 use pb_base::NoMemory;
 use pb_message_excerpts::{place_of, show_place};
 use pb_message_wording::{Spot, Wording};
@@ -143,10 +144,16 @@ fn compose(
     shown: &[u8],
     details: &[u8],
 ) -> Result<Vec<u8>, NoMemory>
-    ensures { IfOk result (λ text. text.items ≡ message cause.now.code.now summary.now shown.now details.now) }
+    ensures { IfOk result (λ text. text.items ≡ message (code_name cause.now.code) summary.now shown.now details.now) }
 {
     let mut text = Vec::new(alloc);
-    put_message(&mut text, cause.code, summary, shown, details)?;
+    put_message(
+        &mut text,
+        cause.code.name().as_bytes(),
+        summary,
+        shown,
+        details,
+    )?;
     Ok(text)
 }
 

@@ -1,13 +1,15 @@
 -- What is said of the runs of code, from what a search tells.
-use Rattle.std.proofs.Common.{◌≡◌, ◌≤◌, ◌⊎◌, inl, inr, ℕ, Option, None, Bool, true, false, List, [], ◌∷◌, length, map, refl, sym, ap, subst, ◌∙◌, arith}
-use Rattle.std.specs.Prelude.{All, Contains, IfNone, codes}
+use Rattle.std.proofs.Common.{◌≡◌, ◌≤◌, ◌⊎◌, inl, inr, ℕ, Option, None, Some, Bool, true, false, List, [], ◌∷◌, length, map, refl, sym, ap, subst, ◌∙◌, arith}
+use Rattle.std.specs.Prelude.{All, Contains, IfNone}
 use Rattle.std.proofs.lemmas.List.{length-map}
 use Rattle.std.proofs.lemmas.List.Elements.{All-contains, All-map}
 use Rattle.pb_base.specs.Lines.{NameTable, line}
 use Rattle.pb_base.specs.declared.lending.Lending.{Lending}
 use Rattle.pb_base.specs.declared.limits.TheConstants.{MAX_PICKS}
 use Rattle.pb_code.specs.Whole.{Code, ProcessLabels}
-use Rattle.pb_accept.specs.Refusals.{SaysOfRefusedText, at_place}
+use Rattle.pb_accept.specs.Causes.{cause_line}
+use Rattle.pb_accept.specs.Refusals.{SaysOfRefusedText}
+use Rattle.pb_options.specs.declared.code.Code.TheVariants.{K1}
 use Rattle.pb_command_io.specs.Answers.{Tells}
 use Rattle.pb_command_io.specs.Inputs as input
 use Rattle.pb_command_io.specs.Inputs.{SaysOfInput, not_read, nothing, read, too_long}
@@ -163,7 +165,7 @@ module _ (lending : Lending) (code : Code) where
 
 -- print lines of which one says no print
 pub bad_said : (lending : Lending) (any_order : Bool) (code seen : Code) (labels : List ProcessLabels) (states : ℕ) (lines : List ℕ) (at : ℕ)
-    → seen ≡ code → IsBadPrint seen lines (NotPrint at) → (text : List ℕ) (status : Status) → text ≡ line (at_place (codes "refused K1") at)
+    → seen ≡ code → IsBadPrint seen lines (NotPrint at) → (text : List ℕ) (status : Status) → text ≡ line (cause_line (record { code = K1; at = Some at }))
     → status ≡ Refused → SaysOfLines lending any_order code labels states lines text status
 bad_said lending any_order code seen labels states lines at same bad text status is refused =
     subst (λ (s : Status). SaysOfLines lending any_order code labels states lines text s) (sym refused)

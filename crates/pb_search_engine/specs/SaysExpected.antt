@@ -4,7 +4,9 @@ use Rattle.std.specs.Fmt.{decimal}
 use Rattle.pb_base.specs.Lines.{NameTable, line}
 use Rattle.pb_base.specs.declared.lending.Lending.{Lending}
 use Rattle.pb_base.specs.declared.limits.TheConstants.{MAX_PICKS}
-use Rattle.pb_accept.specs.Refusals.{SaysOfRefusedText, at_place}
+use Rattle.pb_accept.specs.Causes.{cause_line}
+use Rattle.pb_accept.specs.Refusals.{SaysOfRefusedText}
+use Rattle.pb_options.specs.declared.code.Code.TheVariants.{K1}
 use Rattle.pb_code.specs.Whole.{Code, ProcessLabels}
 use Rattle.pb_codegen.specs.Compiled.{IsCompiled}
 use Rattle.pb_command_io.specs.Parts.{AreTwoParts}
@@ -66,7 +68,7 @@ pub data SaysOfRuns (lending : Lending) (any_order : Bool) (wanted : List Print)
 pub data SaysOfLines (lending : Lending) (any_order : Bool) (code : Code) (labels : List ProcessLabels) (states : ℕ)
     (lines : List ℕ) : List ℕ → Status → Type 0 where
   no_prints : (at : ℕ) → IsBadPrint code lines (NotPrint at)
-      → SaysOfLines lending any_order code labels states lines (line (at_place (codes "refused K1") at)) Refused
+      → SaysOfLines lending any_order code labels states lines (line (cause_line (record { code = K1; at = Some at }))) Refused
   compared : (wanted : List Print) → SpellsPrints code lines wanted
       → (said : List ℕ) (status : Status) → SaysOfRuns lending any_order wanted code labels states said status
       → SaysOfLines lending any_order code labels states lines said status

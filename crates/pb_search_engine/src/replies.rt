@@ -4,7 +4,7 @@ ghost use Rattle.std.specs.Prelude.{◌≡◌, ◌≢◌, ◌≤◌, ◌<◌, �
 ghost use Rattle.std.specs.Fmt.{decimal};
 ghost use Rattle.pb_base.specs.declared.limits.TheConstants.{MAX_PICKS as MOST_PICKS};
 ghost use Rattle.pb_base.specs.Lines.{line, names_view};
-ghost use Rattle.pb_accept.specs.Refusals.{at_place};
+ghost use Rattle.pb_accept.specs.Causes.{cause_line};
 ghost use Rattle.pb_code.specs.View.{labels_view};
 ghost use Rattle.pb_search.specs.Deadlocks.{deadlock_view};
 ghost use Rattle.pb_search.specs.Outcomes.{process_outcome_view, found_view};
@@ -16,12 +16,14 @@ use crate::counts::count_picks;
 use crate::deadlocks::put_deadlock;
 use crate::lines::put_outcome;
 use crate::wanted::has_fault;
+use pb_accept::{Cause, cause_text};
 use pb_base::limits::MAX_PICKS;
 use pb_base::writing::put_number;
 use pb_base::{Names, NoMemory};
 use pb_code::Labels;
 use pb_command_io::Status;
 use pb_command_io::reply::{Reply, refused};
+use pb_options::Code;
 use pb_search::{Deadlock, Extent, Found, ProcessOutcome};
 use std::alloc::Global;
 
@@ -128,9 +130,11 @@ fn limit(alloc: Global, number: u32, what: &[u8]) -> Result<Reply, NoMemory>
 
 /// Returns the answer to print lines of which the one at this place says no print.
 pub fn bad_print(alloc: Global, at: usize) -> Result<Reply, NoMemory>
-    ensures { IfOk result (λ r. (r.text.items ≡ line (at_place (codes "refused K1") at)) × (r.status ≡ Status.Refused)) }
+    ensures { IfOk result (λ r. (r.text.items ≡ line (cause_line (record { code = Code.K1; at = Some at }))) × (r.status ≡ Status.Refused)) }
 {
-    let mut text = Vec::new(alloc);
-    put_number(&mut text, b"refused K1 at ", at)?;
-    refused(text)
+    let cause = Cause {
+        code: Code::K1,
+        at: Some(at),
+    };
+    refused(cause_text(alloc, cause)?)
 }

@@ -1,9 +1,9 @@
-use Rattle.std.proofs.Common.{refl}
+use Rattle.std.proofs.Common.{sym}
 use Rattle.pb_accept.specs.declared.load.LoadFault.TheVariants.{Object}
 use Rattle.pb_messages.proofs.SaidLemmas.{object_told}
 use Rattle.pb_messages.proofs.objects.unread_message.Goals as goal
 
 pub returns : goal.returns
 returns c =
-    object_told (λ told. told.items) c.args.bytes.now (Object c.args.fault) _ c.in-Some.cause c.worded.result
-    c.requires refl c.in-Some.ensures c.worded.ensures
+    object_told (λ told. told.items) c.args.bytes.now (Object c.args.fault) c.in-Some.cause c.worded.result
+    c.requires (sym c.in-Some.ensures) c.worded.ensures

@@ -1,6 +1,7 @@
-use Rattle.std.proofs.Common.{ℕ, ap, codes, sym, subst, ◌∙◌}
+use Rattle.std.proofs.Common.{ℕ, Some, ap, sym, subst, ◌∙◌}
 use Rattle.std.proofs.lemmas.Result.{MatchResult-weaker}
-use Rattle.pb_accept.specs.Refusals.{at_place}
+use Rattle.pb_accept.specs.Causes.{cause_line}
+use Rattle.pb_options.specs.declared.code.Code.TheVariants.{K1}
 use Rattle.pb_base.specs.Lines.{line}
 use Rattle.pb_code.specs.Limits.{KeepsLimits}
 use Rattle.pb_code.specs.View.{code_view}
@@ -27,5 +28,5 @@ returns-in-Err-NotPrint c =
     (λ r h. bad_said (lending_for c.args.options.lend) c.args.options.any_order c.args.compiled.now.verified.code (code_view c.code.result.now)
     c.args.compiled.now.labels c.args.options.states c.args.lines.now c.in-Err-NotPrint.at
     (c.code.ensures.code ∙ ap (λ (v : VerifiedCode). v.code) c.verified.ensures) (rw c.in-Err-NotPrint.field-0-is at c.in-Err-NotPrint.ensures.refused)
-    r.text.items r.status (h.0 ∙ ap (λ (n : ℕ). line (at_place (codes "refused K1") n)) c.in-Err-NotPrint.at-is) h.1)
+    r.text.items r.status (h.0 ∙ ap (λ (n : ℕ). line (cause_line (record { code = K1; at = Some n }))) c.in-Err-NotPrint.at-is) h.1)
     (λ e h. h)
