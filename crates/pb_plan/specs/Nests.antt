@@ -1,12 +1,12 @@
 -- Holds inside others: the first in the text that asks for one resource inside one that asks for another.
-use Rattle.std.specs.Prelude.{◌≡◌, ℕ, ◌<◌, ◌==◌, ◌||◌, Bool, false, cond, List, [], ◌∷◌, Option, Some, None, All}
+use Rattle.std.specs.Prelude.{◌≡◌, ℕ, ◌<◌, ◌==◌, ◌||◌, Bool, false, cond, List, [], ◌∷◌, ◌++◌, length, Option, Some, None, All}
 use Rattle.std.specs.Prelude.{slice_get}
 use Rattle.std.specs.List.{range_with_len}
 use Rattle.std.specs.List.Sorted.{IsPermutation}
 use Rattle.pb_base.specs.Steppers.{Bundle}
 use Rattle.pb_names.specs.Program.{Stmt, Assign, Print, If, While, Hold, Parbegin, Block, Skip, Then, Arms, NoArm}
 use Rattle.pb_names.specs.Program.{AndArm, Process}
-use Rattle.pb_plan.specs.Orders.{EachHold}
+use Rattle.pb_plan.specs.Orders.{EachHold, place}
 use Rattle.pb_plan.specs.declared.nest.Nest.{Nest}
 
 abbrev pub asks : ℕ → Bundle → Bool
@@ -75,3 +75,10 @@ pub record IsFreeAt (processes : List Process) (among : List ℕ) (i : ℕ) : Ty
   pub r : ℕ
   pub there : slice_get among i ≡ Some r
   pub free : (found : Nest) → IsInside processes among r found → ⊥
+
+-- the resources are these and those that are left; where one of these is asked for, the resources around it are
+-- before it
+pub record IsBegun (processes : List Process) (n : ℕ) (order left : List ℕ) : Type 0 where
+  pub all : IsPermutation (range_with_len 0 n) (order ++ left)
+  pub later : (outer inner : ℕ) (found : Nest) → nest_among outer inner processes ≡ Some found
+      → place order inner < length order → place order outer < place order inner
