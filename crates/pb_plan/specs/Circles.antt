@@ -1,7 +1,7 @@
 -- Circles of holds inside others: why there is no order of the resources.
 use Rattle.std.specs.Prelude.{◌≡◌, ℕ, ◌+◌, ◌-◌, ◌<◌, Bool, true, List, length, Some, slice_get, All}
 use Rattle.pb_names.specs.Program.{Block, Process}
-use Rattle.pb_plan.specs.Nests.{asks, nest_among, IsAmong}
+use Rattle.pb_plan.specs.Nests.{asks, IsAmong}
 use Rattle.pb_plan.specs.Standing.{OneHold, StandsIn}
 use Rattle.pb_plan.specs.declared.edge.Edge.{Edge}
 use Rattle.pb_plan.specs.declared.nest.Nest.{Nest}

@@ -1,4 +1,4 @@
--- Holds inside others: the first in the text that asks for one resource inside one that asks for another.
+-- What holds ask for, and the first hold in the text that asks for one resource inside one that asks for another.
 use Rattle.std.specs.Prelude.{◌≡◌, ℕ, ◌<◌, ◌==◌, ◌||◌, Bool, false, cond, List, [], ◌∷◌, ◌++◌, length, Option, Some, None, All}
 use Rattle.std.specs.Prelude.{slice_get}
 use Rattle.std.specs.List.{range_with_len}
@@ -9,10 +9,23 @@ use Rattle.pb_names.specs.Program.{AndArm, Process}
 use Rattle.pb_plan.specs.Orders.{EachHold, place}
 use Rattle.pb_plan.specs.declared.nest.Nest.{Nest}
 
+-- a bundle asks for a resource
 abbrev pub asks : ℕ → Bundle → Bool
 asks r [] = false
 asks r (pair ∷ bundle) = (pair.resource == r) || asks r bundle
 
+-- the processes ask only for these many resources
+abbrev pub AskBelow : ℕ → List Process → Type 0
+AskBelow n processes =
+    All (λ process. EachHold (λ around asked. All (λ pair. pair.resource < n) asked) [] process.body) processes
+
+-- an order of n resources
+abbrev pub IsOrder : ℕ → List ℕ → Type 0
+IsOrder n order = IsPermutation (range_with_len 0 n) order
+
+-- ---- how an order or a circle is found. No public contract cites what follows
+
+-- the first of two, or the second
 abbrev pub first : Option Nest → Option Nest → Option Nest
 first (Some nest) other = Some nest
 first None other = other
@@ -51,17 +64,6 @@ abbrev pub nest_among : (outer inner : ℕ) → List Process → Option Nest
 nest_among outer inner [] = None
 nest_among outer inner (process ∷ processes) =
     first (nest outer inner None process.body) (nest_among outer inner processes)
-
--- the processes ask only for these many resources
-abbrev pub AskBelow : ℕ → List Process → Type 0
-AskBelow n processes =
-    All (λ process. EachHold (λ around asked. All (λ pair. pair.resource < n) asked) [] process.body) processes
-
--- an order of n resources
-abbrev pub IsOrder : ℕ → List ℕ → Type 0
-IsOrder n order = IsPermutation (range_with_len 0 n) order
-
--- ---- how an order is found. No public contract cites what follows
 
 abbrev pub IsAmong : List ℕ → ℕ → Type 0
 IsAmong among r = (k : ℕ) × (slice_get among k ≡ Some r)

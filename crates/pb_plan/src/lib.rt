@@ -17,7 +17,6 @@ pub use circle::find_circle;
 pub use edge::Edge;
 pub use needs::{bottleneck, free_capital, least_capital};
 pub use nest::Nest;
-pub use nests::find_nest;
 pub use order::find_order;
 pub use part::Part;
 pub use parts::claim_parts;

@@ -149,7 +149,11 @@ pub(crate) fn nest_in<A: Allocator>(
 }
 
 /// Returns the first hold in the processes that asks for the inner resource inside one that asks for the outer.
-pub fn find_nest<A: Allocator>(processes: &[Process<A>], outer: usize, inner: usize) -> Option<Nest>
+pub(crate) fn find_nest<A: Allocator>(
+    processes: &[Process<A>],
+    outer: usize,
+    inner: usize,
+) -> Option<Nest>
     ensures { result ≡ nest_among outer inner (map process_view processes.now) }
 {
     let mut found = None;
