@@ -1,3 +1,4 @@
+pub mod CircleLemmas
 pub mod Columns
 pub mod Free
 pub mod Granted
@@ -12,5 +13,6 @@ pub mod OrderedLoans
 pub mod OrderedPlaces
 pub mod OrderedRuns
 pub mod OrderedSteps
+pub mod StandingLemmas
 pub mod Walks
 pub mod Weights

@@ -26,7 +26,7 @@ asks_at r (pair ∷ bundle) (suc k) d u e = ⊎_elim
     (bool_cases (eqb pair.resource r))
 
 -- what is so of all that is asked for is so of this
-of_asked : (P : ℕ → Type 0) (r : ℕ) (bundle : Bundle) → asks r bundle ≡ true
+pub of_asked : (P : ℕ → Type 0) (r : ℕ) (bundle : Bundle) → asks r bundle ≡ true
     → All (λ (pair : Pair). P pair.resource) bundle → P r
 of_asked P r [] e all = cc
 of_asked P r (pair ∷ bundle) e all = ⊎_elim
@@ -37,7 +37,7 @@ of_asked P r (pair ∷ bundle) e all = ⊎_elim
 
 -- ---- the first of two
 
-which : (a b : Option Nest) (found : Nest) → first a b ≡ Some found → (a ≡ Some found) ⊎ (b ≡ Some found)
+pub which : (a b : Option Nest) (found : Nest) → first a b ≡ Some found → (a ≡ Some found) ⊎ (b ≡ Some found)
 which (Some other) b found e = inl e
 which None b found e = inr e
 

@@ -15,7 +15,7 @@ use Rattle.pb_base.proofs.Cases.{bool_cases}
 use Rattle.pb_base.proofs.Lists.{get_some}
 use Rattle.pb_names.specs.Program.{Process}
 use Rattle.pb_plan.proofs.NestLemmas.{among_is, followed, among_fits}
-use Rattle.pb_plan.specs.Nests.{AskBelow, IsAmong, IsInside, IsOrder, nest_among}
+use Rattle.pb_plan.specs.Nests.{AskBelow, IsAmong, IsBegun, IsInside, IsOrder, nest_among}
 use Rattle.pb_plan.specs.Orders.{IsFollowed, place}
 use Rattle.pb_plan.specs.declared.nest.Nest.{Nest}
 
@@ -85,11 +85,6 @@ place_pushed (y ∷ order) r x = ⊎_elim (λ same. here same) (λ other. there 
         }
 
 -- ---- what is in order, and what is left
-
-pub record IsBegun (processes : List Process) (n : ℕ) (order left : List ℕ) : Type 0 where
-  pub all : IsPermutation (range_with_len 0 n) (order ++ left)
-  pub later : (outer inner : ℕ) (found : Nest) → nest_among outer inner processes ≡ Some found
-      → place order inner < length order → place order outer < place order inner
 
 module _ (processes : List Process) (n : ℕ) (below : AskBelow n processes) where
   pub begun : IsBegun processes n [] (range_with_len 0 n)

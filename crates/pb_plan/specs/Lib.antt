@@ -1,5 +1,7 @@
+pub mod Circles
 pub mod Needs
 pub mod Nests
 pub mod Orders
 pub mod Parts
+pub mod Standing
 pub mod Waiting

@@ -1,18 +1,31 @@
--- Holds inside others: the first in the text that asks for one resource inside one that asks for another.
-use Rattle.std.specs.Prelude.{◌≡◌, ℕ, ◌<◌, ◌==◌, ◌||◌, Bool, false, cond, List, [], ◌∷◌, Option, Some, None, All}
+-- What holds ask for, and the first hold in the text that asks for one resource inside one that asks for another.
+use Rattle.std.specs.Prelude.{◌≡◌, ℕ, ◌<◌, ◌==◌, ◌||◌, Bool, false, cond, List, [], ◌∷◌, ◌++◌, length, Option, Some, None, All}
 use Rattle.std.specs.Prelude.{slice_get}
 use Rattle.std.specs.List.{range_with_len}
 use Rattle.std.specs.List.Sorted.{IsPermutation}
 use Rattle.pb_base.specs.Steppers.{Bundle}
 use Rattle.pb_names.specs.Program.{Stmt, Assign, Print, If, While, Hold, Parbegin, Block, Skip, Then, Arms, NoArm}
 use Rattle.pb_names.specs.Program.{AndArm, Process}
-use Rattle.pb_plan.specs.Orders.{EachHold}
+use Rattle.pb_plan.specs.Orders.{EachHold, place}
 use Rattle.pb_plan.specs.declared.nest.Nest.{Nest}
 
+-- a bundle asks for a resource
 abbrev pub asks : ℕ → Bundle → Bool
 asks r [] = false
 asks r (pair ∷ bundle) = (pair.resource == r) || asks r bundle
 
+-- the processes ask only for these many resources
+abbrev pub AskBelow : ℕ → List Process → Type 0
+AskBelow n processes =
+    All (λ process. EachHold (λ around asked. All (λ pair. pair.resource < n) asked) [] process.body) processes
+
+-- an order of n resources
+abbrev pub IsOrder : ℕ → List ℕ → Type 0
+IsOrder n order = IsPermutation (range_with_len 0 n) order
+
+-- ---- how an order or a circle is found. No public contract cites what follows
+
+-- the first of two, or the second
 abbrev pub first : Option Nest → Option Nest → Option Nest
 first (Some nest) other = Some nest
 first None other = other
@@ -52,17 +65,6 @@ nest_among outer inner [] = None
 nest_among outer inner (process ∷ processes) =
     first (nest outer inner None process.body) (nest_among outer inner processes)
 
--- the processes ask only for these many resources
-abbrev pub AskBelow : ℕ → List Process → Type 0
-AskBelow n processes =
-    All (λ process. EachHold (λ around asked. All (λ pair. pair.resource < n) asked) [] process.body) processes
-
--- an order of n resources
-abbrev pub IsOrder : ℕ → List ℕ → Type 0
-IsOrder n order = IsPermutation (range_with_len 0 n) order
-
--- ---- how an order is found. No public contract cites what follows
-
 abbrev pub IsAmong : List ℕ → ℕ → Type 0
 IsAmong among r = (k : ℕ) × (slice_get among k ≡ Some r)
 
@@ -75,3 +77,10 @@ pub record IsFreeAt (processes : List Process) (among : List ℕ) (i : ℕ) : Ty
   pub r : ℕ
   pub there : slice_get among i ≡ Some r
   pub free : (found : Nest) → IsInside processes among r found → ⊥
+
+-- the resources are these and those that are left; where one of these is asked for, the resources around it are
+-- before it
+pub record IsBegun (processes : List Process) (n : ℕ) (order left : List ℕ) : Type 0 where
+  pub all : IsPermutation (range_with_len 0 n) (order ++ left)
+  pub later : (outer inner : ℕ) (found : Nest) → nest_among outer inner processes ≡ Some found
+      → place order inner < length order → place order outer < place order inner

@@ -2,6 +2,8 @@
 //! needed, and which resource is the bottleneck.
 #![tactic(auto)]
 
+mod circle;
+mod edge;
 pub mod laws;
 mod needs;
 mod nest;
@@ -11,9 +13,10 @@ mod part;
 mod parts;
 mod weight;
 
+pub use circle::find_circle;
+pub use edge::Edge;
 pub use needs::{bottleneck, free_capital, least_capital};
 pub use nest::Nest;
-pub use nests::find_nest;
 pub use order::find_order;
 pub use part::Part;
 pub use parts::claim_parts;

@@ -1,6 +1,6 @@
 //! The first hold of one resource inside a hold of another.
 
-ghost use Rattle.std.specs.Prelude.{◌≡◌, ◌==◌, ◌||◌, map};
+ghost use Rattle.std.specs.Prelude.{◌≡◌, ◌==◌, ◌||◌, None, map};
 ghost use Rattle.pb_names.specs.View.{arms_view, block_view, process_view, stmt_view};
 ghost use Rattle.pb_plan.specs.Nests.{arms_nest, asks, first, held_inside, nest, nest_among, own_nest, stmt_nest};
 
@@ -137,13 +137,28 @@ fn nest_of_arms<A: Allocator>(
     found
 }
 
+/// Returns the first hold in a process that asks for the inner resource inside one that asks for the outer.
+pub(crate) fn nest_in<A: Allocator>(
+    process: &Process<A>,
+    outer: usize,
+    inner: usize,
+) -> Option<Nest>
+    ensures { result ≡ nest outer inner None (block_view process.now.body.items) }
+{
+    nest_of_list(&process.body, outer, inner, None)
+}
+
 /// Returns the first hold in the processes that asks for the inner resource inside one that asks for the outer.
-pub fn find_nest<A: Allocator>(processes: &[Process<A>], outer: usize, inner: usize) -> Option<Nest>
+pub(crate) fn find_nest<A: Allocator>(
+    processes: &[Process<A>],
+    outer: usize,
+    inner: usize,
+) -> Option<Nest>
     ensures { result ≡ nest_among outer inner (map process_view processes.now) }
 {
     let mut found = None;
     for process in processes {
-        found = first(found, nest_of_list(&process.body, outer, inner, None));
+        found = first(found, nest_in(process, outer, inner));
     }
     found
 }

@@ -3,7 +3,7 @@
 ghost use Rattle.std.specs.Prelude.{◌≡◌, ℕ, IfNone, IfOk, IfSome, List, map};
 ghost use Rattle.std.specs.List.{range_with_len};
 ghost use Rattle.pb_names.specs.View.{process_view};
-ghost use Rattle.pb_plan.specs.Nests.{AskBelow, IsAmong, IsFreeAt, IsInside, IsOrder};
+ghost use Rattle.pb_plan.specs.Nests.{AskBelow, IsAmong, IsBegun, IsFreeAt, IsInside, IsOrder};
 ghost use Rattle.pb_plan.specs.Orders.{IsFollowed};
 ghost use Rattle.pb_plan.specs.declared.nest.Nest.{Nest as NestValue};
 
@@ -63,6 +63,35 @@ fn first_free<A: Allocator>(
     None
 }
 
+/// Resources in order, and those that are left.
+#[derive(Drop)]
+pub(crate) struct Sorted {
+    pub(crate) order: Vec<usize>,
+    pub(crate) left: Vec<usize>,
+}
+
+/// Puts the resources into an order, one after another, until each of those that are left is asked for inside a hold
+/// of another one of them.
+pub(crate) fn sort<A: Allocator>(
+    alloc: Global,
+    processes: &[Process<A>],
+    resources: usize,
+) -> Result<Sorted, NoMemory>
+    requires { AskBelow resources (map process_view processes.now) }
+    ensures begun { IfOk result (λ it.
+        IsBegun (map process_view processes.now) resources it.order.items it.left.items) }
+    ensures left { IfOk result (λ it. (r : ℕ) → IsAmong it.left.items r
+        → (found : NestValue) × IsInside (map process_view processes.now) it.left.items r found) }
+{
+    let mut left = numbers(alloc, resources)?;
+    let mut order = Vec::new(alloc);
+    while let Some(i) = first_free(processes, resources, &left) {
+        let r = left.remove(i);
+        order.push(r)?;
+    }
+    Ok(Sorted { order, left })
+}
+
 /// Returns an order of the resources that the processes follow, if there is one. The processes ask only for these
 /// many resources. The error comes only if `alloc` is out of memory.
 pub fn find_order<A: Allocator>(
@@ -77,14 +106,9 @@ pub fn find_order<A: Allocator>(
     ensures none { IfOk result (λ found. IfNone found
         ((order : List ℕ) → IsFollowed order (map process_view processes.now) → ⊥)) }
 {
-    let mut left = numbers(alloc, resources)?;
-    let mut order = Vec::new(alloc);
-    while let Some(i) = first_free(processes, resources, &left) {
-        let r = left.remove(i);
-        order.push(r)?;
-    }
-    if left.is_empty() {
-        return Ok(Some(order));
+    let sorted = sort(alloc, processes, resources)?;
+    if sorted.left.is_empty() {
+        return Ok(Some(sorted.order));
     }
     Ok(None)
 }

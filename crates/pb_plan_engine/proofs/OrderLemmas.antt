@@ -75,3 +75,24 @@ pub found_below : {X : Type 0} (items : X → List ℕ) (found : Option X) (n m 
     → IfSome found (λ x. All (λ r. r < m) (items x))
 found_below items (Some x) n m same is = subst (λ (k : ℕ). All (λ r. r < k) (items x)) same (order_below n (items x) is)
 found_below items None n m same is = tt
+
+-- no order was found
+pub none_of : {X : Type 0} {P : Type 0} (found : Option X) → found ≡ None → IfNone found P → P
+none_of None same none = none
+none_of (Some x) same none = absurd cc
+
+-- a circle belongs to a plan without an order, and no circle to one with an order
+pub not_closed : {X : Type 0} (items : X → List ℕ) (Closed : Type 0) (found : Option X) (x : X) → found ≡ Some x
+    → MatchOption (option_map items found) Closed (λ some. [] ≡ [])
+not_closed items Closed (Some y) x same = refl
+not_closed items Closed None x same = absurd cc
+
+pub is_closed : {X : Type 0} (items : X → List ℕ) (Closed Empty : Type 0) (found : Option X) → found ≡ None → Closed
+    → MatchOption (option_map items found) Closed (λ some. Empty)
+is_closed items Closed Empty None same is = is
+is_closed items Closed Empty (Some x) same is = absurd cc
+
+-- what was found has what is said of it
+pub some_of : {X : Type 0} (P : X → Type 0) (found : Option X) (x : X) → found ≡ Some x → IfSome found P → P x
+some_of P (Some y) x same is = let e : y ≡ x = cc in subst P e is
+some_of P None x same is = absurd cc

@@ -1,5 +1,5 @@
 -- What is known of a program that a text spells, and its whole plan.
-use Rattle.std.proofs.Common.{◌≡◌, ◌∙◌, ℕ, List, [], ◌∷◌, ◌++◌, Option, Result, Ok, Err, IfOk, length, map, refl, ap}
+use Rattle.std.proofs.Common.{◌≡◌, ◌∙◌, ℕ, List, [], ◌∷◌, ◌++◌, Option, Result, Ok, Err, IfOk, Vec, Global, length, map, refl, ap}
 use Rattle.std.proofs.Common.{subst}
 use Rattle.std.specs.Prelude.{MatchOption}
 use Rattle.std.proofs.lemmas.List.{append_assoc, length-map}
@@ -11,14 +11,16 @@ use Rattle.pb_codegen.specs.Numbered.{IsReadAs, IsSpelled}
 use Rattle.pb_codegen.proofs.TextOutcomes.{claims_width}
 use Rattle.pb_command_io.specs.declared.reply.Reply.{Reply}
 use Rattle.pb_names.specs.Program.{Block, Name, Program, capital_of}
-use Rattle.pb_names.specs.Resolves.{resource_names}
+use Rattle.pb_names.specs.Resolves.{process_names, resource_names}
 use Rattle.pb_names.specs.View.{block_view, process_view, resolved_view, resource_view}
 use Rattle.pb_names.specs.declared.resolved.Process.{Process}
 use Rattle.pb_names.specs.declared.resolved.Resolved.{Resolved}
 use Rattle.pb_names.specs.declared.resolved.Resource.{Resource}
+use Rattle.pb_plan.specs.Circles.{IsCircle}
 use Rattle.pb_plan.specs.Needs.{AllFree, IsBottleneck}
 use Rattle.pb_plan.specs.Orders.{IsFollowed}
-use Rattle.pb_plan_engine.specs.PlanLines.{HasStatus, IsOrderOf, IsPlan, SaysOfPlan, bodies_of, claims_lines, last_line, order_line, planned}
+use Rattle.pb_plan.specs.declared.edge.Edge.{Edge}
+use Rattle.pb_plan_engine.specs.PlanLines.{HasStatus, IsOrderOf, IsPlan, SaysOfPlan, bodies_of, circle_lines, claims_lines, last_line, order_line, planned}
 use Rattle.pb_plan_engine.specs.PlanLines.{resources_lines}
 
 pub width_of_claims : {A : Type 0} (program : Resolved A) (claims : Table) → IsSpelled (resolved_view program) claims
@@ -37,19 +39,21 @@ bodies_of_processes {A} program = go program.processes.items
     go [] = refl
     go (p ∷ ps) = ap (λ (bodies : List Block). block_view p.body.items ∷ bodies) (go ps)
 
--- the four parts of a plan, one written after another
+-- the five parts of a plan, one written after another
 pub is_plan : {A : Type 0} (program : Resolved A) (claims : Table) (capital : List ℕ) (found : Option ℕ) (order : Option (List ℕ))
-    (first second third fourth whole : List ℕ) (some others last : List (Resource A)) → capital ≡ capital_of (resolved_view program)
+    (circle : List Edge) (first second third fourth fifth whole : List ℕ) (some others last : List (Resource A)) → capital ≡ capital_of (resolved_view program)
     → MatchOption found (AllFree claims capital) (IsBottleneck claims capital)
     → MatchOption order ((other : List ℕ) → ¬ IsFollowed other (resolved_view program).processes) (IsOrderOf (resolved_view program))
+    → MatchOption order (IsCircle (resolved_view program).processes circle) (λ some. circle ≡ [])
     → some ≡ program.resources.items → others ≡ program.resources.items → last ≡ program.resources.items → first ≡ []
     → second ≡ first ++ claims_lines (resolved_view program) claims
     → third ≡ second ++ resources_lines (map (λ (r : Resource A). r.name.items) some) capital claims
     → fourth ≡ third ++ last_line (map (λ (r : Resource A). r.name.items) others) found
-    → whole ≡ fourth ++ order_line (map (λ (r : Resource A). r.name.items) last) order
+    → fifth ≡ fourth ++ order_line (map (λ (r : Resource A). r.name.items) last) order
+    → whole ≡ fifth ++ circle_lines (process_names (resolved_view program)) (resource_names (resolved_view program)) circle
     → IsPlan (resolved_view program) claims whole
-is_plan {A} program claims capital found order first second third fourth whole some others last same is ordered here there below
-    empty one two three four =
+is_plan {A} program claims capital found order circle first second third fourth fifth whole some others last same is ordered closed here there below
+    empty one two three four five =
     let view = resolved_view program in
     let names : (rs : List (Resource A)) → rs ≡ program.resources.items
     → map (λ (r : Resource A). r.name.items) rs ≡ resource_names view =
@@ -71,14 +75,16 @@ is_plan {A} program claims capital found order first second third fourth whole s
       bottleneck = subst (λ (l : List ℕ). MatchOption found (AllFree claims l) (IsBottleneck claims l)) same is;
       order = order;
       ordered = ordered;
-      text = four ∙ ap (λ (t : List ℕ). t ++ order_line (map (λ (r : Resource A). r.name.items) last) order) so_far
+      circle = circle;
+      closed = closed;
+      text = five ∙ ap (λ (t : List ℕ). t ++ circle_lines (process_names view) (resource_names view) circle) (four ∙ ap (λ (t : List ℕ). t ++ order_line (map (λ (r : Resource A). r.name.items) last) order) so_far
           ∙ ap (λ (n : List Name). (claims_lines view claims ++ (resources_lines (resource_names view) (capital_of view) claims
           ++ last_line (resource_names view) found)) ++ order_line n order) (names last below)
           ∙ append_assoc (claims_lines view claims) (resources_lines (resource_names view) (capital_of view) claims
           ++ last_line (resource_names view) found) (order_line (resource_names view) order)
           ∙ ap (λ (t : List ℕ). claims_lines view claims ++ t)
           (append_assoc (resources_lines (resource_names view) (capital_of view) claims) (last_line (resource_names view) found)
-          (order_line (resource_names view) order));
+          (order_line (resource_names view) order)));
     }
 
 -- what is said of the text of a program that was planned
@@ -88,3 +94,11 @@ pub says_plan : (reply : Result Reply NoMemory) (text : List ℕ) (program : Pro
     → IfOk reply (λ r. SaysOfPlan text r.text.items r.status)
 says_plan (Ok r) text program claims is made = planned program claims r.text.items r.status is made.0 made.1
 says_plan (Err e) text program claims is made = tt
+
+-- a text with the lines of a circle behind it
+pub closed_plan : (result : Result (Vec ℕ Global) NoMemory) (Is : List ℕ → Type 0) (Closed : List Edge → Type 0)
+    (Makes : List ℕ → List Edge → Type 0) → IfOk result (λ whole. (circle : List Edge) × Closed circle × Makes whole.items circle)
+    → ((circle : List Edge) (whole : List ℕ) → Closed circle → Makes whole circle → Is whole)
+    → IfOk result (λ text. Is text.items)
+closed_plan (Ok whole) Is Closed Makes made so = so made.0 whole.items made.1 made.2
+closed_plan (Err e) Is Closed Makes made so = tt

@@ -10,10 +10,12 @@ use Rattle.pb_claims.specs.Fits.{FitCapital, IsFirstOver}
 use Rattle.pb_claims.specs.declared.over_capital.OverCapital.{OverCapital}
 use Rattle.pb_names.specs.Program.{Block, Skip, Name, Program, capital_of}
 use Rattle.pb_names.specs.Resolves.{process_names, resource_names}
+use Rattle.pb_plan.specs.Circles.{IsCircle}
 use Rattle.pb_plan.specs.Needs.{AllFree, IsBottleneck, free_capital, least_capital}
 use Rattle.pb_plan.specs.Nests.{IsOrder}
 use Rattle.pb_plan.specs.Orders.{IsFollowed}
 use Rattle.pb_plan.specs.Parts.{parts}
+use Rattle.pb_plan.specs.declared.edge.Edge.{Edge}
 use Rattle.pb_plan.specs.declared.part.Part.{Part}
 use Rattle.pb_codegen.specs.Numbered.{IsReadAs}
 use Rattle.pb_accept.specs.Refusals.{RefusesEarly}
@@ -72,7 +74,18 @@ abbrev pub order_line : List Name → Option (List ℕ) → List ℕ
 order_line resources None = line (codes "no order")
 order_line resources (Some order) = line (codes "order" ++ flat_map (λ r. codes " " ++ resource_name resources r) order)
 
--- the whole text
+-- the line of a hold inside another one: the process, and each resource with the line of its hold
+abbrev pub edge_line : (processes resources : List Name) → Edge → List ℕ
+edge_line processes resources edge =
+    line (slice_index_or processes edge.process [] ++ codes " holds " ++ resource_name resources edge.nest.outer
+    ++ codes " line " ++ decimal edge.nest.outer_line ++ codes " around " ++ resource_name resources edge.nest.inner
+    ++ codes " line " ++ decimal edge.nest.inner_line)
+
+-- the lines of a circle, in its order
+abbrev pub circle_lines : (processes resources : List Name) → List Edge → List ℕ
+circle_lines processes resources circle = flat_map (edge_line processes resources) circle
+
+-- all but the lines of a circle
 abbrev pub plan_text : Program → Table → Option ℕ → Option (List ℕ) → List ℕ
 plan_text program claims found order =
     claims_lines program claims ++ (resources_lines (resource_names program) (capital_of program) claims
@@ -88,13 +101,15 @@ pub data HasStatus (program : Program) (claims : Table) : Status → Type 0 wher
   enough : FitCapital claims (capital_of program) → HasStatus program claims Done
   too_little : (over : OverCapital) → IsFirstOver claims (capital_of program) over → HasStatus program claims Refused
 
--- this text is the plan of the program with these claims
+-- this text is the plan of the program with these claims: behind `no order` come the lines of a circle
 pub record IsPlan (program : Program) (claims : Table) (said : List ℕ) : Type 0 where
   pub found : Option ℕ
   pub bottleneck : MatchOption found (AllFree claims (capital_of program)) (IsBottleneck claims (capital_of program))
   pub order : Option (List ℕ)
   pub ordered : MatchOption order ((other : List ℕ) → ¬ IsFollowed other program.processes) (IsOrderOf program)
-  pub text : said ≡ plan_text program claims found order
+  pub circle : List Edge
+  pub closed : MatchOption order (IsCircle program.processes circle) (λ some. circle ≡ [])
+  pub text : said ≡ plan_text program claims found order ++ circle_lines (process_names program) (resource_names program) circle
 
 -- what is said of a text: it spells no program; or it spells one, and that is planned, whatever its capital
 pub data SaysOfPlan (text : List ℕ) : List ℕ → Status → Type 0 where

@@ -1,17 +1,18 @@
 //! The lines of a plan.
 
-ghost use Rattle.std.specs.Prelude.{◌≡◌, ◌<◌, ◌≤◌, ◌++◌, ℕ, All, OnOk, IfSome, codes, length, map, option_map};
+ghost use Rattle.std.specs.Prelude.{◌≡◌, ◌<◌, ◌≤◌, ◌++◌, ℕ, All, OnOk, IfSome, [], codes, length, map, option_map, slice_index_or};
 ghost use Rattle.std.specs.List.{flat_map};
 ghost use Rattle.pb_base.specs.Banker.{row_of};
 ghost use Rattle.pb_base.specs.Tables.{width_of};
 ghost use Rattle.pb_names.specs.View.{block_view};
-ghost use Rattle.pb_plan_engine.specs.PlanLines.{claim_line, last_line, lines_text, numbers_text, order_line, plan_lines_of};
+ghost use Rattle.pb_plan.specs.Circles.{IsBelow};
+ghost use Rattle.pb_plan_engine.specs.PlanLines.{circle_lines, claim_line, edge_line, last_line, lines_text, numbers_text, order_line, plan_lines_of};
 ghost use Rattle.pb_plan_engine.specs.PlanLines.{resource_line, resource_name, resources_lines};
 
 use pb_base::writing::{put, put_name, put_number};
 use pb_base::{Capital, Claims, NoMemory};
 use pb_names::{Process, Resource};
-use pb_plan::{Part, claim_parts, free_capital, least_capital};
+use pb_plan::{Edge, Part, claim_parts, free_capital, least_capital};
 use std::alloc::{Allocator, Global};
 
 /// Returns the name of a resource.
@@ -170,4 +171,49 @@ pub(crate) fn put_order<A: Allocator>(
     put(text, b"order")?;
     put_names(text, resources, order)?;
     put(text, b"\n")
+}
+
+/// Returns the name of a process.
+fn process_name<A: Allocator>(processes: &[Process<A>], p: usize) -> &[u8]
+    requires { p < length processes.now }
+    ensures { result.now ≡ slice_index_or (map (λ q. q.name.items) processes.now) p [] }
+{
+    &processes[p].name
+}
+
+/// Appends the line of a hold inside another one to a text.
+fn put_edge<A: Allocator>(
+    text: &mut Vec<u8>,
+    processes: &[Process<A>],
+    resources: &[Resource<A>],
+    edge: &Edge,
+) -> Result<(), NoMemory>
+    requires { IsBelow (length processes.now) (length resources.now) edge.now }
+    ensures { OnOk result (text.new.items ≡ text.old.items
+        ++ edge_line (map (λ p. p.name.items) processes.now) (map (λ r. r.name.items) resources.now) edge.now) }
+{
+    let nest = edge.nest;
+    put(text, process_name(processes, edge.process))?;
+    put_name(text, b" holds ", name_of(resources, nest.outer))?;
+    put_number(text, b" line ", nest.outer_line)?;
+    put_name(text, b" around ", name_of(resources, nest.inner))?;
+    put_number(text, b" line ", nest.inner_line)?;
+    put(text, b"\n")
+}
+
+/// Appends the lines of a circle of holds inside others to a text.
+pub(crate) fn put_circle<A: Allocator>(
+    text: &mut Vec<u8>,
+    processes: &[Process<A>],
+    resources: &[Resource<A>],
+    circle: &[Edge],
+) -> Result<(), NoMemory>
+    requires { All (IsBelow (length processes.now) (length resources.now)) circle.now }
+    ensures { OnOk result (text.new.items ≡ text.old.items
+        ++ circle_lines (map (λ p. p.name.items) processes.now) (map (λ r. r.name.items) resources.now) circle.now) }
+{
+    for edge in circle {
+        put_edge(text, processes, resources, edge)?;
+    }
+    Ok(())
 }

@@ -1,16 +1,21 @@
 //! The command `plan`, over any input and output.
 
-ghost use Rattle.std.specs.Prelude.{◌≡◌, ◌≢◌, ◌≤◌, ◌++◌, IfOk, IfSome, OnOk, length};
+ghost use Rattle.std.specs.Prelude.{◌≡◌, ◌≢◌, ◌≤◌, ◌++◌, ℕ, IfOk, IfSome, List, OnOk, length};
 ghost use Rattle.pb_codegen.specs.Numbered.{IsSpelled};
 ghost use Rattle.pb_command_io.specs.Answers.{Tells};
 ghost use Rattle.pb_command_io.specs.Faults.{TellsFaults, TellsWriteFaults};
 ghost use Rattle.pb_command_io.specs.Inputs.{SaysOfInput};
 ghost use Rattle.pb_names.specs.Program.{capital_of};
 ghost use Rattle.pb_names.specs.View.{resolved_view};
-ghost use Rattle.pb_plan_engine.specs.PlanLines.{HasStatus, IsPlan, SaysOfPlan, claims_lines};
+ghost use Rattle.pb_names.specs.Resolves.{process_names, resource_names};
+ghost use Rattle.pb_plan.specs.Circles.{IsCircle};
+ghost use Rattle.pb_plan.specs.Nests.{AskBelow};
+ghost use Rattle.pb_plan.specs.Orders.{IsFollowed};
+ghost use Rattle.pb_plan.specs.declared.edge.Edge.{Edge as EdgeValue};
+ghost use Rattle.pb_plan_engine.specs.PlanLines.{HasStatus, IsPlan, SaysOfPlan, circle_lines, claims_lines};
 ghost use Rattle.pb_base.specs.Tables.{width_of};
 
-use crate::lines::{put_last, put_order, put_process, put_resources};
+use crate::lines::{put_circle, put_last, put_order, put_process, put_resources};
 use bumpalo::Bump;
 use pb_accept::accept::{Refusal, analyze_text};
 use pb_base::device::{Input, Output};
@@ -22,7 +27,7 @@ use pb_command_io::input::read_input;
 use pb_command_io::reply::{Reply, refused, tell};
 use pb_generator::capital_of;
 use pb_names::Resolved;
-use pb_plan::{bottleneck, find_order};
+use pb_plan::{bottleneck, find_circle, find_order};
 use std::alloc::{Allocator, Global};
 
 /// Appends the lines of all processes to a text.
@@ -58,6 +63,25 @@ fn status<A: Allocator>(program: &Resolved<A>, claims: &Claims, capital: &Capita
     }
 }
 
+/// Returns a text with the lines of a circle behind it, of a program that follows no order.
+fn with_circle<A: Allocator>(
+    alloc: Global,
+    text: Vec<u8>,
+    program: &Resolved<A>,
+) -> Result<Vec<u8>, NoMemory>
+    requires below { AskBelow (length (resolved_view program.now).resources) (resolved_view program.now).processes }
+    requires none { (order : List ℕ) → IsFollowed order (resolved_view program.now).processes → ⊥ }
+    ensures { IfOk result (λ whole. (circle : List EdgeValue) × IsCircle (resolved_view program.now).processes circle
+        × (whole.items ≡ text.items ++ circle_lines (process_names (resolved_view program.now))
+        (resource_names (resolved_view program.now)) circle)) }
+{
+    let mut whole = text;
+    let found = find_circle(alloc, &program.processes, program.resources.len())?;
+    let Some(circle) = found else { unreachable!() };
+    put_circle(&mut whole, &program.processes, &program.resources, &circle)?;
+    Ok(whole)
+}
+
 /// Returns the text of the plan of a program with this capital.
 fn plan_text<A: Allocator>(
     alloc: Global,
@@ -78,7 +102,10 @@ fn plan_text<A: Allocator>(
     put_last(&mut text, &program.resources, found)?;
     let order = find_order(alloc, &program.processes, program.resources.len())?;
     put_order(&mut text, &program.resources, &order)?;
-    Ok(text)
+    match order {
+        Some(_) => Ok(text),
+        None => with_circle(alloc, text, program),
+    }
 }
 
 /// Returns the plan of a program.
@@ -122,8 +149,8 @@ fn tell_plan<O: Output>(alloc: Global, text: &[u8], output: &mut O) -> Status
 /// declared, the claim and the lines of the holds that it comes from; for each resource its capital, the least
 /// capital with which the text is accepted, and the least with which there is enough for all claims at once; and
 /// then the resource of which most is lacking for that, or that no request waits; and at the end an order of the
-/// resources that all processes follow, if there is one. The status is `Refused` if some claim is over its capital. Of
-/// a text that is not a program the refusal line is written.
+/// resources that all processes follow, or that there is none, with a circle of holds inside others. The status is
+/// `Refused` if some claim is over its capital. Of a text that is not a program the refusal line is written.
 ///
 /// Writes nothing after a failed read; after a failed write, a prefix of the reply has been written.
 pub fn plan_engine<I: Input, O: Output>(alloc: Global, input: &mut I, output: &mut O) -> Status

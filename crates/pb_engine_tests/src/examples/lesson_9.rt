@@ -22,6 +22,8 @@ tape capital 1 least 1 free 2
 disk capital 1 least 1 free 2
 bottleneck tape
 no order
+a holds tape line 7 around disk line 7
+b holds disk line 11 around tape line 11
 ",
     },
     Call {
@@ -74,6 +76,7 @@ order tape
 tape capital 6 least 6 free 6
 no request waits
 no order
+p holds tape line 5 around tape line 7
 ",
     },
     Call {
@@ -86,6 +89,7 @@ sort claim 5 tape lines 5 5
 tape capital 4 least 5 free 7
 bottleneck tape
 no order
+sort holds tape line 5 around tape line 5
 ",
     },
 ];

@@ -8,8 +8,8 @@ use Rattle.pb_plan.proofs.nests.find_nest.Goals as goal
 pub loop-process-preserved : goal.loop-process-preserved
 loop-process-preserved g c =
     c.first-found.ensures
-    ∙ ap (λ (o : Option Nest). first o c.nest_of_list.result) c.loop-process.invariant
+    ∙ ap (λ (o : Option Nest). first o c.nest_in.result) c.loop-process.invariant
     ∙ ap (first (nest_among c.args.outer c.args.inner (map process_view (take c.loop-process.process-index c.args.processes.now))))
-    c.nest_of_list.ensures
+    c.nest_in.ensures
     ∙ sym (among_more c.args.outer c.args.inner c.args.processes.now c.loop-process.process-index
     c.process-item.result c.process-item.is (omega arith))

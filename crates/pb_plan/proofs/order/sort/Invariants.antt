@@ -1,7 +1,7 @@
 use Rattle.std.proofs.Common.{length, map}
 use Rattle.pb_names.specs.View.{process_view}
-use Rattle.pb_plan.proofs.OrderLemmas.{IsBegun}
-use Rattle.pb_plan.proofs.order.find_order.Given as goal
+use Rattle.pb_plan.specs.Nests.{IsBegun}
+use Rattle.pb_plan.proofs.order.sort.Given as goal
 
 abbrev pub invariant-loop-i : goal.invariant-loop-i
 invariant-loop-i g l = IsBegun (map process_view l.processes) l.resources l.order.items l.left.items
