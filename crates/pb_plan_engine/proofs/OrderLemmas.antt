@@ -82,10 +82,10 @@ none_of None same none = none
 none_of (Some x) same none = absurd cc
 
 -- a circle belongs to a plan without an order, and no circle to one with an order
-pub not_closed : {X : Type 0} (items : X → List ℕ) (Closed : Type 0) (found : Option X) (x : X) → found ≡ Some x
-    → MatchOption (option_map items found) Closed (λ some. [] ≡ [])
-not_closed items Closed (Some y) x same = refl
-not_closed items Closed None x same = absurd cc
+pub not_closed : {X Y : Type 0} (items : X → List ℕ) (Closed : Type 0) (circle : List Y) (found : Option X) (x : X)
+    → found ≡ Some x → circle ≡ [] → MatchOption (option_map items found) Closed (λ some. circle ≡ [])
+not_closed items Closed circle (Some y) x same empty = empty
+not_closed items Closed circle None x same empty = absurd cc
 
 pub is_closed : {X : Type 0} (items : X → List ℕ) (Closed Empty : Type 0) (found : Option X) → found ≡ None → Closed
     → MatchOption (option_map items found) Closed (λ some. Empty)

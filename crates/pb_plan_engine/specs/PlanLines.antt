@@ -74,12 +74,16 @@ abbrev pub order_line : List Name → Option (List ℕ) → List ℕ
 order_line resources None = line (codes "no order")
 order_line resources (Some order) = line (codes "order" ++ flat_map (λ r. codes " " ++ resource_name resources r) order)
 
+-- behind a word, a resource and the line of a hold that asks for it
+abbrev pub hold_text : (word : List ℕ) → Name → (line : ℕ) → List ℕ
+hold_text word resource at = word ++ resource ++ codes " line " ++ decimal at
+
 -- the line of a hold inside another one: the process, and each resource with the line of its hold
 abbrev pub edge_line : (processes resources : List Name) → Edge → List ℕ
 edge_line processes resources edge =
-    line (slice_index_or processes edge.process [] ++ codes " holds " ++ resource_name resources edge.nest.outer
-    ++ codes " line " ++ decimal edge.nest.outer_line ++ codes " around " ++ resource_name resources edge.nest.inner
-    ++ codes " line " ++ decimal edge.nest.inner_line)
+    line (slice_index_or processes edge.process []
+    ++ hold_text (codes " holds ") (resource_name resources edge.nest.outer) edge.nest.outer_line
+    ++ hold_text (codes " around ") (resource_name resources edge.nest.inner) edge.nest.inner_line)
 
 -- the lines of a circle, in its order
 abbrev pub circle_lines : (processes resources : List Name) → List Edge → List ℕ

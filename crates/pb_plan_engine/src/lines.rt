@@ -6,7 +6,7 @@ ghost use Rattle.pb_base.specs.Banker.{row_of};
 ghost use Rattle.pb_base.specs.Tables.{width_of};
 ghost use Rattle.pb_names.specs.View.{block_view};
 ghost use Rattle.pb_plan.specs.Circles.{IsBelow};
-ghost use Rattle.pb_plan_engine.specs.PlanLines.{circle_lines, claim_line, edge_line, last_line, lines_text, numbers_text, order_line, plan_lines_of};
+ghost use Rattle.pb_plan_engine.specs.PlanLines.{circle_lines, claim_line, edge_line, hold_text, last_line, lines_text, numbers_text, order_line, plan_lines_of};
 ghost use Rattle.pb_plan_engine.specs.PlanLines.{resource_line, resource_name, resources_lines};
 
 use pb_base::writing::{put, put_name, put_number};
@@ -181,6 +181,14 @@ fn process_name<A: Allocator>(processes: &[Process<A>], p: usize) -> &[u8]
     &processes[p].name
 }
 
+/// Appends the name of a resource and the line of a hold that asks for it to a text, behind a word.
+fn put_hold(text: &mut Vec<u8>, word: &[u8], resource: &[u8], line: u32) -> Result<(), NoMemory>
+    ensures { OnOk result (text.new.items ≡ text.old.items ++ hold_text word.now resource.now line) }
+{
+    put_name(text, word, resource)?;
+    put_number(text, b" line ", line)
+}
+
 /// Appends the line of a hold inside another one to a text.
 fn put_edge<A: Allocator>(
     text: &mut Vec<u8>,
@@ -192,12 +200,11 @@ fn put_edge<A: Allocator>(
     ensures { OnOk result (text.new.items ≡ text.old.items
         ++ edge_line (map (λ p. p.name.items) processes.now) (map (λ r. r.name.items) resources.now) edge.now) }
 {
-    let nest = edge.nest;
+    let outer = name_of(resources, edge.nest.outer);
+    let inner = name_of(resources, edge.nest.inner);
     put(text, process_name(processes, edge.process))?;
-    put_name(text, b" holds ", name_of(resources, nest.outer))?;
-    put_number(text, b" line ", nest.outer_line)?;
-    put_name(text, b" around ", name_of(resources, nest.inner))?;
-    put_number(text, b" line ", nest.inner_line)?;
+    put_hold(text, b" holds ", outer, edge.nest.outer_line)?;
+    put_hold(text, b" around ", inner, edge.nest.inner_line)?;
     put(text, b"\n")
 }
 

@@ -1,4 +1,4 @@
-use Rattle.std.proofs.Common.{Vec, Global, ◌≡◌, ℕ, List, [], length, map, option_map, ap, subst, sym, arith}
+use Rattle.std.proofs.Common.{Vec, Global, ◌≡◌, ℕ, List, [], length, map, option_map, ap, refl, subst, sym, arith}
 use Rattle.std.proofs.lemmas.List.{append-nil, length-map}
 use Rattle.pb_names.specs.Program.{Process}
 use Rattle.pb_names.specs.View.{process_view, resolved_view, resource_view}
@@ -7,6 +7,7 @@ use Rattle.pb_names.specs.declared.resolved.Resource.{Resource}
 use Rattle.pb_plan.specs.Circles.{IsCircle}
 use Rattle.pb_plan.specs.Nests.{AskBelow}
 use Rattle.pb_plan.specs.Orders.{IsFollowed}
+use Rattle.pb_plan.specs.declared.edge.Edge.{Edge}
 use Rattle.pb_plan_engine.specs.PlanLines.{IsPlan}
 use Rattle.pb_plan_engine.proofs.OrderLemmas.{ask_below, found_below, is_closed, is_ordered, none_of, not_closed}
 use Rattle.pb_plan_engine.proofs.PlanLemmas.{closed_plan, is_plan}
@@ -56,17 +57,18 @@ returns-in-Some g c =
     let many : c.len.result ≡ length view.resources = omega (arith, seen, long, told) in
     let same : map process_view c.deref-3.result.now ≡ view.processes =
     ap (λ (ps : List (GivenProcess _)). map process_view ps) c.deref-3.ensures.value in
+    let none : List Edge = [] in
     is_plan c.args.program.now c.args.claims.now c.args.capital.now c.bottleneck-found.result
-    (option_map (λ (o : Vec ℕ Global). o.items) c.in_ok-order.order) [] c.new-text.result.items _ _ _ _ _
+    (option_map (λ (o : Vec ℕ Global). o.items) c.in_ok-order.order) none c.new-text.result.items _ _ _ _ _
     c.deref.result.now c.deref-2.result.now c.deref-4.result.now c.requires.capital c.bottleneck-found.ensures
     (is_ordered (λ (o : Vec ℕ Global). o.items) c.in_ok-order.order c.len.result (map process_view c.deref-3.result.now) view many same
     c.in_ok-order.ensures.some c.in_ok-order.ensures.followed c.in_ok-order.ensures.none)
-    (not_closed (λ (o : Vec ℕ Global). o.items) (IsCircle view.processes []) c.in_ok-order.order c.in-Some.field-0 c.in-Some.is)
+    (not_closed (λ (o : Vec ℕ Global). o.items) (IsCircle view.processes []) none c.in_ok-order.order c.in-Some.field-0 c.in-Some.is refl)
     c.deref.ensures.value c.deref-2.ensures.value c.deref-4.ensures.value c.new-text.ensures.items c.in_ok-put_processes.ensures
     c.in_ok-put_resources.ensures c.in_ok-put_last.ensures c.in_ok-put_order.ensures (sym (append-nil _))
 
-pub returns-in-None : goal.returns-in-None
-returns-in-None g c =
+pub returns : goal.returns
+returns g c =
     let view = resolved_view c.args.program.now in
     let seen = length-map c.args.program.now.resources.items resource_view in
     let long = c.args.program.now.resources.ok.0 in
