@@ -3,7 +3,7 @@ use Rattle.std.specs.Prelude.{IfOk}
 use Rattle.pb_base.specs.declared.lending.Lending.{Lending}
 use Rattle.pb_explained.specs.Explained.{TellsDebugged, TellsRefused}
 use Rattle.pb_messages.specs.Said.{SaysToPerson}
-use Rattle.pb_messages.specs.declared.message.Reading.TheVariants.{Debugged}
+use Rattle.pb_messages.specs.declared.message.Reading.TheVariants.{Debugged, Replayed}
 use Rattle.pb_options.specs.Lends.{lending_for}
 use Rattle.pb_options.specs.declared.options.DebugOptions.{DebugOptions}
 use Rattle.pb_words.specs.declared.words.Options.{Options}
@@ -32,3 +32,17 @@ returns-in-Debug-2 c =
     (sym live)
     (subst (λ (l : Lending). IfOk c.message_of-in-Debug-2.result (λ message. SaysToPerson (Debugged l) bytes message.items))
     c.lending-in-Debug-2.ensures c.message_of-in-Debug-2.ensures))
+
+pub returns-in-Draw : goal.returns-in-Draw
+returns-in-Draw c =
+    let bytes = c.args.bytes.now in
+    subst (λ (o : Options). IfOk c.message_of-in-Draw.result (λ message. TellsRefused o bytes message.items)) (sym c.in-Draw.is)
+    (subst (λ (l : Lending). IfOk c.message_of-in-Draw.result (λ message. SaysToPerson (Replayed l) bytes message.items))
+    c.lending-in-Draw.ensures c.message_of-in-Draw.ensures)
+
+pub returns-in-Replay : goal.returns-in-Replay
+returns-in-Replay c =
+    let bytes = c.args.bytes.now in
+    subst (λ (o : Options). IfOk c.message_of-in-Replay.result (λ message. TellsRefused o bytes message.items)) (sym c.in-Replay.is)
+    (subst (λ (l : Lending). IfOk c.message_of-in-Replay.result (λ message. SaysToPerson (Replayed l) bytes message.items))
+    c.lending-in-Replay.ensures c.message_of-in-Replay.ensures)
