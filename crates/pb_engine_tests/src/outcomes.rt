@@ -118,7 +118,7 @@ const CASES: [Case; 19] = [
     Case {
         text: b"process p begin integer x; parbegin while 1 do skip od; x := 1 div 0 parend end",
         options: MANY,
-        said: b"outcome 1\np faulted\np.x 0\nreached by\np.0 1\np.1 1000\np.2 1\np.1 1000\np.2 1\np.1 1000\np.2 1\n1 outcome, some runs do not end\n",
+        said: b"outcome 1\np faulted\np.x 0\nreached by\np.0 1\np.1 1000\np.2 3\n1 outcome, some runs do not end\n",
         status: Status::Done,
     },
     Case {
