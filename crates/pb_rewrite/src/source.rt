@@ -1,6 +1,6 @@
 //! All processes of the source together.
 
-ghost use Rattle.std.specs.Prelude.{◌≡◌, ◌↔◌, ◌<◌, ◌≤◌, length, map, All, IfOk, IsTrue, OnErr, slice_get, Some, slice_index, option_and_then};
+ghost use Rattle.std.specs.Prelude.{◌≡◌, ◌↔◌, ◌<◌, ◌≤◌, length, map, All, IfOk, IsTrue, OnErr, slice_get, Some, option_and_then};
 ghost use Rattle.pb_base.specs.Steppers.{IsFinished, opening};
 ghost use Rattle.pb_base.specs.Steps.{IsStepOf};
 ghost use Rattle.pb_base.specs.declared.lending.Lending.TheVariants.{ByBanker};

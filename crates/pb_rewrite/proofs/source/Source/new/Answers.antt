@@ -1,4 +1,4 @@
-use Rattle.std.proofs.Common.{◌≡◌, map, ap, ap₂, refl, subst, sym, ◌∙◌}
+use Rattle.std.proofs.Common.{◌≡◌, map, ap, ap₂, subst, sym, ◌∙◌}
 use Rattle.pb_banker.specs.Value.{start_state}
 use Rattle.pb_names.specs.Program.{capital_of}
 use Rattle.pb_names.specs.View.{resolved_view}
