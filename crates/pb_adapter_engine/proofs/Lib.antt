@@ -1,0 +1,2 @@
+pub mod AdapterLemmas
+pub mod WaitingLemmas
