@@ -12,7 +12,7 @@ use Rattle.pb_conversations.specs.Conversations.{AreFloatFree}
 use Rattle.pb_debug.specs.Value.{Debugging, bank_state, state_of}
 use Rattle.pb_adapter_requests.specs.Breakpoints.{asked_lines}
 use Rattle.pb_adapter_requests.specs.Requests.{Asked, Place, number_of, place_of, text_of}
-use Rattle.pb_adapter_requests.specs.Responses.{done_data, event_data, list_below, refused_data}
+use Rattle.pb_adapter_requests.specs.Responses.{done_data, list_below, refused_data}
 use Rattle.pb_adapter_requests.specs.declared.kind.Kind.{Kind}
 use Rattle.pb_adapter_requests.specs.declared.kind.Kind.TheVariants as kind
 use Rattle.pb_adapter_values.specs.Values.{arm_name, arms_below, arms_of, cash_list, is_idle, loans_list, scopes_if, thread_data, thread_if, thread_number}
@@ -97,9 +97,6 @@ listed_free b free = or_from b false free refl
 pub done_free : (seq : ℕ) (r : Asked) (body : Data) → has_float body ≡ false → has_float (done_data seq r body) ≡ false
 done_free seq r body free = listed_free (has_float body) free
 
-pub event_free : (seq : ℕ) (name : List ℕ) (body : Data) → has_float body ≡ false → has_float (event_data seq name body) ≡ false
-event_free seq name body free = listed_free (has_float body) free
-
 -- a response alone
 pub shown_free : (seq : ℕ) (r : Asked) (body : Data) (told : List Data) → has_float body ≡ false → told ≡ done_data seq r body ∷ [] → AreFloatFree told
 shown_free seq r body told free is = subst AreFloatFree (sym is) (done_free seq r body free, tt)
@@ -111,9 +108,6 @@ refused_free seq r message told is = subst AreFloatFree (sym is) (refl, tt)
 pub told_free : (seq : ℕ) (r : Asked) (body event : Data) (told : List Data) → has_float body ≡ false → has_float event ≡ false
     → told ≡ done_data seq r body ∷ event ∷ [] → AreFloatFree told
 told_free seq r body event told free free' is = subst AreFloatFree (sym is) (done_free seq r body free, free', tt)
-
-stopped_free : (seq : ℕ) (d : Debugging) (reason : List ℕ) → has_float (stopped_data seq d reason) ≡ false
-stopped_free seq d reason = refl
 
 moved_free : (b : Bool) (seq : ℕ) (r : Asked) (body event : Data) → has_float body ≡ false → has_float event ≡ false
     → AreFloatFree (done_data seq r body ∷ cond b [] (event ∷ []))

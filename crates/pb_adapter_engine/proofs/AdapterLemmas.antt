@@ -8,7 +8,12 @@ use Rattle.pb_command_io.specs.Answers.{Tells}
 use Rattle.pb_command_io.specs.declared.status.Status.{Status}
 use Rattle.pb_command_io.specs.declared.status.Status.TheVariants as status
 use Rattle.pb_conversations.specs.Conversations.{CountsBoth, Talks, TalksOut, TalksSome, WritesBefore, texts}
-use Rattle.pb_debug.specs.Value.{IsPosition}
+use Rattle.pb_debug.specs.Value.{Debugging, IsPosition, at_start, showing}
+use Rattle.pb_base.specs.declared.lending.Lending.{Lending}
+use Rattle.pb_code.specs.Whole.{ProcessLabels}
+use Rattle.pb_history.specs.Replays.{spread}
+use Rattle.pb_history.specs.declared.counted.CountedPick.{CountedPick}
+use Rattle.pb_verifier.specs.Verified.{VerifiedCode}
 use Rattle.pb_conversations.specs.declared.conversation.Stop.{Stop}
 use Rattle.pb_conversations.specs.declared.conversation.Stop.TheVariants as stop
 use Rattle.pb_adapter.specs.Sessions.{AnswersIn, Debugged}
@@ -66,6 +71,19 @@ launched_known l first bytes s old new given is placed (text, done, session, wro
   says.in_session placed text done (subst (λ (s : Debugged). SaysOfSession s first bytes text done) is session),
   wrote,
 )
+
+-- the debugger of what was launched
+pub opened_debugger : (lending : Lending) (verified v : VerifiedCode) (labels shown : List ProcessLabels) (counted cs : List CountedPick)
+    (source text path : List ℕ) (d d' : Debugging) → v ≡ verified → shown ≡ labels → cs ≡ counted → text ≡ source
+    → d ≡ at_start lending v shown (spread cs) → d' ≡ showing (Some text) d
+    → d' ≡ (says.opened (record { lending = lending; verified = verified; labels = labels; counted = counted; source = source; path = path })).debugger
+opened_debugger lending verified v labels shown counted cs source text path d d' code of picks bytes is is' =
+    is'
+    ∙ ap (λ (x : List ℕ). showing (Some x) d) bytes
+    ∙ ap (λ (x : Debugging). showing (Some source) x) is
+    ∙ ap (λ (x : VerifiedCode). showing (Some source) (at_start lending x shown (spread cs))) code
+    ∙ ap (λ (x : List ProcessLabels). showing (Some source) (at_start lending verified x (spread cs))) of
+    ∙ ap (λ (x : List CountedPick). showing (Some source) (at_start lending verified labels (spread x))) picks
 
 -- out of memory, and nothing is written
 none_appended : (old : Option (List ℕ)) → old ≡ appended old []
@@ -136,6 +154,17 @@ module _ (bytes : List ℕ) (left old mid : Option (List ℕ)) (after : WaitingV
       (subst (λ (o : Option (List ℕ)). IfSome o (λ rest. Tells (SaysOfLaunched l next rest) mid new given)) (left_known l is) told))
 
 -- ---- faults
+
+-- a device that fails is told, if none did before
+pub faults_behind : (reads reads' reads'' writes writes' writes'' : ℕ) (old mid new : Option (List ℕ)) (given : Status) → reads' ≡ reads
+    → writes' ≡ writes
+    → TellsAnyFault (record { reads = reads'; writes = writes'; written = mid }) (record { reads = reads''; writes = writes''; written = new }) given
+    → TellsAnyFault (record { reads = reads; writes = writes; written = old }) (record { reads = reads''; writes = writes''; written = new }) given
+faults_behind reads reads' reads'' writes writes' writes'' old mid new given read wrote tells =
+    subst (λ (n : ℕ). TellsAnyFault (record { reads = n; writes = writes; written = old }) (record { reads = reads''; writes = writes''; written = new }) given)
+    read
+    (subst (λ (n : ℕ). TellsAnyFault (record { reads = reads'; writes = n; written = old }) (record { reads = reads''; writes = writes''; written = new })
+    given) wrote tells)
 
 -- a conversation that breaks off tells whether a device failed
 pub counts_told : (why : Stop) (given : Status) (reads reads' writes writes' : ℕ) (old new : Option (List ℕ)) → given ≡ stop_status why

@@ -1,6 +1,6 @@
 //! What a launch gives: the code of a text, and picks of it.
 
-ghost use Rattle.std.specs.Prelude.{◌≡◌, ◌≤◌, [], ℕ, IfErr, IfOk, List, None, Some, length};
+ghost use Rattle.std.specs.Prelude.{◌≡◌, ◌≤◌, [], ℕ, IfErr, IfOk, List, None, Some, codes, length};
 ghost use Rattle.pb_base.specs.Lines.{line as with_feed};
 ghost use Rattle.pb_base.specs.declared.lending.Lending.{Lending as LendingValue};
 ghost use Rattle.pb_base.specs.declared.limits.TheConstants.{MAX_PICKS};
@@ -87,8 +87,8 @@ fn without_feed(text: &mut Vec<u8>)
 
 // Returns the line of a refusal of pick lines.
 fn lines_line(alloc: Global, fault: LinesFault) -> Result<Vec<u8>, NoMemory>
-    ensures { (lending : LendingValue) (code : Code) (lines : List ℕ) → IsLinesFaultBy lending code lines fault
-        → IfOk result (λ text. RefusesPicks None lending code lines text.items) }
+    ensures { IfOk result (λ text. (lending : LendingValue) (code : Code) (lines : List ℕ)
+        → IsLinesFaultBy lending code lines fault → RefusesPicks None lending code lines text.items) }
 {
     let mut text = lines_refusal(alloc, fault)?.text;
     without_feed(&mut text);
@@ -111,6 +111,13 @@ fn picks_said(
     }
 }
 
+// Returns the line that the picks that are drawn are too many.
+fn too_long_line(alloc: Global) -> Result<Vec<u8>, NoMemory>
+    ensures { IfOk result (λ line. line.items ≡ codes "refused output") }
+{
+    Ok(Vec::from_slice(alloc, b"refused output")?)
+}
+
 // Returns the picks that are drawn with a seed, or the line that they are too many.
 fn picks_drawn(
     alloc: Global,
@@ -122,9 +129,10 @@ fn picks_drawn(
     ensures refused { IfOk result (λ r. IfErr r (λ line. RefusesPicks (Some seed) lending verified.now.code [] line.items)) }
 {
     let _ = verified.code();
-    match draw_picks(alloc, lending, MAX_DRAWN, seed, verified)? {
-        Some((_, picks)) => Ok(Ok(picks)),
-        None => Ok(Err(Vec::from_slice(alloc, b"refused output")?)),
+    let made = draw_picks(alloc, lending, MAX_DRAWN, seed, verified)?;
+    match made {
+        Some((_machine, picks)) => Ok(Ok(picks)),
+        None => Ok(Err(too_long_line(alloc)?)),
     }
 }
 

@@ -5,7 +5,7 @@ ghost use Rattle.std.specs.Str.{bytes_eq};
 ghost use Rattle.std.specs.Str.Lossy.{utf8_lossy};
 ghost use Rattle.serde_json.specs.Data.{null};
 ghost use Rattle.pb_adapter_engine.specs.Waiting.{AnswersWaiting, AnswersWaitingKind, Launches, LaunchesText};
-ghost use Rattle.pb_adapter_engine.specs.Waiting.{lending_said, nobody};
+ghost use Rattle.pb_adapter_engine.specs.Waiting.{lending_said, nobody, path_of as path_asked};
 ghost use Rattle.pb_adapter_requests.specs.Requests.{request_view, text_of as text_asked};
 ghost use Rattle.pb_adapter_requests.specs.Responses.{done_data, event_data, refused_data, told_by};
 
@@ -60,6 +60,16 @@ fn lending_of(word: Option<&str>) -> Option<Lending>
     }
 }
 
+// Returns the path that a request names; none if it names none.
+fn path_of<'v>(request: Request<'v>) -> &'v str
+    ensures { result.now ≡ path_asked (request_view request.entry) }
+{
+    match text_of(request, "program") {
+        Some(path) => path,
+        None => "",
+    }
+}
+
 // Returns the reply that a request is refused.
 fn refuse(alloc: Global, seq: u64, request: Request<'_>, message: &str) -> Result<Reply, NoMemory>
     ensures { IfOk result (λ reply. told_by reply ≡ refused_data seq (request_view request.entry) message.now ∷ []) }
@@ -110,8 +120,8 @@ impl Waiting {
         ensures { IfOk result (λ reply. LaunchesText self.old seq (request_view request.entry) words.now lending (told_by reply) self.new) }
     {
         let seed = number_of(request, "seed");
-        let path = text_of(request, "program").unwrap_or("");
-        match launch_of(alloc, words.as_bytes(), seed, lending, path)? {
+        let launch = launch_of(alloc, words.as_bytes(), seed, lending, path_of(request))?;
+        match launch {
             Launch::Fit(launched) => {
                 let reply = tell_launched(alloc, seq, request)?;
                 self.launched = Some(launched);
