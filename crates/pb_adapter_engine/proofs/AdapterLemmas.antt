@@ -1,5 +1,5 @@
 -- From what a conversation says to what is said of an input.
-use Rattle.std.proofs.Common.{◌≡◌, ◌⊎◌, ◌<◌, ℕ, ◌+◌, List, [], ◌∷◌, ◌++◌, length, Bool, Option, Some, None, IfSome, true, false, true≢false, refl, sym, ap, ◌∙◌, subst, inl, inr, append_assoc, append-nil}
+use Rattle.std.proofs.Common.{◌≡◌, ◌⊎◌, ◌<◌, ℕ, ◌+◌, List, [], ◌++◌, length, Bool, Option, Some, None, IfSome, true, false, true≢false, refl, sym, ap, ◌∙◌, subst, inl, inr, append_assoc, append-nil}
 use Rattle.serde_json.specs.Data.{Data}
 use Rattle.pb_adapter_requests.specs.Requests.{Asked}
 use Rattle.pb_base.specs.Device.{appended}
@@ -7,7 +7,7 @@ use Rattle.pb_base.proofs.DeviceLemmas.{appended-appended}
 use Rattle.pb_command_io.specs.Answers.{Tells}
 use Rattle.pb_command_io.specs.declared.status.Status.{Status}
 use Rattle.pb_command_io.specs.declared.status.Status.TheVariants as status
-use Rattle.pb_conversations.specs.Conversations.{CountsBoth, Talks, TalksOut, TalksSome, WritesBefore, texts}
+use Rattle.pb_conversations.specs.Conversations.{CountsBoth, TalksOut, TalksSome, WritesBefore, texts}
 use Rattle.pb_debug.specs.Value.{Debugging, IsPosition, at_start, showing}
 use Rattle.pb_base.specs.declared.lending.Lending.{Lending}
 use Rattle.pb_code.specs.Whole.{ProcessLabels}

@@ -1,10 +1,10 @@
 -- What is answered before a text is launched.
-use Rattle.std.proofs.Common.{◌≡◌, ℕ, ◌+◌, List, [], ◌∷◌, ◌++◌, Option, Some, None, true, codes, refl, sym, subst}
+use Rattle.std.proofs.Common.{◌≡◌, ℕ, List, Option, Some, None, true, codes, refl, sym, subst}
 use Rattle.std.proofs.lemmas.Option.{none-some}
 use Rattle.serde_json.specs.Data.{Data, null}
 use Rattle.pb_base.specs.declared.lending.Lending.{Lending}
 use Rattle.pb_conversations.specs.Conversations.{AnswersContent, AreFloatFree, Conversation, asked, no_request, no_json, none_answered, one_answered}
-use Rattle.pb_adapter.proofs.FloatFree.{refused_free, shown_free, told_free}
+use Rattle.pb_adapter.proofs.FloatFree.{refused_free, shown_free}
 use Rattle.pb_adapter_requests.specs.Kinds.{kind_of}
 use Rattle.pb_adapter_requests.specs.Requests.{Asked, text_of}
 use Rattle.pb_adapter_requests.specs.declared.kind.Kind.{Kind}

@@ -1,7 +1,4 @@
-use Rattle.std.proofs.lemmas.Result.{IfErr-at_err, IfOk-at_ok}
-use Rattle.pb_accept.specs.Refusals.{RefusesWith}
-use Rattle.pb_codegen.specs.Compiled.{IsCompiled}
-use Rattle.pb_adapter_engine.specs.Waiting.{ArePicksFor, RefusesPicks, no_text}
+use Rattle.pb_adapter_engine.specs.Waiting.{no_text}
 use Rattle.pb_adapter_engine.proofs.LaunchLemmas.{has_no_picks, is_launched, picks_few}
 use Rattle.pb_adapter_engine.proofs.launch.launch_of.Goals as goal
 

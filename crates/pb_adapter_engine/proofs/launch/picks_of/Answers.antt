@@ -1,5 +1,4 @@
 use Rattle.std.proofs.Common.{List, subst, sym}
-use Rattle.pb_base.specs.declared.pick.Pick.{Pick}
 use Rattle.pb_code.specs.Limits.{KeepsLimits}
 use Rattle.pb_code.specs.Whole.{Code}
 use Rattle.pb_history.specs.Replays.{IsReplayBy, spread}

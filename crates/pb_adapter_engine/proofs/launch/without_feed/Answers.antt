@@ -1,4 +1,3 @@
-use Rattle.std.proofs.Common.{arith}
 use Rattle.pb_adapter_engine.proofs.LaunchLemmas.{without_last}
 use Rattle.pb_adapter_engine.proofs.launch.without_feed.Goals as goal
 

@@ -1,9 +1,8 @@
-use Rattle.std.proofs.Common.{[], ap, false, subst}
+use Rattle.std.proofs.Common.{◌≡◌, subst}
 use Rattle.std.proofs.lemmas.Option.{IfSome_then}
 use Rattle.pb_code.specs.View.{labels_view}
 use Rattle.pb_command_io.proofs.InputLemmas.{IfSome-of}
-use Rattle.pb_debug.specs.Value.{Debugging, IsPosition}
-use Rattle.pb_adapter.specs.Sessions.{Debugged}
+use Rattle.pb_debug.specs.Value.{IsPosition}
 use Rattle.pb_adapter_engine.specs.Adapters.{opened}
 use Rattle.pb_adapter_engine.specs.Waiting.{launched_view}
 use Rattle.pb_adapter_engine.proofs.AdapterLemmas.{launched_known, no_launch, opened_debugger}

@@ -1,4 +1,4 @@
-use Rattle.std.proofs.Common.{◌≡◌, ◌∙◌, Option, Some, option_map, ap, codes, sym}
+use Rattle.std.proofs.Common.{◌≡◌, ◌∙◌, Some, option_map, ap, codes, sym}
 use Rattle.std.proofs.lemmas.Result.{IfOk-weaker}
 use Rattle.pb_adapter_requests.specs.Requests.{request_view, text_of}
 use Rattle.pb_adapter_requests.specs.Responses.{told_by}

@@ -1,4 +1,4 @@
-use Rattle.std.proofs.Common.{List, ℕ, Some, [], ◌∷◌, ◌≡◌, IfOk, codes, subst, sym}
+use Rattle.std.proofs.Common.{List, ℕ, Some, true, [], ◌∷◌, ◌≡◌, IfOk, codes, subst, sym}
 use Rattle.std.specs.Str.Lossy.{utf8_lossy}
 use Rattle.serde_json.specs.Data.{Data}
 use Rattle.pb_conversations.proofs.Replies.{told_known}
