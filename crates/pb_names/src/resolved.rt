@@ -57,7 +57,7 @@ pub enum Stmt<A: Allocator> {
 
 impl<A: Allocator> Stmt<A> {
     /// Returns the line of its first token.
-    #[tactic(auto, using(pb_names::proofs::Views::stmt_views))]
+    #[tactic(auto, using(crate::proofs::Views::stmt_views))]
     pub fn line(&self) -> u32
         ensures { result ≡ stmt_line (stmt_view self.now) }
     {

@@ -1,6 +1,7 @@
 use Rattle.std.proofs.Common.{◌≡◌, ◌≤◌, ℕ, length, ap, subst, sym, ◌∙◌, arith}
 use Rattle.std.specs.Prelude.{All, IfOk}
-use Rattle.std.proofs.lemmas.List.{take_all}
+use Rattle.std.proofs.lemmas.List.{length-map, take_all}
+use Rattle.pb_names.specs.View.{resource_view}
 use Rattle.pb_names.proofs.Capitals.{capitals, capital_pushed, capitals_length}
 use Rattle.pb_names.proofs.resolved.Resolved.capital.Goals as goal
 
@@ -15,7 +16,13 @@ new-requires-clause-few g c =
     let whole : c.deref.result.now ≡ capitals c.args.self.now.resources.items =
     c.deref.ensures.value ∙ c.loop-resource.invariant ∙ ap capitals (take_all c.loop-resource.resource-index rs (omega
     arith)) ∙ ap capitals c.deref-resource-items.ensures.value in
-    omega (arith, ap length whole, capitals_length c.args.self.now.resources.items, c.requires.few)
+    omega (
+      arith,
+      ap length whole,
+      capitals_length c.args.self.now.resources.items,
+      length-map c.args.self.now.resources.items resource_view,
+      c.requires.few,
+    )
 
 pub new-requires-clause-small : goal.new-requires-clause-small
 new-requires-clause-small g c =
