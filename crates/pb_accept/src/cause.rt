@@ -51,7 +51,7 @@ pub fn text_cause(fault: &CompileFault) -> Option<Cause>
 }
 
 /// Returns the cause of a fault of tokens; none if it is out of memory.
-pub fn lex_cause(fault: LexFault) -> Option<Cause>
+pub(crate) fn lex_cause(fault: LexFault) -> Option<Cause>
     ensures { result ≡ spec.lex_cause fault }
 {
     match fault {
@@ -64,7 +64,7 @@ pub fn lex_cause(fault: LexFault) -> Option<Cause>
 }
 
 /// Returns the cause of a fault of the grammar; none if it is out of memory.
-pub fn parse_cause(fault: ParseFault) -> Option<Cause>
+pub(crate) fn parse_cause(fault: ParseFault) -> Option<Cause>
     ensures { result ≡ spec.parse_cause fault }
 {
     match fault {
@@ -76,7 +76,7 @@ pub fn parse_cause(fault: ParseFault) -> Option<Cause>
 }
 
 /// Returns the cause of a fault of names; none if it is out of memory.
-pub fn names_cause(fault: NameFault) -> Option<Cause>
+pub(crate) fn names_cause(fault: NameFault) -> Option<Cause>
     ensures { result ≡ spec.names_cause fault }
 {
     match fault {
@@ -130,7 +130,7 @@ pub fn picks_cause(fault: PickFault) -> Option<Cause>
 }
 
 /// Returns the cause of a pick that is not enabled; none if it is out of memory.
-pub fn stop_cause(fault: ReplayFault) -> Option<Cause>
+pub(crate) fn stop_cause(fault: ReplayFault) -> Option<Cause>
     ensures { result ≡ spec.stop_cause fault }
 {
     match fault {

@@ -16,10 +16,7 @@ mod refusal;
 pub mod replay;
 pub mod run_text;
 
-pub use cause::{
-    Cause, lex_cause, names_cause, object_cause, parse_cause, picks_cause, stop_cause, text_cause,
-    verify_cause,
-};
+pub use cause::{Cause, object_cause, picks_cause, text_cause, verify_cause};
 pub use check::check_engine;
 pub use claims::claims_engine;
 pub use emit::emit_engine;

@@ -44,7 +44,7 @@ pub fn load(alloc: Global, bytes: &[u8]) -> Result<(Verified, Labels), LoadFault
 }
 
 /// Returns the cause of a refused object; none if it is out of memory.
-pub fn load_cause(fault: LoadFault) -> Option<Cause>
+pub(crate) fn load_cause(fault: LoadFault) -> Option<Cause>
     ensures { result ≡ spec.load_cause fault }
 {
     match fault {

@@ -33,7 +33,7 @@ fn put_offset(out: &mut Vec<u8>, at: Option<usize>) -> Result<(), NoMemory>
 }
 
 /// Returns the line of a cause, or out of memory if there is none.
-pub fn refusal_text(alloc: Global, cause: Option<Cause>) -> Result<Vec<u8>, NoMemory>
+pub(crate) fn refusal_text(alloc: Global, cause: Option<Cause>) -> Result<Vec<u8>, NoMemory>
     ensures { IfOk result (λ text. option_map cause_line cause ≡ Some text.items) }
 {
     match cause {
@@ -70,7 +70,7 @@ fn kind_words(kind: Kind) -> &'static [u8]
 }
 
 /// Returns the line of a fault of names.
-pub fn names_text(alloc: Global, fault: NameFault) -> Result<Vec<u8>, NoMemory>
+pub(crate) fn names_text(alloc: Global, fault: NameFault) -> Result<Vec<u8>, NoMemory>
     ensures { IfOk result (λ text. names_line fault ≡ Some text.items) }
 {
     let mut text = refusal_text(alloc, names_cause(fault))?;
@@ -79,7 +79,7 @@ pub fn names_text(alloc: Global, fault: NameFault) -> Result<Vec<u8>, NoMemory>
 }
 
 /// Returns the line of a claim that is over its capital.
-pub fn claims_text(alloc: Global, fault: &ClaimsFault) -> Result<Vec<u8>, NoMemory>
+pub(crate) fn claims_text(alloc: Global, fault: &ClaimsFault) -> Result<Vec<u8>, NoMemory>
     ensures { IfOk result (λ text. text.items ≡ claims_line fault.now) }
 {
     let cause = Cause {

@@ -146,7 +146,7 @@ pub fn make_lines_by(
 }
 
 /// Returns the cause of refused pick lines; none if it is out of memory.
-pub fn lines_cause(fault: LinesFault) -> Option<Cause>
+pub(crate) fn lines_cause(fault: LinesFault) -> Option<Cause>
     ensures { result ≡ spec.lines_cause fault }
 {
     match fault {
