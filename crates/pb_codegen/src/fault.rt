@@ -28,7 +28,7 @@ pub struct ClaimsFault {
 
 /// Why a text is not compiled, by the part that refused it. The parts are asked in this order, and out of
 /// memory anywhere is `Memory`.
-// To add a refusal: its crate, specs/Compiled, Refusals and refusal.rt of pb_accept; docs/CHANGING.md.
+// To add a refusal: its crate, specs/Compiled, Causes and cause.rt of pb_accept; docs/CHANGING.md.
 #[derive(Debug, Drop, PartialEq, Eq, thiserror::Error)]
 pub enum CompileFault {
     #[error("{0}")]

@@ -1,4 +1,4 @@
--- Circles of holds inside others: why there is no order of the resources.
+-- Circles of nested holds: why there is no order of the resources.
 use Rattle.std.specs.Prelude.{◌≡◌, ℕ, ◌+◌, ◌-◌, ◌<◌, Bool, true, List, length, Some, slice_get, All}
 use Rattle.pb_names.specs.Program.{Block, Process}
 use Rattle.pb_plan.specs.Nests.{asks, IsAmong}

@@ -1,4 +1,4 @@
-//! A circle of holds inside others.
+//! A circle of nested holds.
 
 ghost use Rattle.std.specs.Prelude.{◌≡◌, ◌<◌, ℕ, All, IfNone, IfOk, IfSome, List, None, Some, length, map, slice_get};
 ghost use Rattle.pb_names.specs.View.{process_view};
@@ -107,7 +107,7 @@ fn follow<A: Allocator>(
     }
 }
 
-/// Returns a circle of holds inside others, if there is no order of the resources that the processes follow: the
+/// Returns a circle of nested holds, if there is no order of the resources that the processes follow: the
 /// inner resource of each is the outer one of the next, and that of the last the outer one of the first. The processes
 /// ask only for these many resources. The error comes only if `alloc` is out of memory.
 pub fn find_circle<A: Allocator>(

@@ -208,7 +208,7 @@ fn put_edge<A: Allocator>(
     put(text, b"\n")
 }
 
-/// Appends the lines of a circle of holds inside others to a text.
+/// Appends the lines of a circle of nested holds to a text.
 pub(crate) fn put_circle<A: Allocator>(
     text: &mut Vec<u8>,
     processes: &[Process<A>],

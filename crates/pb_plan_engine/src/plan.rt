@@ -149,7 +149,7 @@ fn tell_plan<O: Output>(alloc: Global, text: &[u8], output: &mut O) -> Status
 /// declared, the claim and the lines of the holds that it comes from; for each resource its capital, the least
 /// capital with which the text is accepted, and the least with which there is enough for all claims at once; and
 /// then the resource of which most is lacking for that, or that no request waits; and at the end an order of the
-/// resources that all processes follow, or that there is none, with a circle of holds inside others. The status is
+/// resources that all processes follow, or that there is none, with a circle of nested holds. The status is
 /// `Refused` if some claim is over its capital. Of a text that is not a program the refusal line is written.
 ///
 /// Writes nothing after a failed read; after a failed write, a prefix of the reply has been written.
