@@ -4,6 +4,7 @@ pub mod DeviceLemmas
 pub mod Groups
 pub mod Lists
 pub mod LoanRows
+pub mod Results
 pub mod Rows
 pub mod Safety
 pub mod Tails

@@ -2,7 +2,8 @@
 use Rattle.std.proofs.Common.{◌≡◌, ℕ, zero, suc, ◌+◌, ◌<◌, ◌≤◌, List, [], ◌∷◌, ◌++◌, length, get_or, map, take, drop}
 use Rattle.std.proofs.Common.{Some, option_map, refl, sym, ap, ◌∙◌, arith, add-one, append_assoc}
 use Rattle.std.specs.Prelude.{slice_get}
-use Rattle.std.proofs.Math.Seq.{take-append_seam}
+use Rattle.std.proofs.Math.Seq.{drop-cons, take-append_seam}
+use Rattle.std.proofs.lemmas.List.{take-append-drop}
 use Rattle.std.proofs.lemmas.Option.{slice_get-get_or, slice_get-map}
 
 -- what an index finds
@@ -76,3 +77,11 @@ four_behind {X} old a b c d one two three four first second third fourth =
     ∙ ap (λ (t : List X). t ++ d)
     (third ∙ ap (λ (t : List X). t ++ c) (second ∙ ap (λ (t : List X). t ++ b) first))
     ∙ simp append_assoc
+
+-- bytes, parted at one of them
+pub split_at : (bytes : List ℕ) (i b : ℕ) → i < length bytes → get_or bytes i 0 ≡ b → take i bytes ++ b ∷ drop (i + 1) bytes ≡ bytes
+split_at bytes i b lt e =
+    let n : i + 1 ≡ suc i = omega arith in
+    ap (λ c. take i bytes ++ c ∷ drop (i + 1) bytes) (sym e)
+    ∙ (ap (λ k. take i bytes ++ get_or bytes i 0 ∷ drop k bytes) n
+    ∙ (ap (λ (xs : List ℕ). take i bytes ++ xs) (sym (drop-cons bytes i 0 lt)) ∙ take-append-drop i bytes))

@@ -16,7 +16,7 @@ use Rattle.pb_code.specs.Code.{Instr, Push, Store, Jump, JumpIfZero, PrintTop, T
 use Rattle.pb_code.specs.Code.{Live, Runs, Traps, Forks, Stops, act, is_skip}
 use Rattle.pb_generator.specs.Generate.{expr_code, stmt_code, block_code, arm_code}
 use Rattle.pb_names.specs.HeadLines.{item_line, first_line}
-use Rattle.pb_generator.specs.Lines.{stmt_source_line, block_line, stmt_lines, block_lines}
+use Rattle.pb_generator.specs.Lines.{block_line, stmt_lines, block_lines}
 use Rattle.pb_codegen.proofs.SimulationListings.{Listing, line_at, LinesAt, lines_front, lines_back, length-stmt_lines}
 use Rattle.pb_codegen.proofs.SimulationListings.{length-block_lines, length-same_lines}
 use Rattle.pb_code.proofs.Chains.{after_skip}
@@ -140,18 +140,10 @@ from_line code items p s from = go from.jumps from.reaches
 
 -- ---- a block that is begun
 
-stmt_line_is : (s : Stmt) → stmt_source_line s ≡ item_line (item_of s)
-stmt_line_is (Assign line x e) = refl
-stmt_line_is (Print line e) = refl
-stmt_line_is (If line e a b) = refl
-stmt_line_is (While line e body) = refl
-stmt_line_is (Hold line bundle body) = refl
-stmt_line_is (Parbegin line first arms) = refl
-
 line_of_is : (block : Block) (rest : List Item)
     → block_line block (first_line rest) ≡ first_line (items_of block ++ rest)
 line_of_is Skip rest = refl
-line_of_is (Then s block) rest = ap Some (stmt_line_is s)
+line_of_is (Then s block) rest = refl
 
 pub item_at : (code : Listing) (s : Stmt) (p : ℕ) (next : Option ℕ) → Has code p (stmt_code p s)
     → Lines code p (stmt_lines s next) → PlacedStmt code s

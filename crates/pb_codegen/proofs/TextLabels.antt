@@ -19,7 +19,8 @@ use Rattle.pb_code.specs.Whole.{ProcessLabels}
 use Rattle.pb_verifier.proofs.LimitTests.{all_at}
 use Rattle.pb_codegen.specs.Form.{IsSourceLine, IsFullStmt, IsFull, AreFull, IsFormedProcess, IsFormed}
 use Rattle.pb_generator.specs.Generate.{expr_code, block_code, arm_code, arms_code, process_code, program_code}
-use Rattle.pb_generator.specs.Lines.{stmt_source_line, block_line, stmt_lines, block_lines, arms_lines}
+use Rattle.pb_names.specs.HeadLines.{stmt_line}
+use Rattle.pb_generator.specs.Lines.{block_line, stmt_lines, block_lines, arms_lines}
 use Rattle.pb_generator.specs.Lines.{process_labels, program_labels}
 use Rattle.pb_codegen.proofs.SimulationListings.{length-block_lines}
 use Rattle.pb_names.proofs.Holds.{zip_at}
@@ -74,7 +75,7 @@ lines_of_arms (arm ∷ arms) h =
 
 module _ (integers resources : List Name) where
   begins_on : (s : tree.StmtSyntax) (s' : Stmt) → IsFullStmt s → ResolvesStmt integers resources s s'
-      → IsSourceLine (stmt_source_line s')
+      → IsSourceLine (stmt_line s')
   begins_on _ _ full (assign line x i e e' is h) = full
   begins_on _ _ full (print line e e' h) = full
   begins_on _ _ full (if_else line e e' a b a' b' h k l) = full.0

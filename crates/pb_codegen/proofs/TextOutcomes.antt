@@ -1,8 +1,7 @@
 -- From what each part returns to what a compiled, or a refused, text is.
-use Rattle.std.proofs.Common.{◌≡◌, ◌⊎◌, ℕ, List, length, map, Result, Ok, Err, refl, sym, ap, ◌∙◌, arith}
+use Rattle.std.proofs.Common.{◌≡◌, ◌⊎◌, ℕ, List, length, Result, Ok, Err, refl, ap, ◌∙◌, arith}
 use Rattle.std.proofs.lemmas.List.{length-map}
 use Rattle.std.proofs.lemmas.List.Elements.{All-weaker}
-use Rattle.std.proofs.lemmas.Simd.{map-map}
 use Rattle.pb_base.specs.Steppers.{Table}
 use Rattle.pb_base.specs.Tables.{width_of}
 use Rattle.pb_lexer.specs.Cutting.{AreTokensOf}
@@ -22,8 +21,6 @@ use Rattle.pb_claims.specs.Inferred.{HaveSmallClaims}
 use Rattle.pb_claims.proofs.Bounds.{small_claims}
 use Rattle.pb_names.specs.Program.{Program, Resource, capital_of}
 use Rattle.pb_names.specs.Resolves.{Resolves, resource_names}
-use Rattle.pb_names.specs.View.{resolved_view, resource_view}
-use Rattle.pb_names.specs.declared.resolved.Resolved.{Resolved}
 use Rattle.pb_claims.specs.Fits.{FitCapital}
 use Rattle.pb_code.specs.Whole.{bank_of}
 use Rattle.pb_codegen.specs.Accepted.{HasSoundCode}
@@ -171,16 +168,11 @@ compiled text program claims is enough =
 
 -- ---- the capital of resources in memory
 
-pub capital_seen : {A : Type 0} (program : Resolved A) (capital : List ℕ)
-    → capital ≡ map (λ resource. resource.capital) program.resources.items → capital ≡ capital_of (resolved_view program)
-capital_seen program capital is = is ∙ sym (map-map (λ (r : Resource). r.capital) resource_view program.resources.items)
-
-pub capital_width : {A : Type 0} (program : Resolved A) (capital : List ℕ) (claims : Table)
-    → capital ≡ map (λ resource. resource.capital) program.resources.items
-    → width_of claims ≡ length (resolved_view program).resources → width_of claims ≡ length capital
+pub capital_width : (program : Program) (capital : List ℕ) (claims : Table) → capital ≡ capital_of program
+    → width_of claims ≡ length program.resources → width_of claims ≡ length capital
 capital_width program capital claims is width =
-    let seen = ap length (capital_seen program capital is) in
-    let all = length-map (resolved_view program).resources (λ (r : Resource). r.capital) in
+    let seen = ap length is in
+    let all = length-map program.resources (λ (r : Resource). r.capital) in
     omega (arith, width, seen, all)
 
 -- a claim over the capital refuses the text

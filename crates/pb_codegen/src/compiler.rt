@@ -15,7 +15,7 @@ use pb_base::limits::MAX_TEXT;
 use pb_base::{Claims, NoMemory};
 use pb_claims::{OverCapital, fits, infer};
 use pb_code::Code;
-use pb_generator::{Generated, capital_of, generate};
+use pb_generator::{Generated, generate};
 use pb_lexer::{LexFault, lex};
 use pb_names::Resolved;
 use pb_parser::parse;
@@ -84,7 +84,7 @@ fn check_capital<A: Allocator>(
     ensures enough { OnOk result (FitCapital claims.now (capital_of (resolved_view program.now))) }
     ensures over { IfErr result (IsCapitalFault (resolved_view program.now) claims.now) }
 {
-    let capital = capital_of(alloc, &program.resources)?;
+    let capital = program.capital(alloc)?;
     match fits(claims, &capital) {
         Ok(()) => Ok(()),
         Err(over) => Err(CompileFault::Claims(name_claim(alloc, program, over)?)),

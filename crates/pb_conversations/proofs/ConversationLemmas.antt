@@ -11,9 +11,9 @@ use Rattle.pb_frames.specs.declared.fault.FrameFault.{FrameFault}
 use Rattle.pb_frames.specs.declared.fault.FrameFault.TheVariants as frame
 use Rattle.pb_conversations.specs.declared.conversation.Stop.{Stop}
 use Rattle.pb_conversations.specs.declared.conversation.Stop.TheVariants as stop
-use Rattle.pb_conversations.specs.Conversations.{message_text, texts, broken_data, AnswersContent, AreFrames, none_read, one_read}
-use Rattle.pb_conversations.specs.Conversations.{Conversation, none_answered, one_answered, Talks, TalksOut, TalksSome}
-use Rattle.pb_conversations.specs.Conversations.{IsBroken, WritesBefore, WritesBroken, WritesReply}
+use Rattle.pb_conversations.specs.Conversations.{message_text, texts, broken_data, AnswersContent, none_read, one_read}
+use Rattle.pb_conversations.specs.Conversations.{none_answered, one_answered, Talks, TalksOut, TalksSome}
+use Rattle.pb_conversations.specs.Conversations.{WritesBroken, WritesReply}
 
 none_appended : (old : Option (List ℕ)) → old ≡ appended old []
 none_appended None = refl
@@ -22,11 +22,6 @@ none_appended (Some held) = ap Some (sym (append-nil held))
 -- what is said of an input that is known
 known : (o : Option (List ℕ)) (bytes : List ℕ) (P : List ℕ → Type 0) → o ≡ Some bytes → IfSome o P → P bytes
 known o bytes P is says = subst (λ (o : Option (List ℕ)). IfSome o P) is says
-
--- what is said of the bytes of an input, if they are known
-pub if_known : (o : Option (List ℕ)) (P : List ℕ → Type 0) → ((bytes : List ℕ) → o ≡ Some bytes → P bytes) → IfSome o P
-if_known None P each = tt
-if_known (Some bytes) P each = each bytes refl
 
 -- texts behind others
 texts_more : (messages told : List Data) (old mid new : Option (List ℕ)) → mid ≡ appended old (texts messages)

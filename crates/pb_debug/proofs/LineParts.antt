@@ -1,11 +1,11 @@
 -- Lines that come in parts.
-use Rattle.std.proofs.Common.{◌≡◌, inl, inr, ℕ, suc, ◌+◌, ◌-◌, ◌<◌, ◌≤◌, ◌++◌, eqb, false, List, []}
-use Rattle.std.proofs.Common.{◌∷◌, length, take, drop, get_or, Option, Some, None, refl, sym, ap, ◌∙◌, subst, arith}
+use Rattle.std.proofs.Common.{◌≡◌, inl, inr, ℕ, ◌+◌, ◌-◌, ◌<◌, ◌≤◌, ◌++◌, eqb, false, List, []}
+use Rattle.std.proofs.Common.{◌∷◌, length, take, drop, Option, Some, None, refl, sym, ap, ◌∙◌, subst, arith}
 use Rattle.std.proofs.Common.{append_assoc, append-nil, length-append, ◌≢◌, Result, Ok, Err}
-use Rattle.std.specs.Prelude.{IfErr, IfSome, OnOk, ⊤}
+use Rattle.std.specs.Prelude.{IfErr, OnOk, ⊤}
 use Rattle.std.proofs.lemmas.Bool.{cases_lt}
-use Rattle.std.proofs.lemmas.List.{take_all, take-append-le, length-take-le, take-append-drop, length-drop}
-use Rattle.std.proofs.Math.Seq.{drop-cons, take-add}
+use Rattle.std.proofs.lemmas.List.{take_all, length-take-le, length-drop}
+use Rattle.std.proofs.Math.Seq.{take-add}
 use Rattle.pb_base.specs.Device.{appended, dropped, AddsPrefix, GivesNext, LeavesRest}
 use Rattle.pb_debug.specs.Answers.{AnswersLine, AnswersRead}
 use Rattle.pb_debug_commands.specs.Buffers.{kept}
@@ -365,26 +365,7 @@ fed_as d part old next next' xs xs' new new' line line' fed a b c e =
     subst (λ n. Fed d part xs' old new' line' n) e (subst (λ l. Fed d part xs' old new' l next) c
     (subst (λ o. Fed d part xs' old o line next) b (subst (λ x. Fed d part x old new line next) a fed)))
 
--- bytes, parted at one of them
-pub split_at : (bytes : List ℕ) (i b : ℕ) → i < length bytes → get_or bytes i 0 ≡ b → take i bytes ++ b ∷ drop (i + 1) bytes ≡ bytes
-split_at bytes i b lt e =
-    let n : i + 1 ≡ suc i = omega arith in
-    ap (λ c. take i bytes ++ c ∷ drop (i + 1) bytes) (sym e)
-    ∙ (ap (λ k. take i bytes ++ get_or bytes i 0 ∷ drop k bytes) n
-    ∙ (ap (λ (xs : List ℕ). take i bytes ++ xs) (sym (drop-cons bytes i 0 lt)) ∙ take-append-drop i bytes))
-
 -- ---- reading
-
-pub if_known : (o : Option (List ℕ)) (P : List ℕ → Type 0) → ((bytes : List ℕ) → o ≡ Some bytes → P bytes) → IfSome o P
-if_known None P h = tt
-if_known (Some bytes) P h = h bytes refl
-
--- what was read follows on what was read before
-pub bytes_read : (bytes buf after : List ℕ) (k n : ℕ) (rest : Option (List ℕ)) → rest ≡ Some (drop k bytes) → GivesNext rest buf n → n ≤ length buf
-    → take k bytes ++ take n (buf ++ after) ≡ take (k + n) bytes
-bytes_read bytes buf after k n rest e given le =
-    let same : take n (drop k bytes) ≡ take n buf = subst (λ o. GivesNext o buf n) e given in
-    ap (λ (xs : List ℕ). take k bytes ++ xs) (take-append-le n buf after le ∙ sym same) ∙ sym (take-add k n bytes)
 
 -- the bytes of a session begin with those that were read
 pub session_more : (bytes : List ℕ) (k : ℕ) → k ≤ 4194304 → (ys : List ℕ) × (take k bytes ++ ys ≡ session_bytes bytes)

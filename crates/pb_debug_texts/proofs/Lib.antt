@@ -1,4 +1,3 @@
 pub mod Asking
 pub mod EachNumber
 pub mod ResourceTexts
-pub mod Results

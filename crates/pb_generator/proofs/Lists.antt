@@ -5,7 +5,8 @@ use Rattle.std.proofs.Common.{length-append}
 use Rattle.std.proofs.lemmas.List.{append-nil, map_more}
 use Rattle.pb_generator.specs.Emitted.{place, HasRoom, Adds}
 use Rattle.pb_generator.specs.Generate.{stmt_code, block_code}
-use Rattle.pb_generator.specs.Lines.{stmt_source_line, stmt_lines, block_line, block_lines}
+use Rattle.pb_names.specs.HeadLines.{stmt_line}
+use Rattle.pb_generator.specs.Lines.{stmt_lines, block_line, block_lines}
 use Rattle.pb_generator.specs.declared.writer.Writer.{Writer}
 use Rattle.pb_generator.proofs.Parts.{adds_then, adds_as, adds-place}
 use Rattle.pb_names.specs.Program as plain
@@ -31,16 +32,16 @@ code_more p (f ∷ front) s =
     ∙ ap (λ (k : ℕ). (stmt_code p f ++ C) ++ stmt_code k s) e
 
 line_more : (front : List plain.Stmt) (s : plain.Stmt) (after : Option ℕ)
-    → block_line (block_of (front ++ s ∷ [])) after ≡ block_line (block_of front) (Some (stmt_source_line s))
+    → block_line (block_of (front ++ s ∷ [])) after ≡ block_line (block_of front) (Some (stmt_line s))
 line_more [] s after = refl
 line_more (f ∷ front) s after = refl
 
 lines_more : (front : List plain.Stmt) (s : plain.Stmt) (after : Option ℕ)
     → block_lines (block_of (front ++ s ∷ [])) after
-    ≡ block_lines (block_of front) (Some (stmt_source_line s)) ++ stmt_lines s after
+    ≡ block_lines (block_of front) (Some (stmt_line s)) ++ stmt_lines s after
 lines_more [] s after = append-nil (stmt_lines s after)
 lines_more (f ∷ front) s after =
-    let next = Some (stmt_source_line s) in
+    let next = Some (stmt_line s) in
     ap (λ l. stmt_lines f l ++ block_lines (block_of (front ++ s ∷ [])) after) (line_more front s after)
     ∙ ap (λ ls. stmt_lines f (block_line (block_of front) next) ++ ls) (lines_more front s after)
     ∙ sym (append_assoc (stmt_lines f (block_line (block_of front) next)) (block_lines (block_of front) next) (stmt_lines s after))
@@ -55,14 +56,14 @@ block_more ss i s here l =
 -- the line of what is left, of which the first was read
 line_left : {A : Type 0} (ss : List (Stmt A)) (i : ℕ) (s : Stmt A) (after : Option ℕ) → s ≡ get_or ss i s
     → i < length ss
-    → block_line (block_view (drop i ss)) after ≡ Some (stmt_source_line (stmt_view s))
+    → block_line (block_view (drop i ss)) after ≡ Some (stmt_line (stmt_view s))
 line_left [] i s after here l = absurd (omega arith)
-line_left (t ∷ ss) zero s after here l = ap (λ y. Some (stmt_source_line (stmt_view y))) (sym here)
+line_left (t ∷ ss) zero s after here l = ap (λ y. Some (stmt_line (stmt_view y))) (sym here)
 line_left (t ∷ ss) (suc i) s after here l = line_left ss i s after here (omega arith)
 
 pub line_next : {A : Type 0} (ss : List (Stmt A)) (i : ℕ) (s : Stmt A) (after : Option ℕ) → s ≡ get_or ss i s
     → i < length ss
-    → block_line (block_view (drop i ss)) after ≡ Some (stmt_source_line (stmt_view s))
+    → block_line (block_view (drop i ss)) after ≡ Some (stmt_line (stmt_view s))
 line_next ss i s after here l = line_left ss i s after here l
 
 -- one more statement is written

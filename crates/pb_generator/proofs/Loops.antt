@@ -3,7 +3,6 @@ use Rattle.std.proofs.Common.{◌≡◌, ℕ, ◌+◌, ◌<◌, ◌≤◌, List,
 use Rattle.std.proofs.Common.{ap, sym, subst, ◌∙◌}
 use Rattle.std.proofs.Math.ListN.{get_or-map}
 use Rattle.std.proofs.lemmas.List.{length-map, map_more, map-append, take_all}
-use Rattle.std.proofs.lemmas.List.Elements.{All-map}
 use Rattle.std.specs.Prelude.{All}
 
 -- one more element: `x` is the next of `xs`, and what is written for it is `z`
@@ -47,14 +46,3 @@ at_read f P xs ys i x same here within all =
     let known : All P (map f ys) = subst (λ zs. All P (map f zs)) (sym same) all in
     let l : i < length (map f ys) = omega (arith, length-map ys f) in
     subst P (get_or-map f ys i x ∙ ap f (sym here)) (known i (f x) l)
-
--- what holds of each element's part holds of each part that a loop has written
-pub all_written : {X : Type 0} (f : X → ℕ) (P : ℕ → Type 0) (xs : List X) (i : ℕ) (ns ms : List ℕ)
-    → All (λ x. P (f x)) xs → ns ≡ map f (take i xs) → length xs ≤ i → ms ≡ ns → All P ms
-all_written f P xs i ns ms all written end same =
-    subst (All P) (sym (same ∙ written ∙ ap (map f) (take_all i xs end))) (All-map P f xs all)
-
--- what holds of each element as it is seen holds of each element's view
-pub all_seen : {X Y : Type 0} (f : X → Y) (P : Y → Type 0) (xs : List X) → All P (map f xs)
-    → All (λ x. P (f x)) xs
-all_seen f P xs h = λ k d l. subst P (get_or-map f xs k d) (h k (f d) (omega (arith, length-map xs f, l)))

@@ -1,23 +1,15 @@
 -- The source line of each place of the code: that of the item with which the arm's list begins there.
 use Rattle.std.specs.Prelude.{ℕ, suc, List, [], ◌∷◌, ◌++◌, length, map, replicate, Option, Some, None}
 use Rattle.pb_names.specs.Program.{Stmt, Assign, Print, If, While, Hold, Parbegin, Block, Skip, Then, Process}
+use Rattle.pb_names.specs.HeadLines.{stmt_line}
 use Rattle.pb_names.specs.Program.{Program, arms_of}
 use Rattle.pb_code.specs.Whole.{ProcessLabels}
 use Rattle.pb_generator.specs.Generate.{expr_code}
 
--- the line of a statement's first token
-abbrev pub stmt_source_line : Stmt → ℕ
-stmt_source_line (Assign line x e) = line
-stmt_source_line (Print line e) = line
-stmt_source_line (If line e a b) = line
-stmt_source_line (While line e body) = line
-stmt_source_line (Hold line bundle body) = line
-stmt_source_line (Parbegin line first arms) = line
-
 -- the line of a block's first statement, or of what follows
 abbrev pub block_line : Block → Option ℕ → Option ℕ
 block_line Skip after = after
-block_line (Then s block) after = Some (stmt_source_line s)
+block_line (Then s block) after = Some (stmt_line s)
 
 -- the lines of the places of a statement, if what follows it has a given line
 abbrev mutual

@@ -1,6 +1,6 @@
 //! The code of a program.
 
-ghost use Rattle.std.specs.Prelude.{◌≡◌, ◌≤◌, All, IfOk, length, map};
+ghost use Rattle.std.specs.Prelude.{◌≡◌, IfOk};
 ghost use Rattle.pb_code.specs.View.{code_view, labels_view};
 ghost use Rattle.pb_generator.specs.Generate.{program_code};
 ghost use Rattle.pb_generator.specs.Lines.{program_labels};
@@ -9,10 +9,9 @@ ghost use Rattle.pb_names.specs.View.{resolved_view};
 
 use crate::names::program_names;
 use crate::process::{Processes, write_processes};
-use pb_base::limits::{MAX_AMOUNT, MAX_RESOURCES};
-use pb_base::{Capital, Claims, NoMemory};
+use pb_base::{Claims, NoMemory};
 use pb_code::{Code, Labels};
-use pb_names::{Resolved, Resource};
+use pb_names::Resolved;
 use std::alloc::{Allocator, Global};
 
 /// Code, with what is known of it while it is written.
@@ -35,7 +34,7 @@ pub fn generate<A: Allocator>(
     ensures labels { IfOk result (λ g. labels_view g.labels ≡ program_labels (resolved_view program.now)) }
 {
     let names = program_names(alloc, program)?;
-    let capital = capital_of(alloc, &program.resources)?;
+    let capital = program.capital(alloc)?;
     let claims = claims.copy(alloc)?;
     let Processes {
         code: processes,
@@ -50,20 +49,4 @@ pub fn generate<A: Allocator>(
         },
         labels: Labels { processes: labels },
     })
-}
-
-/// Returns the capital of each resource, by its number. The error comes only if `alloc` is out of memory.
-pub fn capital_of<A: Allocator>(
-    alloc: Global,
-    resources: &Vec<Resource<A>, A>,
-) -> Result<Capital, NoMemory>
-    requires few { length resources.now.items ≤ MAX_RESOURCES }
-    requires small { All (λ resource. resource.capital ≤ MAX_AMOUNT) resources.now.items }
-    ensures { IfOk result (λ capital. capital ≡ map (λ resource. resource.capital) resources.now.items) }
-{
-    let mut amounts = Vec::new(alloc);
-    for resource in resources {
-        amounts.push(resource.capital)?;
-    }
-    Ok(Capital::new(alloc, &amounts)?)
 }

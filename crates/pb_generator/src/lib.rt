@@ -10,4 +10,4 @@ mod process;
 mod statement;
 mod writer;
 
-pub use generator::{Generated, capital_of, generate};
+pub use generator::{Generated, generate};

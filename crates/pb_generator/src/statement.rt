@@ -6,7 +6,7 @@ ghost use Rattle.pb_code.specs.Bundles.{IsPlain};
 ghost use Rattle.pb_code.specs.View.{instr_view};
 ghost use Rattle.pb_generator.specs.Emitted.{Adds, HasRoom, IsSound, place};
 ghost use Rattle.pb_generator.specs.Generate.{arm_code, block_code, expr_code, stmt_code};
-ghost use Rattle.pb_generator.specs.Lines.{block_lines, block_line, stmt_source_line, stmt_lines};
+ghost use Rattle.pb_generator.specs.Lines.{block_lines, block_line, stmt_lines};
 ghost use Rattle.pb_names.specs.Program.{arms_in, arms_in_stmt, count, If, While, Hold, Parbegin};
 ghost use Rattle.pb_names.specs.View.{arms_view, block_view, expr_view, stmt_view};
 
@@ -17,20 +17,6 @@ use pb_code::Instr;
 use pb_names::{Expr, Stmt};
 use std::alloc::Allocator;
 
-/// Returns the line of a statement's first token.
-fn line_of<A: Allocator>(stmt: &Stmt<A>) -> u32
-    ensures { result ≡ stmt_source_line (stmt_view stmt.now) }
-{
-    match stmt {
-        Stmt::Assign { line, .. } => *line,
-        Stmt::Print { line, .. } => *line,
-        Stmt::If { line, .. } => *line,
-        Stmt::While { line, .. } => *line,
-        Stmt::Hold { line, .. } => *line,
-        Stmt::Parbegin { line, .. } => *line,
-    }
-}
-
 /// Returns the line of what follows a statement of a list, which is itself followed by what has the line
 /// `after`.
 fn line_after<A: Allocator>(stmts: &Vec<Stmt<A>, A>, i: usize, after: Option<u32>) -> Option<u32>
@@ -38,7 +24,7 @@ fn line_after<A: Allocator>(stmts: &Vec<Stmt<A>, A>, i: usize, after: Option<u32
     ensures { result ≡ block_line (block_view (drop (i + 1) stmts.now.items)) after }
 {
     match stmts.get(i + 1) {
-        Some(next) => Some(line_of(next)),
+        Some(next) => Some(next.line()),
         None => after,
     }
 }

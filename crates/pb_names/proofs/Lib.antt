@@ -1,4 +1,5 @@
 pub mod ArmNumbers
+pub mod Capitals
 pub mod CausesMore
 pub mod Completeness
 pub mod Examples

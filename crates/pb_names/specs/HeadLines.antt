@@ -1,6 +1,7 @@
--- The line at which an arm of a run is: that of its first item.
+-- The line of a statement, and the line at which an arm of a run is: that of its first item.
 use Rattle.std.specs.Prelude.{ℕ, List, [], ◌∷◌, Option, Some, None}
-use Rattle.pb_names.specs.Source.{Item, GiveBack, Arm, Doing}
+use Rattle.pb_names.specs.Program.{Stmt}
+use Rattle.pb_names.specs.Source.{Item, GiveBack, Arm, Doing, item_of}
 use Rattle.pb_names.specs.Source.{Waiting, Ended}
 
 abbrev pub item_line : Item → ℕ
@@ -11,6 +12,10 @@ item_line (Item.While line test e body) = line
 item_line (Item.Hold line bundle body) = line
 item_line (GiveBack line bundle) = line
 item_line (Item.Parbegin line first arms) = line
+
+-- the line of a statement's first token
+abbrev pub stmt_line : Stmt → ℕ
+stmt_line s = item_line (item_of s)
 
 abbrev pub first_line : List Item → Option ℕ
 first_line [] = None

@@ -1,7 +1,13 @@
 //! A numbered program in the memory of any allocator: numbers replace names.
 
-use pb_base::{BinaryOp, Bundle, UnaryOp};
-use std::alloc::Allocator;
+ghost use Rattle.std.specs.Prelude.{◌≡◌, ◌≤◌, All, IfOk, length};
+ghost use Rattle.pb_base.specs.declared.limits.TheConstants.{MAX_AMOUNT as MOST, MAX_RESOURCES as MOST_RESOURCES};
+ghost use Rattle.pb_names.specs.HeadLines.{stmt_line};
+ghost use Rattle.pb_names.specs.Program.{capital_of};
+ghost use Rattle.pb_names.specs.View.{resolved_view, stmt_view};
+
+use pb_base::{BinaryOp, Bundle, Capital, NoMemory, UnaryOp};
+use std::alloc::{Allocator, Global};
 
 /// An expression. A variable is the number of an integer of its process.
 #[derive(Drop)]
@@ -49,6 +55,23 @@ pub enum Stmt<A: Allocator> {
     },
 }
 
+impl<A: Allocator> Stmt<A> {
+    /// Returns the line of its first token.
+    #[tactic(auto, using(crate::proofs::Views::stmt_views))]
+    pub fn line(&self) -> u32
+        ensures { result ≡ stmt_line (stmt_view self.now) }
+    {
+        match self {
+            Stmt::Assign { line, .. }
+            | Stmt::Print { line, .. }
+            | Stmt::If { line, .. }
+            | Stmt::While { line, .. }
+            | Stmt::Hold { line, .. }
+            | Stmt::Parbegin { line, .. } => *line,
+        }
+    }
+}
+
 /// A process: its name, the names of its integers by number, and its body.
 #[derive(Drop)]
 pub struct Process<A: Allocator> {
@@ -69,4 +92,19 @@ pub struct Resource<A: Allocator> {
 pub struct Resolved<A: Allocator> {
     pub resources: Vec<Resource<A>, A>,
     pub processes: Vec<Process<A>, A>,
+}
+
+impl<A: Allocator> Resolved<A> {
+    /// Returns the capital of each resource, by its number. The error comes only if `alloc` is out of memory.
+    pub fn capital(&self, alloc: Global) -> Result<Capital, NoMemory>
+        requires few { length (resolved_view self.now).resources ≤ MOST_RESOURCES }
+        requires small { All (λ amount. amount ≤ MOST) (capital_of (resolved_view self.now)) }
+        ensures { IfOk result (λ capital. capital ≡ capital_of (resolved_view self.now)) }
+    {
+        let mut amounts = Vec::new(alloc);
+        for resource in &self.resources {
+            amounts.push(resource.capital)?;
+        }
+        Capital::new(alloc, &amounts)
+    }
 }

@@ -25,7 +25,6 @@ use pb_claims::fits;
 use pb_command_io::Status;
 use pb_command_io::input::read_input;
 use pb_command_io::reply::{Reply, refused, tell};
-use pb_generator::capital_of;
 use pb_names::Resolved;
 use pb_plan::{bottleneck, find_circle, find_order};
 use std::alloc::{Allocator, Global};
@@ -118,7 +117,7 @@ fn plan<A: Allocator>(
     ensures { IfOk result (λ r. IsPlan (resolved_view program.now) claims.now r.text.items
         × HasStatus (resolved_view program.now) claims.now r.status) }
 {
-    let capital = capital_of(alloc, &program.resources)?;
+    let capital = program.capital(alloc)?;
     let text = plan_text(alloc, program, claims, &capital)?;
     let status = status(program, claims, &capital);
     Ok(Reply { text, status })

@@ -11,9 +11,8 @@ use Rattle.pb_base.specs.Steppers.{Table, opening}
 use Rattle.pb_banker.specs.Value.{start_state}
 use Rattle.pb_names.specs.Program.{Process, Program, capital_of, Block, arms_in, IsNumbered}
 use Rattle.pb_names.specs.Source.{SourceProcess, Doing, items_of, source_process}
-use Rattle.pb_names.specs.View.{resource_view, process_view as program_process}
+use Rattle.pb_names.specs.View.{process_view as program_process}
 use Rattle.pb_names.specs.declared.resolved.Process.{Process as GivenProgram}
-use Rattle.pb_names.specs.declared.resolved.Resource.{Resource}
 use Rattle.pb_names.proofs.Holdings.{items_held}
 use Rattle.pb_rewrite.specs.Sound.{AreSound, IsSoundRun, BlockNames, Owns, IsOwned}
 use Rattle.pb_rewrite.specs.Sources.{FitsClaims, FitsCapital}
@@ -26,25 +25,6 @@ use Rattle.pb_base.specs.declared.lending.Lending.TheVariants.{ByBanker}
 use Rattle.pb_names.specs.Meaning.{source_bank_by}
 
 -- ---- one more
-
-abbrev pub capitals : {A : Type 0} → List (Resource A) → List ℕ
-capitals rs = map (λ r. r.capital) (map resource_view rs)
-
-pub capitals_length : {A : Type 0} (rs : List (Resource A)) → length (capitals rs) ≡ length rs
-capitals_length rs = length-map (map resource_view rs) (λ r. r.capital) ∙ length-map rs resource_view
-
-capital_more : {A : Type 0} (rs : List (Resource A)) (i : ℕ) (r : Resource A) → i < length rs → r ≡ get_or rs i r
-    → capitals (take (i + 1) rs) ≡ capitals (take i rs) ++ r.capital ∷ []
-capital_more rs i r within here =
-    ap (map (λ x. x.capital)) (map_more resource_view rs i r within)
-    ∙ map-append (λ x. x.capital) (map resource_view (take i rs)) (resource_view (get_or rs i r) ∷ [])
-    ∙ ap (λ x. capitals (take i rs) ++ x.capital ∷ []) (sym here)
-
-pub capital_pushed : {A : Type 0} (amounts amounts' : List ℕ) (rs : List (Resource A)) (i : ℕ) (r : Resource A)
-    → amounts ≡ capitals (take i rs) → i < length rs → r ≡ get_or rs i r → amounts' ≡ amounts ++ r.capital ∷ []
-    → amounts' ≡ capitals (take (i + 1) rs)
-capital_pushed amounts amounts' rs i r before within here pushed =
-    pushed ∙ ap (λ xs. xs ++ r.capital ∷ []) before ∙ sym (capital_more rs i r within here)
 
 -- the processes of a program before their first step
 abbrev pub opened : {A : Type 0} → List (GivenProgram A) → List SourceProcess
@@ -162,11 +142,6 @@ pub opens : (program : Program) (claims : Table) → FitsClaims program claims
 opens program claims fits = ap (state_with (map source_process program.processes)) (loans_open program claims fits)
 
 -- ---- the capital that the banker is given
-
-pub few_resources : {A : Type 0} (program : Program) (claims : Table) (resources : List (Resource A))
-    → program.resources ≡ map resource_view resources → FitsClaims program claims → length resources ≤ 16
-few_resources program claims resources are fits =
-    omega (arith, fits.few_resources, ap length are, length-map resources resource_view)
 
 pub as_wide : (program : Program) (claims : Table) (capital : List ℕ) → capital ≡ capital_of program → FitsClaims program claims
     → length (row_of claims 0) ≡ length capital

@@ -8,7 +8,7 @@ ghost use Rattle.pb_rewrite.specs.Found.{found_line};
 ghost use Rattle.pb_rewrite.specs.Sound.{IsSingle, AreSingle};
 ghost use Rattle.pb_rewrite.specs.Steps.{IsSwap, IsSwapAmong};
 
-use crate::item::{Item, line_of, line_of_stmt};
+use crate::item::{Item, line_of};
 use pb_names::Stmt;
 use std::alloc::Allocator;
 use std::mem;
@@ -112,7 +112,7 @@ fn head_line<A: Allocator>(arm: &Arm<A>) -> Option<u32>
 {
     match arm {
         Arm::Fresh(body) => match body.first() {
-            Some(stmt) => Some(line_of_stmt(stmt)),
+            Some(stmt) => Some(stmt.line()),
             None => None,
         },
         Arm::Doing(items) => match items.last() {

@@ -2,8 +2,6 @@
 
 ghost use Rattle.std.specs.Prelude.{◌≡◌};
 ghost use Rattle.pb_names.specs.HeadLines.{item_line};
-ghost use Rattle.pb_names.specs.Source.{item_of};
-ghost use Rattle.pb_names.specs.View.{stmt_view};
 ghost use Rattle.pb_rewrite.specs.View.{item_view};
 
 use pb_base::Bundle;
@@ -34,23 +32,8 @@ pub(crate) fn line_of<A: Allocator>(item: &Item<A>) -> u32
     ensures { result ≡ item_line (item_view item.now) }
 {
     match item {
-        Item::Left(stmt) => line_of_stmt(stmt),
+        Item::Left(stmt) => stmt.line(),
         Item::While { line, .. } => *line,
         Item::GiveBack { line, .. } => *line,
-    }
-}
-
-/// Returns the line of a statement's first token.
-#[tactic(auto, using(pb_names::proofs::Views::stmt_views))]
-pub(crate) fn line_of_stmt<A: Allocator>(stmt: &Stmt<A>) -> u32
-    ensures { result ≡ item_line (item_of (stmt_view stmt.now)) }
-{
-    match stmt {
-        Stmt::Assign { line, .. } => *line,
-        Stmt::Print { line, .. } => *line,
-        Stmt::If { line, .. } => *line,
-        Stmt::While { line, .. } => *line,
-        Stmt::Hold { line, .. } => *line,
-        Stmt::Parbegin { line, .. } => *line,
     }
 }

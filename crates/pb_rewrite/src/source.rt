@@ -1,12 +1,12 @@
 //! All processes of the source together.
 
-ghost use Rattle.std.specs.Prelude.{◌≡◌, ◌↔◌, ◌<◌, ◌≤◌, length, map, All, IfOk, IsTrue, OnErr, slice_get, Some, slice_index, option_and_then};
+ghost use Rattle.std.specs.Prelude.{◌≡◌, ◌↔◌, ◌<◌, ◌≤◌, length, map, All, IfOk, IsTrue, OnErr, slice_get, Some, option_and_then};
 ghost use Rattle.pb_base.specs.Steppers.{IsFinished, opening};
 ghost use Rattle.pb_base.specs.Steps.{IsStepOf};
 ghost use Rattle.pb_base.specs.declared.lending.Lending.TheVariants.{ByBanker};
 ghost use Rattle.pb_names.specs.Meaning.{source_bank_by};
 ghost use Rattle.pb_names.specs.Source.{SourceProcess as SourceState, source_over, source_process, source_step};
-ghost use Rattle.pb_names.specs.View.{resource_view, resolved_view};
+ghost use Rattle.pb_names.specs.View.{resolved_view};
 ghost use Rattle.pb_names.specs.View.{process_view as program_process};
 ghost use Rattle.pb_rewrite.specs.Found.{line_in};
 ghost use Rattle.pb_rewrite.specs.View.{process_view};
@@ -14,9 +14,8 @@ ghost use Rattle.pb_rewrite.specs.View.{process_view};
 use crate::copies::copy_list;
 use crate::process::SourceProcess;
 use pb_banker::Banker;
-use pb_base::limits::{MAX_AMOUNT, MAX_RESOURCES};
-use pb_base::{Capital, Claims, NoMemory, Pick, Step};
-use pb_names::{Process, Resolved, Resource};
+use pb_base::{Claims, NoMemory, Pick, Step};
+use pb_names::{Process, Resolved};
 use std::alloc::{Allocator, Global};
 
 /// What is left of a program: of each process its integers and its run, and all loans.
@@ -97,7 +96,7 @@ impl<A: Allocator + Clone> Source<A> {
             ≡ source_bank_by ByBanker (resolved_view program.now) claims.now) }
         ensures source { IfOk result IsSource }
     {
-        let capital = capital_for(alloc, &program.resources)?;
+        let capital = program.capital(alloc)?;
         let banker = Banker::new(alloc, &capital, claims)?;
         let processes = processes_for(alloc, &trees, &program.processes)?;
         Ok(Source { processes, banker })
@@ -120,22 +119,6 @@ impl<A: Allocator + Clone> Source<A> {
         }
         self.processes[p].step(&mut self.banker, &alloc, pick)
     }
-}
-
-/// Returns the capital of the resources.
-fn capital_for<A: Allocator>(
-    alloc: Global,
-    resources: &Vec<Resource<A>, A>,
-) -> Result<Capital, NoMemory>
-    requires few { length resources.now.items ≤ MAX_RESOURCES }
-    requires small { All (λ n. n ≤ MAX_AMOUNT) (map (λ r. r.capital) (map resource_view resources.now.items)) }
-    ensures { IfOk result (λ capital. capital ≡ map (λ r. r.capital) (map resource_view resources.now.items)) }
-{
-    let mut amounts = Vec::new(alloc);
-    for resource in resources {
-        amounts.push(resource.capital)?;
-    }
-    Capital::new(alloc, &amounts)
 }
 
 /// Returns the processes before their first step.

@@ -1,11 +1,11 @@
 use Rattle.std.proofs.Common.{subst}
 use Rattle.std.proofs.lemmas.Option.{IfSome_then}
 use Rattle.pb_bank_engine.specs.Sessions.{no_memory, SaysSome}
-use Rattle.pb_bank_engine.proofs.LineParts.{if_known}
 use Rattle.pb_bank_engine.proofs.Told.{told_all, told_broken, told_some}
 use Rattle.pb_command_io.proofs.PageLemmas.{Says-first}
 use Rattle.pb_command_io.specs.Answers.{memory_line}
 use Rattle.pb_command_io.specs.declared.status.Status.TheVariants.{Memory}
+use Rattle.pb_base.proofs.DeviceLemmas.{if_known}
 use Rattle.pb_bank_engine.proofs.bank.bank_engine.Goals as goal
 
 pub returns-in_default-clause-text : goal.returns-in_default-clause-text

@@ -5,8 +5,9 @@ use Rattle.std.proofs.lemmas.List.{drop-drop, length-take, length-drop, take-app
 use Rattle.pb_base.specs.Device.{dropped}
 use Rattle.pb_bank_engine.specs.declared.session.Stop.TheVariants.{Device}
 use Rattle.pb_bank_engine.specs.Sessions.{FedSome, session_bytes}
-use Rattle.pb_bank_engine.proofs.LineParts.{fed_nothing, fed_broken, fed_as, fed_fed, fed_then_some, some_of_more, if_known}
-use Rattle.pb_bank_engine.proofs.LineParts.{bytes_read, session_more, bytes_end}
+use Rattle.pb_bank_engine.proofs.LineParts.{fed_nothing, fed_broken, fed_as, fed_fed, fed_then_some, some_of_more}
+use Rattle.pb_bank_engine.proofs.LineParts.{session_more, bytes_end}
+use Rattle.pb_base.proofs.DeviceLemmas.{bytes_read, if_known}
 use Rattle.pb_bank_engine.proofs.session.read_lines.Goals as goal
 
 pub loop-left-init : goal.loop-left-init

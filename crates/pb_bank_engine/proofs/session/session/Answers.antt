@@ -2,7 +2,8 @@ use Rattle.std.proofs.Common.{◌≡◌, ℕ, ◌<◌, List, length, sym, ap, �
 use Rattle.std.proofs.lemmas.Bool.{eqb-true, eqb-false}
 use Rattle.std.proofs.lemmas.Option.{IfSome_then}
 use Rattle.pb_bank_engine.specs.Sessions.{IsTold, StopsAt}
-use Rattle.pb_bank_engine.proofs.LineParts.{says_some, says_all, says_last, says_stop, on_ok, if_err}
+use Rattle.pb_bank_engine.proofs.LineParts.{says_some, says_all, says_last, says_stop}
+use Rattle.pb_base.proofs.Results.{if_err, on_ok}
 use Rattle.pb_bank_engine.proofs.session.session.Goals as goal
 
 pub returns-in-Err-clause-some : goal.returns-in-Err-clause-some

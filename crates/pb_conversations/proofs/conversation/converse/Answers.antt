@@ -1,9 +1,10 @@
-use Rattle.std.proofs.Common.{◌≡◌, ℕ, ◌+◌, List, Option, Some, None, option_map, IfSome, Vec, Global, sym, ◌∙◌, subst, arith, inl, inr, refl}
+use Rattle.std.proofs.Common.{◌≡◌, ℕ, ◌+◌, List, Option, Some, None, option_map, IfSome, Vec, Global, sym, ◌∙◌, subst, arith, refl}
 use Rattle.pb_adapter_requests.specs.Responses.{told_by}
 use Rattle.pb_frames.specs.Frames.{IsRead}
 use Rattle.pb_conversations.specs.Conversations.{AnswersContent}
-use Rattle.pb_conversations.proofs.ConversationLemmas.{SaysSoFar, if_known, so_far_nothing, so_far_all, so_far_end, so_far_memory}
+use Rattle.pb_conversations.proofs.ConversationLemmas.{SaysSoFar, so_far_nothing, so_far_all, so_far_end, so_far_memory}
 use Rattle.pb_conversations.proofs.ConversationLemmas.{so_far_unread, so_far_more, so_far_broken}
+use Rattle.pb_base.proofs.DeviceLemmas.{if_known}
 use Rattle.pb_conversations.proofs.conversation.converse.Goals as goal
 
 pub loop-alloc-init : goal.loop-alloc-init

@@ -4,7 +4,7 @@ use Rattle.pb_base.specs.Banker.{processes, resources, cash}
 use Rattle.pb_base.specs.Lines.{names_view, each_below}
 use Rattle.pb_debug_texts.specs.Texts.{loans_of, cash_text}
 use Rattle.pb_debug_texts.proofs.EachNumber.{each_next}
-use Rattle.pb_debug_texts.proofs.Results.{on_ok}
+use Rattle.pb_base.proofs.Results.{on_ok}
 use Rattle.pb_debug_texts.proofs.text.put_loans.Goals as goal
 
 pub returns : goal.returns

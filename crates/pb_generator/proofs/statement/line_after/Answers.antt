@@ -7,7 +7,7 @@ pub returns-in-Some : goal.returns-in-Some
 returns-in-Some g c =
     let found = c.in-Some.ensures.lookup in
     rw (← c.deref.ensures.value)
-    (ap Some c.line_of.ensures ∙ sym (line_next c.deref.result.now (c.args.i + 1) c.in-Some.next.now c.args.after found.1 found.3.0))
+    (ap Some c.line.ensures ∙ sym (line_next c.deref.result.now (c.args.i + 1) c.in-Some.next.now c.args.after found.1 found.3.0))
 
 pub returns-in-None : goal.returns-in-None
 returns-in-None g c = grind (arith, common_steps)

@@ -10,7 +10,7 @@ pub returns-in-Some : goal.returns-in-Some
 returns-in-Some g c =
     let body = c.in-Fresh.body in
     let there : slice_get body.items 0 ≡ Some c.in-Some.stmt.now = sym (rw c.deref.ensures.value at c.in-Some.ensures.value) in
-    ap Some c.line_of_stmt.ensures ∙ sym (body_some body.items c.in-Some.stmt.now there)
+    ap Some c.line.ensures ∙ sym (body_some body.items c.in-Some.stmt.now there)
     ∙ ap line_of_first (sym (view-Fresh body)) ∙ ap (λ a. line_of_first (arm_view a)) (sym c.in-Fresh.is)
 
 pub returns-in-None : goal.returns-in-None

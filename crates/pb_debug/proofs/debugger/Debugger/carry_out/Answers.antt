@@ -2,7 +2,7 @@ use Rattle.std.proofs.Common.{refl, sym, subst, ap, rules}
 use Rattle.pb_debug.specs.Answers.{AnswersCommand}
 use Rattle.pb_debug_commands.specs.Commands.{Command}
 use Rattle.pb_debug_commands.specs.View.{command_view}
-use Rattle.pb_debug_texts.proofs.Results.{on_ok}
+use Rattle.pb_base.proofs.Results.{on_ok}
 use Rattle.pb_debug.proofs.debugger.Debugger.carry_out.Goals as goal
 
 pub returns-in-Vars-clause-answer : goal.returns-in-Vars-clause-answer

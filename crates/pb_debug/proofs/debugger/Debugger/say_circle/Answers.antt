@@ -2,9 +2,9 @@ use Rattle.std.proofs.Common.{subst}
 use Rattle.pb_base.specs.Steppers.{State}
 use Rattle.pb_code.specs.Code.{CodeProcess}
 use Rattle.pb_debug_texts.specs.Circles.{SaysCircle}
-use Rattle.pb_debug_texts.proofs.Results.{on_ok}
 use Rattle.pb_debug.specs.Value.{Debugging, state_of}
 use Rattle.pb_debug.proofs.ResourceTexts.{state_here}
+use Rattle.pb_base.proofs.Results.{on_ok}
 use Rattle.pb_debug.proofs.debugger.Debugger.say_circle.Goals as goal
 
 pub put_circle-requires : goal.put_circle-requires

@@ -1,7 +1,7 @@
 use Rattle.std.proofs.Common.{◌≡◌, ◌-◌, ℕ, subst, arith}
 use Rattle.pb_debug.specs.Answers.{ShowsAny}
 use Rattle.pb_debug_positions.specs.Searches.{IsLast}
-use Rattle.pb_debug_texts.proofs.Results.{on_ok}
+use Rattle.pb_base.proofs.Results.{on_ok}
 use Rattle.pb_debug.proofs.debugger.Debugger.say_prev.Goals as goal
 
 pub returns-clause-said : goal.returns-clause-said

@@ -2,8 +2,8 @@ use Rattle.std.proofs.Common.{◌≡◌, inr, sym, ap, ◌∙◌, subst}
 use Rattle.pb_base.specs.Lines.{NameTable, names_view}
 use Rattle.pb_debug_texts.specs.Texts.{HasNamesOf, why_text}
 use Rattle.pb_debug.specs.Value.{Debugging}
-use Rattle.pb_debug_texts.proofs.Results.{on_ok}
 use Rattle.pb_debug.proofs.NameTexts.{why_named}
+use Rattle.pb_base.proofs.Results.{on_ok}
 use Rattle.pb_debug.proofs.debugger.Debugger.say_reason.Goals as goal
 
 pub put_why-requires : goal.put_why-requires

@@ -4,7 +4,7 @@ use Rattle.pb_base.specs.Lines.{NameTable, HasNames, names_view}
 use Rattle.pb_debug.specs.Answers.{SaysStep, shown_names}
 use Rattle.pb_debug_texts.specs.Texts.{at_text, event_text}
 use Rattle.pb_debug.specs.Value.{Debugging}
-use Rattle.pb_debug_texts.proofs.Results.{on_ok}
+use Rattle.pb_base.proofs.Results.{on_ok}
 use Rattle.pb_debug.proofs.debugger.Debugger.say_step.Goals as goal
 
 pub overflow_add-next : goal.overflow_add-next

@@ -3,8 +3,8 @@ use Rattle.pb_debug.specs.Refusals.{refusal_text}
 use Rattle.pb_debug_texts.specs.Texts.{source_text}
 use Rattle.pb_debug.specs.Value.{Debugging}
 use Rattle.pb_debug.specs.declared.fault.DebugFault.TheVariants.{NoArm}
-use Rattle.pb_debug_texts.proofs.Results.{on_ok}
 use Rattle.pb_debug.proofs.NameTexts.{missing_arm}
+use Rattle.pb_base.proofs.Results.{on_ok}
 use Rattle.pb_debug.proofs.debugger.Debugger.say_text.Goals as goal
 
 pub returns-in-Ok : goal.returns-in-Ok

@@ -10,7 +10,7 @@ use Rattle.pb_verifier.specs.declared.fault.VerifyFault.TheVariants.{OutOfLimits
 use Rattle.pb_debug.specs.Appends.{TriesPick}
 use Rattle.pb_debug.specs.Value.{state_of}
 use Rattle.pb_debug.proofs.Positions.{few_arms, in_code, reached}
-use Rattle.pb_debug_texts.proofs.Results.{on_ok}
+use Rattle.pb_base.proofs.Results.{on_ok}
 use Rattle.pb_debug.proofs.debugger.Debugger.say_tried.Goals as goal
 
 pub overflow_cast-p : goal.overflow_cast-p

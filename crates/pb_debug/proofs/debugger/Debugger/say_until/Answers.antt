@@ -2,7 +2,7 @@ use Rattle.std.proofs.Common.{◌+◌, ℕ, Option, Some, None, length, inl, inr
 use Rattle.pb_debug_positions.specs.Searches.{Does, IsFirst}
 use Rattle.pb_debug_texts.specs.Texts.{at_text, not_reached_text}
 use Rattle.pb_debug_positions.specs.declared.search.Watch.TheVariants as watch
-use Rattle.pb_debug_texts.proofs.Results.{on_both, on_ok}
+use Rattle.pb_base.proofs.Results.{on_both, on_ok}
 use Rattle.pb_debug.proofs.debugger.Debugger.say_until.Goals as goal
 
 pub returns-in-Some-2-clause-said : goal.returns-in-Some-2-clause-said

@@ -6,7 +6,7 @@ use Rattle.pb_debug_texts.specs.Texts.{vars_text}
 use Rattle.pb_debug.specs.Value.{Debugging}
 use Rattle.pb_debug.proofs.Positions.{in_labels, named_vars}
 use Rattle.pb_debug.proofs.Lines.{labels_here}
-use Rattle.pb_debug_texts.proofs.Results.{on_ok}
+use Rattle.pb_base.proofs.Results.{on_ok}
 use Rattle.pb_debug.proofs.debugger.Debugger.say_vars.Goals as goal
 
 pub index-requires : goal.index-requires

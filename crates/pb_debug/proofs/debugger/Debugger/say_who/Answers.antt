@@ -14,7 +14,7 @@ use Rattle.pb_debug.specs.Value.{Debugging, bank_state, state_of}
 use Rattle.pb_debug.proofs.Requests.{names_bundles}
 use Rattle.pb_debug.proofs.Positions.{as_many}
 use Rattle.pb_debug.proofs.ResourceTexts.{bank_here, placed, state_here, who_here}
-use Rattle.pb_debug_texts.proofs.Results.{on_ok}
+use Rattle.pb_base.proofs.Results.{on_ok}
 use Rattle.pb_debug.proofs.debugger.Debugger.say_who.Goals as goal
 
 pub put_who-requires-clause-bundles : goal.put_who-requires-clause-bundles

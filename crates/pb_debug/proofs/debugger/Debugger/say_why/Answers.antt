@@ -1,5 +1,5 @@
 use Rattle.std.proofs.Common.{inl}
-use Rattle.pb_debug_texts.proofs.Results.{on_ok}
+use Rattle.pb_base.proofs.Results.{on_ok}
 use Rattle.pb_debug.proofs.debugger.Debugger.say_why.Goals as goal
 
 pub returns : goal.returns

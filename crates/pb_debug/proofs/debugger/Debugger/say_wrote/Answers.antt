@@ -12,7 +12,7 @@ use Rattle.pb_debug.specs.declared.fault.DebugFault.TheVariants.{BadCommand}
 use Rattle.pb_debug_positions.specs.declared.search.Watch.TheVariants as watch
 use Rattle.pb_debug.proofs.Positions.{in_labels}
 use Rattle.pb_debug.proofs.Lines.{labels_here}
-use Rattle.pb_debug_texts.proofs.Results.{on_ok}
+use Rattle.pb_base.proofs.Results.{on_ok}
 use Rattle.pb_debug.proofs.debugger.Debugger.say_wrote.Goals as goal
 
 pub index-requires : goal.index-requires

@@ -1,10 +1,10 @@
-use Rattle.std.proofs.Common.{◌≡◌, map, ap, ap₂, refl, subst, sym, ◌∙◌}
+use Rattle.std.proofs.Common.{◌≡◌, map, ap, ap₂, subst, sym, ◌∙◌}
 use Rattle.pb_banker.specs.Value.{start_state}
 use Rattle.pb_names.specs.Program.{capital_of}
 use Rattle.pb_names.specs.View.{resolved_view}
 use Rattle.pb_rewrite.specs.Sound.{AreSound}
 use Rattle.pb_rewrite.specs.View.{process_view}
-use Rattle.pb_rewrite.proofs.Openings.{opens, starts, few_resources, as_wide, within_capital}
+use Rattle.pb_rewrite.proofs.Openings.{opens, starts, as_wide, within_capital}
 use Rattle.pb_rewrite.proofs.Sources.{state_with}
 use Rattle.pb_rewrite.proofs.source.Source.new.Goals as goal
 
@@ -23,11 +23,11 @@ returns-clause-source g c =
     subst (λ t. AreSound t (map process_view c.in_ok-processes.processes.items)) (sym begun)
     (subst (AreSound (start_state (capital_of program) c.args.claims.now)) (sym c.in_ok-processes.ensures) (starts program c.args.claims.now c.requires))
 
-pub capital_for-requires-clause-few : goal.capital_for-requires-clause-few
-capital_for-requires-clause-few g c = few_resources (resolved_view c.args.program.now) c.args.claims.now c.args.program.now.resources.items refl c.requires
+pub capital-requires-clause-few : goal.capital-requires-clause-few
+capital-requires-clause-few g c = c.requires.few_resources
 
-pub capital_for-requires-clause-small : goal.capital_for-requires-clause-small
-capital_for-requires-clause-small g c = c.requires.small
+pub capital-requires-clause-small : goal.capital-requires-clause-small
+capital-requires-clause-small g c = c.requires.small
 
 pub new-requires-clause-same : goal.new-requires-clause-same
 new-requires-clause-same g c =
