@@ -28,7 +28,7 @@ pub enum Refusal {
     NoMemory,
 }
 
-// Returns the line of a fault.
+/// Returns the line of a fault.
 fn fault_line(alloc: Global, fault: CompileFault) -> Result<Vec<u8>, NoMemory>
     ensures any { (text : List ℕ) → IsRefused text fault → IfOk result (λ line. RefusesWith text line.items) }
     ensures early { (text : List ℕ) → IsRefused text fault → IsBeforeClaims fault
@@ -43,7 +43,7 @@ fn fault_line(alloc: Global, fault: CompileFault) -> Result<Vec<u8>, NoMemory>
     }
 }
 
-// Returns the refusal for a fault: by its line, if there is memory for it.
+/// Returns the refusal for a fault: by its line, if there is memory for it.
 fn refusal_of(alloc: Global, fault: CompileFault) -> Refusal
     ensures any { (text : List ℕ) → IsRefused text fault → IsRefusal text result }
     ensures early { (text : List ℕ) → IsRefused text fault → IsBeforeClaims fault → IsEarlyRefusal text result }
@@ -93,7 +93,7 @@ pub fn compile_text(alloc: Global, text: &[u8]) -> Result<Compiled, Refusal>
     compile_within(alloc, &arena, text)
 }
 
-// Returns the reply of a refusal, if there was memory for its line.
+/// Returns the reply of a refusal, if there was memory for its line.
 fn refusal_reply(refusal: Refusal) -> Result<Reply, NoMemory>
     ensures { (text : List ℕ) → IsRefusal text refusal
         → IfOk result (λ r. SaysOfRefusedText text r.text.items r.status) }

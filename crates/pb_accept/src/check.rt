@@ -17,7 +17,7 @@ use pb_command_io::{Page, Status};
 use pb_options::CheckOptions;
 use std::alloc::{Allocator, Global};
 
-// What came of writing the answer to one text.
+/// What came of writing the answer to one text.
 #[derive(Clone, Copy)]
 enum Told {
     // It was written, and the text was refused or not.
@@ -28,7 +28,7 @@ enum Told {
     Broken,
 }
 
-// Looks at one text, whose trees are in the memory of `trees`.
+/// Looks at one text, whose trees are in the memory of `trees`.
 fn look<A: Allocator + Clone>(alloc: Global, trees: A, text: &[u8]) -> Result<(), Refusal>
     ensures accepted { OnOk result (IsAcceptedText text.now) }
     ensures refused { IfErr result (IsRefusal text.now) }
@@ -42,8 +42,8 @@ fn look<A: Allocator + Clone>(alloc: Global, trees: A, text: &[u8]) -> Result<()
     }
 }
 
-// Looks at one text, whose trees are in a new heap of this size, or else in the arena, which is reset
-// afterwards.
+/// Looks at one text, whose trees are in a new heap of this size, or else in the arena, which is reset
+/// afterwards.
 fn look_within(
     alloc: Global,
     heap: Option<u64>,
@@ -66,7 +66,7 @@ fn look_within(
     answer
 }
 
-// Writes the line of a refusal.
+/// Writes the line of a refusal.
 fn tell_refusal<O: Output>(refusal: Refusal, page: &mut Page, output: &mut O) -> Told
     ensures told { (text : List ℕ) → IsRefusal text refusal → TellsAnswer text
         (record { written = O.written output.old; page = page.old }) (record { written = O.written output.new; page = page.new }) result }
@@ -82,7 +82,7 @@ fn tell_refusal<O: Output>(refusal: Refusal, page: &mut Page, output: &mut O) ->
     }
 }
 
-// Writes the answer to one text.
+/// Writes the answer to one text.
 fn tell_answer<O: Output>(
     text: &[u8],
     answer: Result<(), Refusal>,
@@ -105,7 +105,7 @@ fn tell_answer<O: Output>(
     tell_refusal(refusal, page, output)
 }
 
-// Returns the status of a call that came to its end.
+/// Returns the status of a call that came to its end.
 fn status_of(refused: bool) -> Status
     ensures { result ≡ check_status refused }
 {
@@ -116,7 +116,7 @@ fn status_of(refused: bool) -> Status
     }
 }
 
-// Answers each part of the input in turn.
+/// Answers each part of the input in turn.
 fn check_parts<O: Output>(alloc: Global, heap: Option<u64>, bytes: &[u8], output: &mut O) -> Status
     ensures text { Tells (SaysOfChecks bytes.now) (O.written output.old) (O.written output.new) result }
     ensures faults { TellsWriteFaults (O.failures output.old) (O.failures output.new) result }

@@ -20,7 +20,7 @@ use pb_command_io::reply::{Reply, refused, tell};
 use pb_names::{Resolved, Resource};
 use std::alloc::{Allocator, Global};
 
-// Appends the line of a claim to a text.
+/// Appends the line of a claim to a text.
 fn put_claim(
     text: &mut Vec<u8>,
     process: &[u8],
@@ -37,7 +37,7 @@ fn put_claim(
     Ok(())
 }
 
-// Appends the lines of process p, which has this name, to a text.
+/// Appends the lines of process p, which has this name, to a text.
 fn put_claims<A: Allocator>(
     text: &mut Vec<u8>,
     name: &[u8],
@@ -56,7 +56,7 @@ fn put_claims<A: Allocator>(
     Ok(())
 }
 
-// Returns the lines of a program.
+/// Returns the lines of a program.
 fn claims_text<A: Allocator>(
     alloc: Global,
     program: &Resolved<A>,
@@ -73,7 +73,7 @@ fn claims_text<A: Allocator>(
     Ok(text)
 }
 
-// Returns the lines of the program of a text, or the line of its refusal.
+/// Returns the lines of the program of a text, or the line of its refusal.
 fn claims_reply(alloc: Global, text: &[u8]) -> Result<Reply, NoMemory>
     ensures { IfOk result (λ reply. SaysOfClaims text.now reply.text.items reply.status) }
 {
@@ -88,7 +88,7 @@ fn claims_reply(alloc: Global, text: &[u8]) -> Result<Reply, NoMemory>
     }
 }
 
-// Writes the reply to a text.
+/// Writes the reply to a text.
 fn tell_claims<O: Output>(alloc: Global, text: &[u8], output: &mut O) -> Status
     requires { length text.now ≤ MAX_INPUT }
     ensures text { Tells (SaysOfInput SaysOfClaims text.now) (O.written output.old) (O.written output.new) result }

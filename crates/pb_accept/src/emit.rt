@@ -21,7 +21,7 @@ use pb_options::EmitOptions;
 use pb_verifier::Verified;
 use std::alloc::Global;
 
-// Returns the object in the first format, or the line that this can't say the code.
+/// Returns the object in the first format, or the line that this can't say the code.
 fn first_object(alloc: Global, verified: &Verified) -> Result<Reply, NoMemory>
     ensures { (labels : List ProcessLabels)
         → IfOk result (λ r. SaysOfObject verified.now.code labels One r.text.items r.status) }
@@ -38,7 +38,7 @@ fn first_object(alloc: Global, verified: &Verified) -> Result<Reply, NoMemory>
     })
 }
 
-// Returns the object in the second format.
+/// Returns the object in the second format.
 fn second_object(alloc: Global, compiled: &Compiled) -> Result<Reply, NoMemory>
     requires { AreLabels compiled.now.verified.code compiled.now.labels }
     ensures { IfOk result (λ r.
@@ -52,7 +52,7 @@ fn second_object(alloc: Global, compiled: &Compiled) -> Result<Reply, NoMemory>
     })
 }
 
-// Returns the object in this format.
+/// Returns the object in this format.
 fn object(alloc: Global, format: Format, compiled: &Compiled) -> Result<Reply, NoMemory>
     requires { AreLabels compiled.now.verified.code compiled.now.labels }
     ensures { IfOk result (λ r.
@@ -64,7 +64,7 @@ fn object(alloc: Global, format: Format, compiled: &Compiled) -> Result<Reply, N
     }
 }
 
-// Writes the object of a text.
+/// Writes the object of a text.
 fn emit_text<O: Output>(alloc: Global, format: Format, text: &[u8], output: &mut O) -> Status
     requires { length text.now ≤ MAX_INPUT }
     ensures text { Tells (SaysOfInput (SaysOfEmission format) text.now) (O.written output.old) (O.written output.new) result }

@@ -50,7 +50,7 @@ pub fn ending_of(machine: &mut Machine, verified: &Verified) -> Ending
     }
 }
 
-// Returns whether some pick is enabled. If one is, the first of them is made.
+/// Returns whether some pick is enabled. If one is, the first of them is made.
 fn goes_on(machine: &mut Machine, verified: &Verified) -> bool
     requires { IsMachine verified.now machine.old }
     ensures { (lending : LendingValue) → IsMachineBy lending verified.now machine.old
@@ -64,7 +64,7 @@ fn goes_on(machine: &mut Machine, verified: &Verified) -> bool
     false
 }
 
-// Returns whether some pick of a process is enabled. If one is, the first of them is made.
+/// Returns whether some pick of a process is enabled. If one is, the first of them is made.
 fn process_goes_on(machine: &mut Machine, verified: &Verified, process: u8) -> bool
     requires machine { IsMachine verified.now machine.old }
     requires process { process < length (machine_view machine.old).processes }

@@ -19,7 +19,7 @@ use pb_command_io::reply::{Reply, tell};
 use pb_object::write_object2;
 use std::alloc::Global;
 
-// Returns the second format of the object that the bytes spell, or the line of their refusal.
+/// Returns the second format of the object that the bytes spell, or the line of their refusal.
 fn migration(alloc: Global, bytes: &[u8]) -> Result<Reply, NoMemory>
     ensures { IfOk result (λ reply. SaysOfMigration bytes.now reply.text.items reply.status) }
 {
@@ -34,7 +34,7 @@ fn migration(alloc: Global, bytes: &[u8]) -> Result<Reply, NoMemory>
     }
 }
 
-// Returns the second format of this code, with these labels.
+/// Returns the second format of this code, with these labels.
 fn second_format(alloc: Global, code: &Code, labels: &Labels) -> Result<Reply, NoMemory>
     requires { HasText Two (code_view code.now) (labels_view labels.now) }
     ensures { IfOk result (λ reply. SpellsCode Two (code_view code.now) (labels_view labels.now) reply.text.items × (reply.status ≡ Status.Done)) }
@@ -46,7 +46,7 @@ fn second_format(alloc: Global, code: &Code, labels: &Labels) -> Result<Reply, N
     })
 }
 
-// Writes the reply to the bytes of an object.
+/// Writes the reply to the bytes of an object.
 fn tell_migration<O: Output>(alloc: Global, bytes: &[u8], output: &mut O) -> Status
     requires { length bytes.now ≤ MAX_INPUT }
     ensures text { Tells (SaysOfInput SaysOfMigration bytes.now) (O.written output.old) (O.written output.new) result }

@@ -72,7 +72,7 @@ pub fn replay_engine<I: Input, O: Output>(
     }
 }
 
-// Makes the picks that the lines behind a text say.
+/// Makes the picks that the lines behind a text say.
 fn replay_text<O: Output>(alloc: Global, lending: Lending, bytes: &[u8], output: &mut O) -> Status
     requires { length bytes.now ≤ MAX_INPUT }
     ensures text { Tells (SaysOfInput (SaysOfReplay lending) bytes.now) (O.written output.old) (O.written output.new) result }
@@ -89,7 +89,7 @@ fn replay_text<O: Output>(alloc: Global, lending: Lending, bytes: &[u8], output:
     }
 }
 
-// Makes the picks that lines say, and writes what they show, or why they are not made.
+/// Makes the picks that lines say, and writes what they show, or why they are not made.
 fn replay_lines<O: Output>(
     alloc: Global,
     lending: Lending,
@@ -190,8 +190,8 @@ pub fn status_at(machine: &Machine) -> Status
     }
 }
 
-// Writes the line of each event, and the last line of a replay that has come to here. If the machine could go
-// on, a pick is made that is enabled.
+/// Writes the line of each event, and the last line of a replay that has come to here. If the machine could go
+/// on, a pick is made that is enabled.
 fn tell_replay<O: Output>(
     alloc: Global,
     verified: &Verified,

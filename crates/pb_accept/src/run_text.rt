@@ -54,7 +54,7 @@ pub fn ended(alloc: Global, text: &[u8]) -> Result<Vec<u8>, NoMemory>
     Ok(whole)
 }
 
-// Returns whether the text ends in a line feed.
+/// Returns whether the text ends in a line feed.
 fn ends_line(text: &[u8]) -> bool
     ensures { IsTrue result ↔ EndsLine text.now }
 {

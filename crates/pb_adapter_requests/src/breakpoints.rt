@@ -15,7 +15,7 @@ use pb_code::{Labels, ProcessLabels};
 use serde_json::{Value, json};
 use std::alloc::{AllocError, Global};
 
-// Returns the line that a breakpoint asks for; 0 if it asks for none.
+/// Returns the line that a breakpoint asks for; 0 if it asks for none.
 fn line_in(value: &Value) -> u32
     ensures { result ≡ spec.line_in (view value.now) }
 {
@@ -31,7 +31,7 @@ fn line_in(value: &Value) -> u32
     }
 }
 
-// Returns the lines that a list of breakpoints asks for.
+/// Returns the lines that a list of breakpoints asks for.
 fn lines_in(alloc: Global, list: &[Value]) -> Result<Vec<u32>, NoMemory>
     ensures { IfOk result (λ lines. lines.items ≡ spec.lines_in (map view list.now)) }
 {
@@ -53,7 +53,7 @@ pub fn asked_lines(alloc: Global, request: Request<'_>) -> Result<Vec<u32>, NoMe
     }
 }
 
-// Returns whether an item of a list asks to stop at events.
+/// Returns whether an item of a list asks to stop at events.
 fn is_events(value: &Value) -> bool
     ensures { result ≡ spec.is_events (view value.now) }
 {
@@ -63,7 +63,7 @@ fn is_events(value: &Value) -> bool
     }
 }
 
-// Returns whether one of these asks to stop at events.
+/// Returns whether one of these asks to stop at events.
 fn any_events(list: &[Value]) -> bool
     ensures { result ≡ list_any (λ v. spec.is_events (view v)) list.now }
 {
@@ -81,7 +81,7 @@ pub fn asks_events(request: Request<'_>) -> bool
     }
 }
 
-// Returns whether this is the line.
+/// Returns whether this is the line.
 fn is_line(n: u32, line: Option<u32>) -> bool
     ensures { result ≡ spec.is_line n line }
 {
@@ -91,28 +91,28 @@ fn is_line(n: u32, line: Option<u32>) -> bool
     }
 }
 
-// Returns whether one of these is the line.
+/// Returns whether one of these is the line.
 fn is_among(n: u32, lines: &[Option<u32>]) -> bool
     ensures { result ≡ list_any (spec.is_line n) lines.now }
 {
     lines.iter().any(|line| is_line(n, *line))
 }
 
-// Returns whether a place of a process has this line.
+/// Returns whether a place of a process has this line.
 fn has_line_in(process: &ProcessLabels, n: u32) -> bool
     ensures { result ≡ list_any (spec.is_line n) process.now.lines.items }
 {
     is_among(n, &process.lines)
 }
 
-// Returns whether a place of one of these processes has this line.
+/// Returns whether a place of one of these processes has this line.
 fn is_line_of(processes: &[ProcessLabels], n: u32) -> bool
     ensures { result ≡ list_any (λ process. list_any (spec.is_line n) process.lines.items) processes.now }
 {
     processes.iter().any(|process| has_line_in(process, n))
 }
 
-// Returns whether a place of the code has this line.
+/// Returns whether a place of the code has this line.
 #[tactic(auto, using(crate::proofs::BreakpointLemmas::any_labels))]
 fn has_line(labels: &Labels, n: u32) -> bool
     ensures { result ≡ spec.has_line (labels_view labels.now) n }
@@ -120,14 +120,14 @@ fn has_line(labels: &Labels, n: u32) -> bool
     is_line_of(&labels.processes, n)
 }
 
-// Returns a line, and whether the run can stop there.
+/// Returns a line, and whether the run can stop there.
 fn breakpoint(alloc: Global, verified: bool, line: u32) -> Result<Value, AllocError>
     ensures { IfOk result (λ v. view v ≡ spec.breakpoint_data verified line) }
 {
     json!(in alloc; {"verified": verified, "line": line})
 }
 
-// Returns a list of breakpoints.
+/// Returns a list of breakpoints.
 fn listed_all(alloc: Global, list: Vec<Value>) -> Result<Value, AllocError>
     ensures { IfOk result (λ v. view v ≡ listed (codes "breakpoints") (map view list.items)) }
 {

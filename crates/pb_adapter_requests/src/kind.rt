@@ -47,14 +47,14 @@ pub enum Kind {
     Unknown,
 }
 
-// Returns whether a word is this text.
+/// Returns whether a word is this text.
 fn is(word: &str, text: &str) -> bool
     ensures { result ≡ bytes_eq word.now text.now }
 {
     word.as_bytes() == text.as_bytes()
 }
 
-// Returns what a command that moves the run asks for.
+/// Returns what a command that moves the run asks for.
 fn move_of(command: &str) -> Kind
     ensures { result ≡ spec.move_or command.now Kind.Unknown }
 {
@@ -75,7 +75,7 @@ fn move_of(command: &str) -> Kind
     }
 }
 
-// Returns what a command that shows the state or moves the run asks for.
+/// Returns what a command that shows the state or moves the run asks for.
 fn shown_of(command: &str) -> Kind
     ensures { result ≡ spec.shows_or command.now (spec.move_or command.now Kind.Unknown) }
 {

@@ -34,7 +34,7 @@ pub fn number_at(value: &Value, name: &str) -> Option<u64>
     value.get(name).and_then(Value::as_u64)
 }
 
-// Returns the text that a member of an object is.
+/// Returns the text that a member of an object is.
 fn text_at<'v>(value: &'v Value, name: &str) -> Option<&'v str>
     ensures { option_map (λ t. t.now) result ≡ text_in name.now (view value.now) }
 {

@@ -26,14 +26,14 @@ pub fn frames_body(alloc: Global, list: Vec<Value>) -> Result<Value, AllocError>
     json!(in alloc; {"stackFrames": list})
 }
 
-// Returns an arm as a thread.
+/// Returns an arm as a thread.
 fn thread_value(alloc: Global, id: u64, name: &str) -> Result<Value, AllocError>
     ensures { IfOk result (λ v. view v ≡ spec.thread_data id name.now) }
 {
     json!(in alloc; {"id": id, "name": name})
 }
 
-// Returns whether an arm is idle.
+/// Returns whether an arm is idle.
 fn is_idle(thread: &Thread) -> bool
     ensures { result ≡ spec.is_idle (thread_view thread.now) }
 {
@@ -43,7 +43,7 @@ fn is_idle(thread: &Thread) -> bool
     }
 }
 
-// Appends an arm of the process with this name and number to a list, if it is a thread.
+/// Appends an arm of the process with this name and number to a list, if it is a thread.
 fn list_arm(
     alloc: Global,
     list: &mut Vec<Value>,

@@ -37,7 +37,7 @@ pub fn stopped_body(
     )
 }
 
-// Returns the same with a text, as a value.
+/// Returns the same with a text, as a value.
 fn saying_value(
     alloc: Global,
     shown: &str,
@@ -50,7 +50,7 @@ fn saying_value(
     json!(in alloc; {"reason": reason, "description": shown, "threadId": thread, "allThreadsStopped": true, "text": text})
 }
 
-// Returns `position I`.
+/// Returns `position I`.
 fn position_words(alloc: Global, position: u32) -> Result<String, NoMemory>
     ensures { IfOk result (λ s. s.bytes.items ≡ spec.position_words position) }
 {

@@ -15,7 +15,7 @@ use pb_base::NoMemory;
 use serde_json::{Value, json};
 use std::alloc::{AllocError, Global};
 
-// Returns a value with a name.
+/// Returns a value with a name.
 fn variable(alloc: Global, name: &[u8], shown: &str) -> Result<Value, NoMemory>
     ensures { IfOk result (λ v. view v ≡ spec.variable_data name.now shown.now) }
 {
@@ -23,7 +23,7 @@ fn variable(alloc: Global, name: &[u8], shown: &str) -> Result<Value, NoMemory>
     Ok(json!(in alloc; {"name": name, "value": shown, "variablesReference": 0u64})?)
 }
 
-// Returns an integer with its name.
+/// Returns an integer with its name.
 fn integer(alloc: Global, name: &[u8], value: i64) -> Result<Value, NoMemory>
     ensures { IfOk result (λ v. view v ≡ spec.variable_data name.now (signed_decimal value)) }
 {
@@ -43,7 +43,7 @@ pub fn integers(alloc: Global, names: &[Vec<u8>], vars: &[i64]) -> Result<Vec<Va
     Ok(list)
 }
 
-// Returns an operand with its number.
+/// Returns an operand with its number.
 fn operand(alloc: Global, i: usize, value: i64) -> Result<Value, NoMemory>
     ensures { IfOk result (λ v. view v ≡ spec.variable_data (decimal i) (signed_decimal value)) }
 {
@@ -63,14 +63,14 @@ pub fn operands(alloc: Global, values: &[i64]) -> Result<Vec<Value>, NoMemory>
     Ok(list)
 }
 
-// Returns `K of claim C`.
+/// Returns `K of claim C`.
 fn loan_words(alloc: Global, held: u32, claimed: u32) -> Result<String, NoMemory>
     ensures { IfOk result (λ s. s.bytes.items ≡ spec.loan_words held claimed) }
 {
     Ok(format!(in alloc; "{held} of claim {claimed}")?)
 }
 
-// Returns a loan with the claim.
+/// Returns a loan with the claim.
 fn loan(alloc: Global, name: &[u8], held: u32, claimed: u32) -> Result<Value, NoMemory>
     ensures { IfOk result (λ v. view v ≡ spec.variable_data name.now (spec.loan_words held claimed)) }
 {
@@ -78,7 +78,7 @@ fn loan(alloc: Global, name: &[u8], held: u32, claimed: u32) -> Result<Value, No
     variable(alloc, name, shown.as_str())
 }
 
-// Returns the loans of a process.
+/// Returns the loans of a process.
 fn loans(
     alloc: Global,
     names: &[Vec<u8>],
@@ -119,7 +119,7 @@ pub fn loans_at(
     }
 }
 
-// Returns an amount of cash.
+/// Returns an amount of cash.
 fn amount(alloc: Global, name: &[u8], cash: u32) -> Result<Value, NoMemory>
     ensures { IfOk result (λ v. view v ≡ spec.variable_data name.now (decimal cash)) }
 {
@@ -146,14 +146,14 @@ pub fn variables_body(alloc: Global, list: Vec<Value>) -> Result<Value, AllocErr
     json!(in alloc; {"variables": list})
 }
 
-// Returns what can be shown under a name.
+/// Returns what can be shown under a name.
 fn scope(alloc: Global, name: &str, reference: u64) -> Result<Value, AllocError>
     ensures { IfOk result (λ v. view v ≡ spec.scope_data name.now reference) }
 {
     json!(in alloc; {"name": name, "variablesReference": reference, "expensive": false})
 }
 
-// Returns the list of scopes.
+/// Returns the list of scopes.
 fn scopes_body(
     alloc: Global,
     first: Value,

@@ -25,7 +25,7 @@ pub fn asked<'c>(code: &'c ProcessCode, thread: &Thread) -> Option<&'c Bundle>
     }
 }
 
-// Returns the amount of a pair, if it is of this resource, else 0.
+/// Returns the amount of a pair, if it is of this resource, else 0.
 fn share(pair: Pair, r: usize) -> u32
     ensures { result ≡ cond (pair.resource == r) pair.amount 0 }
 {

@@ -12,7 +12,7 @@ use pb_machine::Machine;
 use pb_verifier::Verified;
 use std::alloc::Global;
 
-// Returns the numbers below a count.
+/// Returns the numbers below a count.
 fn numbers(alloc: Global, count: usize) -> Result<Vec<usize>, NoMemory>
     ensures all { IfOk result (λ numbers. (p : ℕ) → p < count → IsAmong numbers.items p) }
     ensures below { IfOk result (λ numbers. All (λ p. p < count) numbers.items) }
@@ -24,7 +24,7 @@ fn numbers(alloc: Global, count: usize) -> Result<Vec<usize>, NoMemory>
     Ok(numbers)
 }
 
-// Returns where a number is in a list.
+/// Returns where a number is in a list.
 fn place_in(numbers: &[usize], number: usize) -> Option<usize>
     ensures some { IfSome result (λ k. slice_get numbers.now k ≡ Some number) }
     ensures none { IfNone result ((k : ℕ) → slice_get numbers.now k ≡ Some number → ⊥) }
@@ -37,7 +37,7 @@ fn place_in(numbers: &[usize], number: usize) -> Option<usize>
     None
 }
 
-// Returns where the link of a process is on a path.
+/// Returns where the link of a process is on a path.
 fn place_on(path: &[Link], p: usize) -> Option<usize>
     ensures some { IfSome result (λ k. (link : LinkValue) × (slice_get path.now k ≡ Some link) × (link.process ≡ p)) }
     ensures none { IfNone result (IsOnPath path.now p → ⊥) }
@@ -50,7 +50,7 @@ fn place_on(path: &[Link], p: usize) -> Option<usize>
     None
 }
 
-// Returns where the first of these processes is that waits for none of them.
+/// Returns where the first of these processes is that waits for none of them.
 fn first_free(verified: &Verified, machine: &Machine, among: &[usize]) -> Option<usize>
     requires machine { IsMachine verified.now machine.now }
     requires among { All (λ q. q < length (machine_view machine.now).processes) among.now }
@@ -65,8 +65,8 @@ fn first_free(verified: &Verified, machine: &Machine, among: &[usize]) -> Option
     None
 }
 
-// Returns a circle among processes each of which waits for one of them: the links from one to the next are
-// followed up to a process that was there before.
+/// Returns a circle among processes each of which waits for one of them: the links from one to the next are
+/// followed up to a process that was there before.
 fn follow(
     alloc: Global,
     verified: &Verified,

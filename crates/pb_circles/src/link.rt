@@ -25,7 +25,7 @@ pub struct Link {
     pub holder: usize,
 }
 
-// Returns the first of these processes that is not p and holds some of a resource.
+/// Returns the first of these processes that is not p and holds some of a resource.
 fn holder_of(bank: &Lender, among: &[usize], p: usize, r: usize) -> Option<usize>
     requires resource { r < resources (lender_state bank.now) }
     requires among { All (λ q. q < processes (lender_state bank.now)) among.now }
@@ -41,7 +41,7 @@ fn holder_of(bank: &Lender, among: &[usize], p: usize, r: usize) -> Option<usize
     None
 }
 
-// Returns a link of an arm that asks for a bundle to one of these processes, if there is one.
+/// Returns a link of an arm that asks for a bundle to one of these processes, if there is one.
 fn link_of(bank: &Lender, among: &[usize], p: usize, arm: usize, bundle: &Bundle) -> Option<Link>
     requires among { All (λ q. q < processes (lender_state bank.now)) among.now }
     ensures some { IfSome result (IsLinkOf (lender_state bank.now) bundle.now among.now p arm) }
@@ -63,7 +63,7 @@ fn link_of(bank: &Lender, among: &[usize], p: usize, arm: usize, bundle: &Bundle
     None
 }
 
-// Returns a link of an arm of a process to one of these, if there is one.
+/// Returns a link of an arm of a process to one of these, if there is one.
 fn arm_link(
     verified: &Verified,
     machine: &Machine,

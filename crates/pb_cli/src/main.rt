@@ -12,7 +12,7 @@ use std::process::ExitCode;
 use std::sync::Wait;
 use std::thread::Threads;
 
-// Reads the words of the call, and does what they say.
+/// Reads the words of the call, and does what they say.
 fn start<R: env::Env + AllocGlobal + Threads + Wait + Sync>(
     rt: &R,
     input: &mut KeptInput<StandardInput>,

@@ -10,7 +10,7 @@ use pb_base::device::{DeviceFault, Output, write_all};
 use std::alloc::Global;
 use std::marker::Model;
 
-// From this length on a page is written.
+/// From this length on a page is written.
 const FULL: usize = 4_096;
 
 /// Text that waits to be written, so that an output is not called for each line. After a fault of the output
@@ -38,7 +38,7 @@ impl Page {
         }
     }
 
-    // Puts a text on the page, if the page is not full and can grow.
+    /// Puts a text on the page, if the page is not full and can grow.
     fn keep(&mut self, text: &[u8]) -> bool
         ensures { MatchBool result (self.new ≡ self.old ++ text.now) (self.new ≡ self.old) }
     {

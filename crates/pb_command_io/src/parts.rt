@@ -2,7 +2,7 @@
 ghost use Rattle.std.specs.Prelude.{◌≡◌, ◌+◌, ◌<◌, ◌↔◌, ℕ, IfSome, IfNone, IsTrue, drop, length, take};
 ghost use Rattle.pb_command_io.specs.Parts.{AreTwoParts, HasNoMarkBelow, IsCutAt, IsMark, IsMarkAt};
 
-// Returns whether a text begins with a line of the two bytes `%%`.
+/// Returns whether a text begins with a line of the two bytes `%%`.
 fn is_mark(text: &[u8]) -> bool
     ensures { IsTrue result ↔ IsMark text.now }
 {
@@ -20,7 +20,7 @@ pub fn is_mark_at(text: &[u8], at: usize) -> bool
     is_mark(&text[at..])
 }
 
-// Returns the place of the first line `%%`.
+/// Returns the place of the first line `%%`.
 fn first_mark(text: &[u8]) -> Option<usize>
     ensures some { IfSome result (λ at. IsMarkAt text.now at × HasNoMarkBelow text.now at) }
     ensures none { IfNone result ((at : ℕ) → ¬ IsMarkAt text.now at) }

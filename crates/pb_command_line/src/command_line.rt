@@ -13,17 +13,17 @@ use clap::builder::ValueParser;
 use clap::{Arg, ArgAction, Command};
 use std::alloc::{AllocError, Global};
 
-// The version, and the line of `rt version` of the kit that it was proved with.
+/// The version, and the line of `rt version` of the kit that it was proved with.
 const VERSION: &str = "0.1\nproved with rattle-kit-13f logic dac8208d650f15bf";
 
-// What is above the help. `--quiet` is taken off before these words are read.
+/// What is above the help. `--quiet` is taken off before these words are read.
 const ABOUT: &str =
     "Programs with parbegin: checked, run, recorded, debugged and drawn.\nWith --quiet before the command no message explains a refused input";
 
-// The help of the option that says who decides on a request.
+/// The help of the option that says who decides on a request.
 const LEND: &str = "Who decides on a request: banker or cash";
 
-// The same of `record`, whose workers ask the banker.
+/// The same of `record`, whose workers ask the banker.
 const LEND_OF_SEED: &str = "Who decides on a request: banker, or with --seed also cash";
 
 fn number_option<'a>(alloc: Global, name: &'a str, least: u64, most: u64) -> Arg<'a>
@@ -62,7 +62,7 @@ fn flag<'a>(alloc: Global, name: &'a str) -> Arg<'a>
     Arg::new(alloc, name).long(name).action(ArgAction::SetTrue)
 }
 
-// Adds an argument, which no subcommand inherits.
+/// Adds an argument, which no subcommand inherits.
 fn with_option<'a>(command: Command<'a>, option: Arg<'a>) -> Result<Command<'a>, AllocError>
     requires { option.global ≡ false }
     ensures app { IfOk result (λ c. app_of c ≡ with_rule (app_of command.entry) (rule_of option.entry)) }
@@ -71,7 +71,7 @@ fn with_option<'a>(command: Command<'a>, option: Arg<'a>) -> Result<Command<'a>,
     command.arg(option)
 }
 
-// Adds a subcommand, none of whose arguments its own subcommands inherit.
+/// Adds a subcommand, none of whose arguments its own subcommands inherit.
 fn with_subcommand<'a>(
     command: Command<'a>,
     subcommand: Command<'a>,
@@ -82,15 +82,15 @@ fn with_subcommand<'a>(
     command.subcommand(subcommand)
 }
 
-// Returns a command without options.
+/// Returns a command without options.
 fn plain<'a>(alloc: Global, name: &'a str, about: &'a str) -> Result<Command<'a>, AllocError>
     ensures { IfOk result (IsCommand (new_app name.entry.now)) }
 {
     Ok(Command::new(alloc, name).about(about))
 }
 
-// Adds an option with a number and a default, if the command was made. Nothing else is there when it was not: an
-// option that would have to be dropped then makes the proof much longer.
+/// Adds an option with a number and a default, if the command was made. Nothing else is there when it was not: an
+/// option that would have to be dropped then makes the proof much longer.
 fn with_number<'a>(
     alloc: Global,
     command: Result<Command<'a>, AllocError>,
@@ -108,7 +108,7 @@ fn with_number<'a>(
     with_option(command, option.help(help))
 }
 
-// Adds an option with a number and no default, if the command was made.
+/// Adds an option with a number and no default, if the command was made.
 fn with_given_number<'a>(
     alloc: Global,
     command: Result<Command<'a>, AllocError>,
@@ -125,7 +125,7 @@ fn with_given_number<'a>(
     with_option(command, option.help(help))
 }
 
-// Adds a flag, if the command was made.
+/// Adds a flag, if the command was made.
 fn with_flag<'a>(
     alloc: Global,
     command: Result<Command<'a>, AllocError>,
@@ -140,7 +140,7 @@ fn with_flag<'a>(
     with_option(command, option.help(help))
 }
 
-// Adds the option with the seed of a run that is drawn, if the command was made.
+/// Adds the option with the seed of a run that is drawn, if the command was made.
 fn with_seed<'a>(
     alloc: Global,
     command: Result<Command<'a>, AllocError>,
@@ -156,7 +156,7 @@ fn with_seed<'a>(
     )
 }
 
-// Adds the option that says who decides on a request, if the command was made.
+/// Adds the option that says who decides on a request, if the command was made.
 fn with_lend<'a>(
     alloc: Global,
     command: Result<Command<'a>, AllocError>,
@@ -170,7 +170,7 @@ fn with_lend<'a>(
     with_option(command, lend.help(help))
 }
 
-// Adds the options of a run by workers, if the command was made.
+/// Adds the options of a run by workers, if the command was made.
 fn with_run_options<'a>(
     alloc: Global,
     command: Result<Command<'a>, AllocError>,
@@ -315,7 +315,7 @@ fn wanting_command<'a>(command: Command<'a>) -> Command<'a>
         .version(VERSION)
 }
 
-// Returns the command line without its subcommands.
+/// Returns the command line without its subcommands.
 fn bare_command_line<'a>(alloc: Global) -> Result<Command<'a>, AllocError>
     ensures { IfOk result (λ c. app_of c ≡ that_wants_command (new_app (codes "parbegin"))) }
 {
@@ -323,7 +323,7 @@ fn bare_command_line<'a>(alloc: Global) -> Result<Command<'a>, AllocError>
     Ok(wanting_command(command))
 }
 
-// Adds a subcommand if both commands were made. If one was not, the other is dropped here and nowhere else.
+/// Adds a subcommand if both commands were made. If one was not, the other is dropped here and nowhere else.
 fn with_made<'a>(
     command: Result<Command<'a>, AllocError>,
     made: Result<Command<'a>, AllocError>,

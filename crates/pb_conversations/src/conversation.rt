@@ -52,7 +52,7 @@ pub trait Adapter {
         ensures { result ≡ over self.now };
 }
 
-// Returns the words for a fault.
+/// Returns the words for a fault.
 fn words_of(fault: FrameFault) -> &'static str
     ensures { result.now ≡ fault_words fault }
 {
@@ -65,7 +65,7 @@ fn words_of(fault: FrameFault) -> &'static str
     }
 }
 
-// Returns the last message, which says why no further one was read.
+/// Returns the last message, which says why no further one was read.
 fn broken_reply(alloc: Global, seq: u64, fault: FrameFault) -> Result<Reply, AllocError>
     ensures { IfOk result (λ reply. told_by reply ≡ broken_data seq fault ∷ []) }
 {
@@ -73,8 +73,8 @@ fn broken_reply(alloc: Global, seq: u64, fault: FrameFault) -> Result<Reply, All
     Ok(alone(response))
 }
 
-// Writes why no further message was read, if that is a fault of the bytes, and returns why the conversation
-// breaks off.
+/// Writes why no further message was read, if that is a fault of the bytes, and returns why the conversation
+/// breaks off.
 fn break_off<O: Output>(alloc: Global, output: &mut O, seq: u64, fault: FrameFault) -> Stop
     ensures written { WritesBroken result fault seq (O.written output.old) (O.written output.new) }
     ensures counted { fault ≢ FrameFault.Device → CountsWrites result (O.failures output.old) (O.failures output.new) }
@@ -94,7 +94,7 @@ fn break_off<O: Output>(alloc: Global, output: &mut O, seq: u64, fault: FrameFau
     }
 }
 
-// Returns the reply that a content is no request.
+/// Returns the reply that a content is no request.
 fn no_request(alloc: Global, seq: u64, message: &str) -> Result<Reply, NoMemory>
     ensures { IfOk result (λ reply. told_by reply ≡ failed_data seq 0 [] message.now ∷ []) }
 {
@@ -128,7 +128,7 @@ pub fn answer_content<A: Adapter>(
     }
 }
 
-// Returns whether a further message is answered.
+/// Returns whether a further message is answered.
 fn goes_on<A: Adapter>(adapter: &A, seq: u64) -> bool
     ensures { MatchBool result ((seq ≤ MAX_MESSAGES) × (A.over adapter.now ≡ false))
         ((A.over adapter.now ≡ true) ⊎ (MAX_MESSAGES < seq)) }

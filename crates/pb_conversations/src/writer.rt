@@ -16,7 +16,7 @@ use pb_frames::write_frame;
 use serde_json::Value;
 use std::alloc::Global;
 
-// Appends a message to a page.
+/// Appends a message to a page.
 #[tactic(auto, unfolding(crate::specs::Conversations::message_text))]
 fn put_message(alloc: Global, page: &mut Said, message: &Value) -> Result<(), NoMemory>
     requires { has_float (view message.now) ≡ false }
@@ -29,7 +29,7 @@ fn put_message(alloc: Global, page: &mut Said, message: &Value) -> Result<(), No
     }
 }
 
-// Appends the messages of a reply to a page.
+/// Appends the messages of a reply to a page.
 fn put_reply(alloc: Global, page: &mut Said, reply: &Reply) -> Result<(), NoMemory>
     requires { AreFloatFree (told_by reply.now) }
     ensures { OnOk result (page.new.bytes ≡ page.old.bytes ++ texts (told_by reply.now)) }

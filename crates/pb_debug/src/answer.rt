@@ -21,7 +21,7 @@ use pb_debug_texts::text::{
 };
 use pb_debug_texts::{put_circle, put_source, put_who};
 
-// Returns the number of a name among others.
+/// Returns the number of a name among others.
 fn find_name(names: &[Vec<u8>], word: &[u8]) -> Option<usize>
     ensures some { IfSome result (λ i. slice_get (map (λ name. name.items) names.now) i ≡ Some word.now) }
     ensures none { IfNone result ((i : ℕ) → slice_get (map (λ name. name.items) names.now) i ≡ Some word.now → ⊥) }
@@ -35,7 +35,7 @@ fn find_name(names: &[Vec<u8>], word: &[u8]) -> Option<usize>
 }
 
 impl<'c> Debugger<'c> {
-    // Returns the number of the process of this name.
+    /// Returns the number of the process of this name.
     fn process(&self, word: &[u8]) -> Option<usize>
         ensures some { IfSome result (λ p. slice_get (shown_names self.now).processes p ≡ Some word.now) }
         ensures none { IfNone result (HasNoName (shown_names self.now) word.now) }
@@ -46,8 +46,8 @@ impl<'c> Debugger<'c> {
         find_name(&self.verified.names().processes, word)
     }
 
-    // Appends the line of a position to a text, and goes there. The text is made first, so that the position
-    // stays if out of memory.
+    /// Appends the line of a position to a text, and goes there. The text is made first, so that the position
+    /// stays if out of memory.
     fn go(&mut self, text: &mut Vec<u8>, position: u32) -> Result<(), NoMemory>
         requires { position ≤ length self.old.picks }
         ensures moved { OnOk result (self.new ≡ moved_to self.old position) }
@@ -61,8 +61,8 @@ impl<'c> Debugger<'c> {
         }
     }
 
-    // Appends the line of the event of a pick to a text and goes to just after it, or puts the line that
-    // there is none.
+    /// Appends the line of the event of a pick to a text and goes to just after it, or puts the line that
+    /// there is none.
     fn go_to_event(&mut self, text: &mut Vec<u8>, found: Option<u32>) -> Result<(), NoMemory>
         requires within { IfSome found (λ k. k < length self.old.picks) }
         requires shows { IfSome found (λ k. ShowsAny self.old k) }
@@ -114,7 +114,7 @@ impl<'c> Debugger<'c> {
         put_vars(text, &self.labels.processes[p].integers, vars)
     }
 
-    // Appends the line of the pick with a number to a text, with the line of its arm before it.
+    /// Appends the line of the pick with a number to a text, with the line of its arm before it.
     fn say_write(&self, text: &mut Vec<u8>, k: u32) -> Result<(), NoMemory>
         requires { k < length self.now.picks }
         ensures { OnOk result ((said : List ℕ) × SaysWrite self.now (Some k) said
@@ -273,7 +273,7 @@ impl<'c> Debugger<'c> {
         }
     }
 
-    // Carries out a command, and puts its answer behind a text.
+    /// Carries out a command, and puts its answer behind a text.
     fn carry_out(&mut self, text: &mut Vec<u8>, command: Command) -> Result<(), NoMemory>
         ensures answer { OnOk result ((said : List ℕ)
             × AnswersCommand self.old (command_view command.entry) said self.new

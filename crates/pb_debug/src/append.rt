@@ -30,7 +30,7 @@ pub(crate) struct Tried {
     pub step: Step,
 }
 
-// Adds a pick, with its event or with none, behind a trace that has room for it.
+/// Adds a pick, with its event or with none, behind a trace that has room for it.
 fn push(trace: &mut Trace, pick: Pick, event: Option<Event>)
     requires room { 0 < trace.old.room }
     requires fits { length trace.old.entries < MAX_PICKS }
@@ -43,7 +43,7 @@ fn push(trace: &mut Trace, pick: Pick, event: Option<Event>)
 }
 
 impl<'c> Debugger<'c> {
-    // Returns whether the position is that after the last pick, and there may be one more.
+    /// Returns whether the position is that after the last pick, and there may be one more.
     fn can_append(&self) -> bool
         ensures can { IsTrue result ↔ CanAppend self.now }
         ensures placed { IsPosition self.now }
@@ -51,7 +51,7 @@ impl<'c> Debugger<'c> {
         self.position() == self.len() && self.len() < MAX_PICKS
     }
 
-    // Tries a pick at the position, by a copy of the machine.
+    /// Tries a pick at the position, by a copy of the machine.
     fn tried(&self, pick: Pick) -> Result<Tried, NoMemory>
         ensures tried { IfOk result (IsTried self.now) }
         ensures pick { IfOk result (λ tried. tried.pick ≡ pick) }
@@ -65,8 +65,8 @@ impl<'c> Debugger<'c> {
         })
     }
 
-    // Appends an enabled pick, after which the machine is as this one, and goes to just after it. All room is
-    // made before anything changes.
+    /// Appends an enabled pick, after which the machine is as this one, and goes to just after it. All room is
+    /// made before anything changes.
     fn add(&mut self, machine: Machine, pick: Pick, event: Option<Event>) -> Result<(), NoMemory>
         requires end { CanAppend self.old }
         requires machine { IsMachineBy self.old.lending self.old.verified machine }
@@ -91,7 +91,7 @@ impl<'c> Debugger<'c> {
         Ok(())
     }
 
-    // Appends a pick that was tried at the end of the picks, and goes to just after it, if it is enabled.
+    /// Appends a pick that was tried at the end of the picks, and goes to just after it, if it is enabled.
     fn settle(&mut self, tried: Tried) -> Result<(), NoMemory>
         requires end { CanAppend self.old }
         requires tried { IsTried self.old tried }
@@ -131,7 +131,7 @@ impl<'c> Debugger<'c> {
         Ok(step)
     }
 
-    // Appends the line of what a pick of an arm at the position came to to a text.
+    /// Appends the line of what a pick of an arm at the position came to to a text.
     fn say_step(&self, text: &mut Vec<u8>, p: usize, arm: usize, step: Step) -> Result<(), NoMemory>
         requires process { p < length (state_of self.now).processes }
         requires names { (event : AnyEvent) → step ≡ Did event → HasNames (shown_names self.now) event }

@@ -137,7 +137,7 @@ impl<'c> Debugger<'c> {
         Ok(Debugger::of_replaying(alloc, verified, labels, lending, replaying)?)
     }
 
-    // Returns the debugger of a replay that has made all its picks, at position 0.
+    /// Returns the debugger of a replay that has made all its picks, at position 0.
     fn of_replaying(
         alloc: Global,
         verified: &'c Verified,
@@ -218,7 +218,7 @@ impl<'c> Debugger<'c> {
         self.last_cost
     }
 
-    // Returns one more machine at the position.
+    /// Returns one more machine at the position.
     pub(crate) fn walker_here(&self) -> Result<Walker, NoMemory>
         ensures walks { IfOk result (WalksBy self.now.lending self.now.verified self.now.picks) }
         ensures at { IfOk result (λ w. w.at ≡ self.now.position) }
@@ -230,7 +230,7 @@ impl<'c> Debugger<'c> {
         })
     }
 
-    // Returns a machine at a position, from the last checkpoint that is not past it.
+    /// Returns a machine at a position, from the last checkpoint that is not past it.
     pub(crate) fn walker_at(&self, position: u32) -> Result<Walker, NoMemory>
         requires { position ≤ length self.now.picks }
         ensures walks { IfOk result (WalksBy self.now.lending self.now.verified self.now.picks) }

@@ -17,8 +17,8 @@ impl<'c> Debugger<'c> {
         Ok(first_in(&mut walker, self.verified, self.labels, &self.trace, watch))
     }
 
-    // Returns the number of the last pick from one position on and before another that does what is looked
-    // for.
+    /// Returns the number of the last pick from one position on and before another that does what is looked
+    /// for.
     fn last_between(&self, start: u32, end: u32, watch: Watch) -> Result<Option<u32>, NoMemory>
         requires before { start ≤ end }
         requires within { end ≤ length self.now.picks }

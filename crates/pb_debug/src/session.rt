@@ -16,7 +16,7 @@ use pb_debug_commands::LineBuffer;
 const BLOCK: usize = 4_096;
 
 impl<'c> Debugger<'c> {
-    // Answers a line.
+    /// Answers a line.
     fn answer_line<O: Output>(&mut self, line: &[u8], output: &mut O) -> Result<(), DebugFault>
         ensures told { OnOk result (IsTold self.old line.now (O.written output.old) (O.written output.new) self.new) }
         ensures stopped { IfErr result (λ e. SessionStopsAt e self.old line.now (O.written output.old) (O.written output.new) self.new) }
@@ -31,7 +31,7 @@ impl<'c> Debugger<'c> {
         }
     }
 
-    // Takes the next bytes, and answers each line that ends among them.
+    /// Takes the next bytes, and answers each line that ends among them.
     fn feed<O: Output>(
         &mut self,
         line: &mut LineBuffer,
@@ -60,7 +60,7 @@ impl<'c> Debugger<'c> {
         Ok(())
     }
 
-    // Answers each line that ends in the input, and keeps what is behind the last.
+    /// Answers each line that ends in the input, and keeps what is behind the last.
     fn read_lines<I: Input, O: Output>(
         &mut self,
         line: &mut LineBuffer,

@@ -70,8 +70,8 @@ impl<'c> Debugger<'c> {
         ))
     }
 
-    // Returns the number of the last pick from one position on and before another that brings an arm to one of
-    // these lines.
+    /// Returns the number of the last pick from one position on and before another that brings an arm to one of
+    /// these lines.
     fn last_stop_between(
         &self,
         start: u32,
@@ -123,8 +123,8 @@ impl<'c> Debugger<'c> {
         Ok(first_move(&mut walker, self.verified, self.labels, &self.trace, p, arm))
     }
 
-    // Returns the number of the last pick from one position on and before another that moves an arm to another
-    // line.
+    /// Returns the number of the last pick from one position on and before another that moves an arm to another
+    /// line.
     fn last_move_between(
         &self,
         start: u32,

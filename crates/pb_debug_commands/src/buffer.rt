@@ -6,7 +6,7 @@ ghost use Rattle.pb_debug_commands.specs.Buffers.{kept};
 use crate::command::MAX_COMMAND;
 use std::marker::Model;
 
-// The bytes of a line that are kept: one more than a command may have.
+/// The bytes of a line that are kept: one more than a command may have.
 const ROOM: usize = MAX_COMMAND + 1;
 
 /// The first bytes of a line: all of them, up to one more than a command may have. So a line of any length

@@ -58,7 +58,7 @@ fn is(word: &[u8], text: &str) -> bool
     word == text.as_bytes()
 }
 
-// Returns the command `until` of a word `P.a N`.
+/// Returns the command `until` of a word `P.a N`.
 fn stop(word: &[u8]) -> Option<Command>
     ensures { option_map command_view result ≡ spec.stop_of word.now }
 {
@@ -68,7 +68,7 @@ fn stop(word: &[u8]) -> Option<Command>
     Some(Command::Until(StopWord { process, arm, line }))
 }
 
-// Returns the command of a keyword about an arm or a resource, and what it is about.
+/// Returns the command of a keyword about an arm or a resource, and what it is about.
 fn keyed_arm<'t>(key: &[u8], word: &'t [u8]) -> Option<Command<'t>>
     ensures { option_map command_view result ≡
         cond (bytes_eq key.now (codes "line")) (option_map (λ p. spec.Line p.0 p.1) (spec.arm_of word.entry.now)) (
@@ -92,7 +92,7 @@ fn keyed_arm<'t>(key: &[u8], word: &'t [u8]) -> Option<Command<'t>>
     }
 }
 
-// Returns the command of a keyword about what has a name, and what it is about.
+/// Returns the command of a keyword about what has a name, and what it is about.
 fn keyed_name<'t>(key: &[u8], word: &'t [u8]) -> Option<Command<'t>>
     ensures { option_map command_view result ≡
         cond (bytes_eq key.now (codes "vars")) (option_map spec.Vars (spec.word_of word.entry.now)) (
@@ -118,7 +118,7 @@ fn keyed_name<'t>(key: &[u8], word: &'t [u8]) -> Option<Command<'t>>
     }
 }
 
-// Returns the command of a keyword and what it is about.
+/// Returns the command of a keyword and what it is about.
 #[tactic(auto, unfolding(crate::specs::Commands::keyed))]
 fn keyed<'t>(key: &[u8], word: &'t [u8]) -> Option<Command<'t>>
     ensures { option_map command_view result ≡ spec.keyed key.now word.entry.now }

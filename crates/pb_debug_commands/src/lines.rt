@@ -5,7 +5,7 @@ ghost use Rattle.pb_debug_commands.specs.Lines as spec;
 
 use crate::words::find;
 
-// Returns the line that a text begins with, without its line feed. There is none in an empty text.
+/// Returns the line that a text begins with, without its line feed. There is none in an empty text.
 fn first_line(text: &[u8]) -> Option<&[u8]>
     ensures { option_map (λ line. line.now) result ≡ spec.line_numbered text.now 1 }
 {

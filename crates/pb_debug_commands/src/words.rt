@@ -32,7 +32,7 @@ pub struct StopWord<'t> {
     pub line: u32,
 }
 
-// Returns the number that up to eight digits write.
+/// Returns the number that up to eight digits write.
 fn value(digits: &[u8]) -> u32
     requires digits { list_all is_ascii_digit digits.now ≡ true }
     requires few { length digits.now < 9 }

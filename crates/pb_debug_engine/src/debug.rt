@@ -40,7 +40,7 @@ pub fn debug_engine<I: Input, O: Output>(
     }
 }
 
-// Debugs a whole input.
+/// Debugs a whole input.
 fn debug_bytes<O: Output>(alloc: Global, lending: Lending, bytes: &[u8], output: &mut O) -> Status
     requires { length bytes.now ≤ MAX_INPUT }
     ensures text { Tells (SaysOfInput (SaysOfDebug lending) bytes.now) (O.written output.old) (O.written output.new) result }

@@ -55,7 +55,7 @@ pub fn debug_live_engine<I: Input, O: Output>(
     }
 }
 
-// Writes why the first parts of an input were not read.
+/// Writes why the first parts of an input were not read.
 fn tell_unread<O: Output>(alloc: Global, fault: ReadFault, output: &mut O) -> Status
     ensures text { Says (O.written output.old) (O.written output.new) (unread_text fault) (unread_status fault) result }
     ensures device { fault ≡ ReadFault.Device → O.failures output.new ≡ O.failures output.old }

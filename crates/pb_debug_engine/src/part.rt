@@ -12,15 +12,15 @@ use pb_base::limits::MAX_INPUT;
 use pb_command_io::parts::{is_mark_at, two_parts};
 use std::alloc::Global;
 
-// Returns whether a text ends with a line `%%` and its line feed.
+/// Returns whether a text ends with a line `%%` and its line feed.
 fn ends_in_mark(text: &[u8]) -> bool
     ensures { IsTrue result ↔ EndsInMark text.now }
 {
     3 <= text.len() && is_mark_at(text, text.len() - 3)
 }
 
-// Reads what an input has before its first line `%%`, and that line. It reads a byte at a time, since whoever
-// reads on is to have all that is after that line.
+/// Reads what an input has before its first line `%%`, and that line. It reads a byte at a time, since whoever
+/// reads on is to have all that is after that line.
 fn read_part<I: Input>(alloc: Global, input: &mut I) -> Result<Vec<u8>, ReadFault>
     ensures part { IfOk result (λ part. IfSome (I.rest input.old) (λ bytes.
         (rest : List ℕ) × (I.rest input.new ≡ Some rest) × AreTwoParts bytes part.items rest)) }

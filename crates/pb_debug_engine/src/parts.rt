@@ -25,14 +25,14 @@ use pb_picks::read_picks;
 use pb_verifier::Verified;
 use std::alloc::Global;
 
-// Returns whether a first part is an object. No text begins so.
+/// Returns whether a first part is an object. No text begins so.
 fn is_object(source: &[u8]) -> bool
     ensures { IsTrue result ↔ IsObjectPart source.now }
 {
     source.starts_with(b"PBO ")
 }
 
-// Debugs the code that a first part gave under a lending, with the text whose lines are shown.
+/// Debugs the code that a first part gave under a lending, with the text whose lines are shown.
 #[tactic(auto, using(crate::proofs::PartLemmas::takes_none))]
 fn debug_code<I: Input, O: Output>(
     alloc: Global,

@@ -17,12 +17,12 @@ use pb_machine::Machine;
 use pb_verifier::Verified;
 use std::alloc::Global;
 
-// The least distance of checkpoints, and how many there are at most but one.
+/// The least distance of checkpoints, and how many there are at most but one.
 const MIN_INTERVAL: u32 = 4_096;
 
 const CHECKPOINTS: u32 = 64;
 
-// Returns the distance of checkpoints for this number of picks.
+/// Returns the distance of checkpoints for this number of picks.
 fn interval_for(picks: u32) -> u32
     requires { picks ≤ MAX_PICKS }
     ensures interval { result ≡ interval_of picks }
@@ -96,7 +96,7 @@ impl Replaying {
         })
     }
 
-    // Returns how many of `most` picks there are up to the next multiple of the distance.
+    /// Returns how many of `most` picks there are up to the next multiple of the distance.
     fn up_to_next(&self, most: u32) -> u32
         requires few { length self.now.trace.entries ≤ MAX_PICKS }
         requires small { self.now.interval ≤ MAX_PICKS }
@@ -155,7 +155,7 @@ impl Replaying {
         Ok(())
     }
 
-    // Makes these picks in turn, the first of all.
+    /// Makes these picks in turn, the first of all.
     fn make_each(
         &mut self,
         alloc: Global,
@@ -184,7 +184,7 @@ impl Replaying {
         Ok(())
     }
 
-    // Makes each of these picks as often as its count says, the first of all.
+    /// Makes each of these picks as often as its count says, the first of all.
     fn make_all(
         &mut self,
         alloc: Global,
@@ -229,7 +229,7 @@ pub fn replay_picks(
     Ok(replaying)
 }
 
-// Returns how many picks these are one by one.
+/// Returns how many picks these are one by one.
 fn count_all(picks: &[CountedPick]) -> u32
     requires { length (spread picks.now) ≤ MAX_PICKS }
     ensures { result ≡ length (spread picks.now) }

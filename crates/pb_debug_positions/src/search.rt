@@ -33,7 +33,7 @@ pub enum Watch {
     },
 }
 
-// Returns an integer of a process of a machine, if both are there.
+/// Returns an integer of a process of a machine, if both are there.
 fn value_of(machine: &Machine, p: usize, x: usize) -> Option<i64>
     ensures { result ≡ value_in (slice_get (machine_view machine.now).processes p) x }
 {
@@ -67,7 +67,7 @@ pub fn line_of_arm(labels: &Labels, machine: &Machine, p: usize, arm: usize) -> 
     lines[place]
 }
 
-// Returns whether two values differ.
+/// Returns whether two values differ.
 fn differ(a: Option<i64>, b: Option<i64>) -> bool
     ensures { IsTrue result ↔ (a ≡ b → ⊥) }
 {
@@ -83,7 +83,7 @@ fn differ(a: Option<i64>, b: Option<i64>) -> bool
     }
 }
 
-// Makes the next pick of a trace. Returns whether it changes an integer of a process.
+/// Makes the next pick of a trace. Returns whether it changes an integer of a process.
 fn changes(walker: &mut Walker, verified: &Verified, trace: &Trace, p: usize, x: usize) -> bool
     requires few { length (picks_of trace.now.entries) ≤ MAX_PICKS }
     requires walks { Walks verified.now (picks_of trace.now.entries) walker.old }
@@ -100,7 +100,7 @@ fn changes(walker: &mut Walker, verified: &Verified, trace: &Trace, p: usize, x:
     differ(before, after)
 }
 
-// Returns whether a line is this one.
+/// Returns whether a line is this one.
 fn is_line(line: Option<u32>, wanted: u32) -> bool
     ensures { IsTrue result ↔ (line ≡ Some wanted) }
 {
@@ -110,14 +110,14 @@ fn is_line(line: Option<u32>, wanted: u32) -> bool
     }
 }
 
-// Returns whether a first is false and a second true.
+/// Returns whether a first is false and a second true.
 fn begins(before: bool, after: bool) -> bool
     ensures { IsTrue result ↔ ((IsTrue before → ⊥) × IsTrue after) }
 {
     !before && after
 }
 
-// Makes the next pick of a trace. Returns whether an arm comes to a line with it.
+/// Makes the next pick of a trace. Returns whether an arm comes to a line with it.
 fn comes_to(
     walker: &mut Walker,
     verified: &Verified,
@@ -141,7 +141,7 @@ fn comes_to(
     begins(is_line(before, line), is_line(after, line))
 }
 
-// Makes the next pick of a trace. Returns whether it does what is looked for.
+/// Makes the next pick of a trace. Returns whether it does what is looked for.
 fn does(
     walker: &mut Walker,
     verified: &Verified,

@@ -16,7 +16,7 @@ use pb_history::Trace;
 use pb_machine::Machine;
 use pb_verifier::Verified;
 
-// Returns whether two lines differ.
+/// Returns whether two lines differ.
 fn differ(a: Option<u32>, b: Option<u32>) -> bool
     ensures { IsTrue result ↔ (a ≡ b → ⊥) }
 {
@@ -54,7 +54,7 @@ pub fn moves(
     differ(before, after)
 }
 
-// Returns whether an arm comes to one of these lines from the one where it was before.
+/// Returns whether an arm comes to one of these lines from the one where it was before.
 fn comes(before: Option<u32>, after: Option<u32>, lines: &[u32]) -> bool
     ensures { IsTrue result ↔ ComesTo lines.now before after }
 {
@@ -64,7 +64,7 @@ fn comes(before: Option<u32>, after: Option<u32>, lines: &[u32]) -> bool
     }
 }
 
-// Returns whether an arm of a process comes to one of these lines between two states.
+/// Returns whether an arm of a process comes to one of these lines between two states.
 fn arrives(labels: &Labels, before: &Machine, after: &Machine, p: usize, lines: &[u32]) -> bool
     ensures { IsTrue result ↔ ((a : ℕ) × ComesTo lines.now
         (line_in (slice_get (labels_view labels.now) p) (slice_get (machine_view before.now).processes p) a)
@@ -83,8 +83,8 @@ fn arrives(labels: &Labels, before: &Machine, after: &Machine, p: usize, lines: 
     false
 }
 
-// Makes the next pick of a trace with a machine, and then with another one that stands where it stood. Returns
-// whether it brings an arm to one of these lines.
+/// Makes the next pick of a trace with a machine, and then with another one that stands where it stood. Returns
+/// whether it brings an arm to one of these lines.
 fn arrives_next(
     walker: &mut Walker,
     behind: &mut Walker,

@@ -15,7 +15,7 @@ use pb_machine::Machine;
 use pb_verifier::Verified;
 use std::alloc::Global;
 
-// Appends the line of a link to a text.
+/// Appends the line of a link to a text.
 fn put_link(text: &mut Vec<u8>, names: &Names, link: Link) -> Result<(), NoMemory>
     requires { HasNamesOf (names_view names.now) link }
     ensures { OnOk result (text.new.items ≡ text.old.items ++ said.link_text (names_view names.now) link) }
@@ -26,7 +26,7 @@ fn put_link(text: &mut Vec<u8>, names: &Names, link: Link) -> Result<(), NoMemor
     end_name(text, b" holder ", &names.processes[link.holder])
 }
 
-// Appends the lines of links to a text.
+/// Appends the lines of links to a text.
 fn put_links(text: &mut Vec<u8>, names: &Names, links: &[Link]) -> Result<(), NoMemory>
     requires { All (HasNamesOf (names_view names.now)) links.now }
     ensures { OnOk result (text.new.items

@@ -8,7 +8,7 @@ use pb_base::NoMemory;
 use pb_base::writing::{put, put_number};
 use pb_debug_commands::line_numbered;
 
-// Appends the line that says that there is no text to a text.
+/// Appends the line that says that there is no text to a text.
 fn put_no_text(text: &mut Vec<u8>) -> Result<(), NoMemory>
     ensures { OnOk result (text.new.items ≡ text.old.items ++ said.no_text) }
 {

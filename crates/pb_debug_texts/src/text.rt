@@ -16,7 +16,7 @@ use pb_base::{Event, Names, NoMemory, Pick, event_line};
 use pb_machine::{Proc, Thread, ThreadState};
 use std::alloc::Global;
 
-// Appends words and a number to a text, and ends its line.
+/// Appends words and a number to a text, and ends its line.
 fn end_number<I: Integer>(text: &mut Vec<u8>, words: &[u8], number: I) -> Result<(), NoMemory>
     ensures { OnOk result (text.new.items ≡ text.old.items ++ said.line (words.now ++ I.text number)) }
 {
@@ -108,7 +108,7 @@ pub fn put_help(text: &mut Vec<u8>) -> Result<(), NoMemory>
     )
 }
 
-// Appends the line of one integer to a text.
+/// Appends the line of one integer to a text.
 fn put_var(text: &mut Vec<u8>, name: &[u8], value: i64) -> Result<(), NoMemory>
     ensures { OnOk result (text.new.items ≡ text.old.items ++ said.var_text name.now value) }
 {
@@ -128,7 +128,7 @@ pub fn put_vars(text: &mut Vec<u8>, names: &[Vec<u8>], vars: &[i64]) -> Result<(
     Ok(())
 }
 
-// Appends the line of an arm to a text.
+/// Appends the line of an arm to a text.
 fn put_thread(text: &mut Vec<u8>, arm: usize, thread: &Thread) -> Result<(), NoMemory>
     ensures { OnOk result (text.new.items ≡ text.old.items ++ said.thread_text arm (thread_view thread.now)) }
 {
@@ -175,7 +175,7 @@ pub(crate) fn put_loan(
     end_number(text, b" claim ", bank.claim(p, r))
 }
 
-// Appends the lines of the loans of a process to a text.
+/// Appends the lines of the loans of a process to a text.
 fn put_loans_of(text: &mut Vec<u8>, names: &Names, bank: &Lender, p: usize) -> Result<(), NoMemory>
     requires process { p < processes (lender_state bank.now) }
     requires process_names { length (names_view names.now).processes ≡ processes (lender_state bank.now) }
@@ -202,7 +202,7 @@ pub(crate) fn put_cash(
     end_name(text, b" ", &names.resources[r])
 }
 
-// Appends the lines of all cash to a text.
+/// Appends the lines of all cash to a text.
 fn put_all_cash(text: &mut Vec<u8>, names: &Names, bank: &Lender) -> Result<(), NoMemory>
     requires { length (names_view names.now).resources ≡ resources (lender_state bank.now) }
     ensures { OnOk result (text.new.items ≡ text.old.items
@@ -236,7 +236,7 @@ pub fn put_source_line(text: &mut Vec<u8>, line: Option<u32>) -> Result<(), NoMe
     }
 }
 
-// Appends a word and the names of processes to a text.
+/// Appends a word and the names of processes to a text.
 fn put_names(
     text: &mut Vec<u8>,
     words: &[u8],

@@ -18,7 +18,7 @@ use pb_circles::{amount_in, asked};
 use pb_code::{Code, ProcessCode};
 use pb_machine::{Machine, Proc, Thread};
 
-// Returns the amount of a resource for which an arm asks: 0 if it is not at a request.
+/// Returns the amount of a resource for which an arm asks: 0 if it is not at a request.
 fn amount_asked(code: &ProcessCode, thread: &Thread, r: usize) -> u64
     requires { NamesBundles code.now }
     ensures { result ≡ said.amount_asked (process_view code.now) (thread_view thread.now) r }
@@ -29,7 +29,7 @@ fn amount_asked(code: &ProcessCode, thread: &Thread, r: usize) -> u64
     }
 }
 
-// Appends the line of an arm to a text, if it asks for some of a resource.
+/// Appends the line of an arm to a text, if it asks for some of a resource.
 fn put_asker(
     text: &mut Vec<u8>,
     names: &Names,
@@ -52,7 +52,7 @@ fn put_asker(
     end_name(text, b" ", &names.resources[r])
 }
 
-// Appends the lines of the arms of a process that ask for a resource to a text.
+/// Appends the lines of the arms of a process that ask for a resource to a text.
 fn put_askers_in(
     text: &mut Vec<u8>,
     names: &Names,
@@ -74,7 +74,7 @@ fn put_askers_in(
     Ok(())
 }
 
-// Appends the lines of all arms that ask for a resource to a text.
+/// Appends the lines of all arms that ask for a resource to a text.
 fn put_askers(text: &mut Vec<u8>, code: &Code, machine: &Machine, r: usize) -> Result<(), NoMemory>
     requires bundles { (p : ℕ) (process : GivenProcess)
         → slice_get (code_view code.now).processes p ≡ Some (process_view process) → NamesBundles process }
@@ -91,7 +91,7 @@ fn put_askers(text: &mut Vec<u8>, code: &Code, machine: &Machine, r: usize) -> R
     Ok(())
 }
 
-// Appends the line of the loan of a process to a text, if it holds some of a resource.
+/// Appends the line of the loan of a process to a text, if it holds some of a resource.
 fn put_holder(
     text: &mut Vec<u8>,
     names: &Names,
@@ -112,7 +112,7 @@ fn put_holder(
     put_loan(text, names, bank, p, r)
 }
 
-// Appends the lines of all processes that hold a resource to a text.
+/// Appends the lines of all processes that hold a resource to a text.
 fn put_holders(text: &mut Vec<u8>, names: &Names, bank: &Lender, r: usize) -> Result<(), NoMemory>
     requires resource { r < resources (lender_state bank.now) }
     requires process_names { length (names_view names.now).processes ≡ processes (lender_state bank.now) }

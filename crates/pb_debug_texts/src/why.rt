@@ -26,14 +26,14 @@ pub enum Why {
     Granted,
 }
 
-// A resource and its cash.
+/// A resource and its cash.
 #[derive(Clone, Copy)]
 struct Shortage {
     resource: u8,
     cash: u32,
 }
 
-// Returns the first resource of a bundle of which the cash is too little.
+/// Returns the first resource of a bundle of which the cash is too little.
 fn first_shortage(bank: &Lender, bundle: &Bundle) -> Option<Shortage>
     requires below { All (λ pair. pair.resource < resources (lender_state bank.now)) bundle.now }
     ensures some { IfSome result (λ s. IsFirstOverCash (lender_state bank.now) bundle.now s.resource s.cash) }
@@ -52,7 +52,7 @@ fn first_shortage(bank: &Lender, bundle: &Bundle) -> Option<Shortage>
     None
 }
 
-// Returns what the banker says of a request of process p that is within its claim and the cash.
+/// Returns what the banker says of a request of process p that is within its claim and the cash.
 fn answer_of(alloc: Global, banker: &Banker, p: usize, bundle: &Bundle) -> Result<Why, NoMemory>
     requires process { p < processes banker.now.state }
     requires below { All (λ pair. pair.resource < resources banker.now.state) bundle.now }

@@ -20,21 +20,21 @@ pub(crate) enum Turn {
     Other,
 }
 
-// Returns whether both are of one arm of one process.
+/// Returns whether both are of one arm of one process.
 fn is_arm(a: Pick, b: Pick) -> bool
     ensures { result ≡ are_same a b }
 {
     a.process == b.process && a.arm == b.arm
 }
 
-// Returns this, or `Other`.
+/// Returns this, or `Other`.
 fn turn_if(holds: bool, turn: Turn) -> Turn
     ensures { result ≡ (if holds then turn else Turn.Other) }
 {
     if holds { turn } else { Turn::Other }
 }
 
-// Returns what an event is to the last hold of an arm.
+/// Returns what an event is to the last hold of an arm.
 fn turn_of(pick: Pick, event: &Event) -> Turn
     ensures { result ≡ spec.hold_turn pick event.now }
 {
@@ -47,8 +47,8 @@ fn turn_of(pick: Pick, event: &Event) -> Turn
     }
 }
 
-// Returns the number of the pick by which an arm gives back a hold that it has before these marks, if one
-// does.
+/// Returns the number of the pick by which an arm gives back a hold that it has before these marks, if one
+/// does.
 fn given_back(pick: Pick, marks: &[Mark]) -> Option<u32>
     ensures { result ≡ spec.given_back pick 0 marks.now }
 {
@@ -69,7 +69,7 @@ fn given_back(pick: Pick, marks: &[Mark]) -> Option<u32>
     None
 }
 
-// Adds the bar of a mark, before these further marks: a grant has one.
+/// Adds the bar of a mark, before these further marks: a grant has one.
 fn add_bar(bars: &mut Vec<Bar>, mark: &Mark, later: &[Mark]) -> Result<(), NoMemory>
     ensures { OnOk result (bars.new.items ≡ bars.old.items ++ spec.bar_of mark.now.at mark.now.event later.now) }
 {

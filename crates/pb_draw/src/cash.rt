@@ -18,7 +18,7 @@ use pb_machine::Machine;
 use pb_verifier::Verified;
 use std::alloc::Global;
 
-// Returns the cash of a resource.
+/// Returns the cash of a resource.
 fn cash_of(verified: &Verified, machine: &Machine, r: usize) -> u32
     requires machine { IsMachine verified.now machine.now }
     requires resource { r < length verified.now.code.capital }
@@ -28,7 +28,7 @@ fn cash_of(verified: &Verified, machine: &Machine, r: usize) -> u32
     machine.lender().cash(r)
 }
 
-// Returns a curve that begins with this cash.
+/// Returns a curve that begins with this cash.
 fn first_step(alloc: Global, cash: u32) -> Result<Vec<CashStep>, NoMemory>
     ensures { IfOk result (λ steps. (f : ℕ → ℕ) → cash ≡ f 0 → ShowsCash f 0 steps.items) }
 {
@@ -37,7 +37,7 @@ fn first_step(alloc: Global, cash: u32) -> Result<Vec<CashStep>, NoMemory>
     Ok(steps)
 }
 
-// Adds a step to a curve if the cash is another than it was.
+/// Adds a step to a curve if the cash is another than it was.
 fn add_step(steps: &mut Vec<CashStep>, last: u32, at: u32, cash: u32) -> Result<(), NoMemory>
     requires { 0 < at }
     ensures { OnOk result ((f : ℕ → ℕ) → last ≡ f (at - 1) → cash ≡ f at
@@ -49,7 +49,7 @@ fn add_step(steps: &mut Vec<CashStep>, last: u32, at: u32, cash: u32) -> Result<
     Ok(())
 }
 
-// Returns the cash of a resource at each position.
+/// Returns the cash of a resource at each position.
 fn cash_curve(
     alloc: Global,
     verified: &Verified,

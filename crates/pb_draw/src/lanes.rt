@@ -23,10 +23,10 @@ use pb_machine::Machine;
 use pb_verifier::Verified;
 use std::alloc::Global;
 
-// No code has as many processes, and no process as many arms.
+/// No code has as many processes, and no process as many arms.
 const MAX_LANES: usize = 255;
 
-// Returns whether the cash suffices for a bundle.
+/// Returns whether the cash suffices for a bundle.
 fn cash_suffices(bank: &Lender, bundle: &Bundle) -> bool
     requires { All (λ pair. pair.resource < resources (lender_state bank.now)) bundle.now }
     ensures { IsTrue result ↔ IsWithinCash (lender_state bank.now) bundle.now }
@@ -40,7 +40,7 @@ fn cash_suffices(bank: &Lender, bundle: &Bundle) -> bool
     true
 }
 
-// Returns the state of an arm of a process that asks for a bundle within its claim.
+/// Returns the state of an arm of a process that asks for a bundle within its claim.
 fn asking(bank: &Lender, p: usize, bundle: &Bundle) -> Standing
     requires process { p < processes (lender_state bank.now) }
     requires below { All (λ pair. pair.resource < resources (lender_state bank.now)) bundle.now }
@@ -58,7 +58,7 @@ fn asking(bank: &Lender, p: usize, bundle: &Bundle) -> Standing
     }
 }
 
-// Returns the state of an arm.
+/// Returns the state of an arm.
 fn standing_of(verified: &Verified, machine: &Machine, pick: Pick) -> Standing
     requires { IsMachine verified.now machine.now }
     ensures { (lending : LendingValue) → IsMachineBy lending verified.now machine.now
@@ -80,7 +80,7 @@ fn standing_of(verified: &Verified, machine: &Machine, pick: Pick) -> Standing
     }
 }
 
-// Returns a lane that begins so.
+/// Returns a lane that begins so.
 fn first_step(alloc: Global, standing: Standing) -> Result<Vec<LaneStep>, NoMemory>
     ensures { IfOk result (λ steps. (lending : LendingValue) (code : AnyCode) (picks : List Pick) (arm : Pick)
         → IsStandingAfter lending code picks arm 0 standing
@@ -91,14 +91,14 @@ fn first_step(alloc: Global, standing: Standing) -> Result<Vec<LaneStep>, NoMemo
     Ok(steps)
 }
 
-// Returns whether both are the same.
+/// Returns whether both are the same.
 fn is_same(a: Standing, b: Standing) -> bool
     ensures { IsTrue result ↔ (a ≡ b) }
 {
     a == b
 }
 
-// Adds a step to a lane if the state of its arm is another than it was.
+/// Adds a step to a lane if the state of its arm is another than it was.
 fn add_step(
     steps: &mut Vec<LaneStep>,
     last: Standing,
@@ -118,7 +118,7 @@ fn add_step(
     Ok(())
 }
 
-// Returns the state of an arm at each position.
+/// Returns the state of an arm at each position.
 fn lane_of(
     alloc: Global,
     verified: &Verified,
@@ -142,7 +142,7 @@ fn lane_of(
     Ok(Lane { pick, steps })
 }
 
-// Adds the lanes of a process.
+/// Adds the lanes of a process.
 fn add_lanes(
     alloc: Global,
     verified: &Verified,

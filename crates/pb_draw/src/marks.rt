@@ -13,7 +13,7 @@ use pb_machine::Machine;
 use pb_verifier::Verified;
 use std::alloc::Global;
 
-// Adds the mark of an event of this pick, if it shows one.
+/// Adds the mark of an event of this pick, if it shows one.
 fn add_mark(
     marks: &mut Vec<Mark>,
     at: u32,

@@ -32,7 +32,7 @@ pub(crate) fn advance(
     event_of(step)
 }
 
-// Returns the event of what a pick came to.
+/// Returns the event of what a pick came to.
 fn event_of(step: Step) -> Option<Event>
     ensures { result ≡ step_event step }
 {

@@ -54,7 +54,7 @@ pub fn draw_engine<I: Input, O: Output>(
     }
 }
 
-// Draws the run of a whole input.
+/// Draws the run of a whole input.
 fn draw_bytes<O: Output>(alloc: Global, lending: Lending, bytes: &[u8], output: &mut O) -> Status
     requires { length bytes.now ≤ MAX_INPUT }
     ensures text { Tells (SaysOfInput (SaysOfDraw lending) bytes.now) (O.written output.old) (O.written output.new) result }
@@ -67,7 +67,7 @@ fn draw_bytes<O: Output>(alloc: Global, lending: Lending, bytes: &[u8], output: 
     }
 }
 
-// Draws the run that lines say, or writes why their picks are not made.
+/// Draws the run that lines say, or writes why their picks are not made.
 fn draw_lines<O: Output>(
     alloc: Global,
     lending: Lending,
@@ -88,7 +88,7 @@ fn draw_lines<O: Output>(
     }
 }
 
-// Returns the picture of a replay. If the machine could go on, a pick is made that is enabled.
+/// Returns the picture of a replay. If the machine could go on, a pick is made that is enabled.
 fn drawn(
     alloc: Global,
     verified: &Verified,
@@ -120,7 +120,7 @@ fn drawn(
     })
 }
 
-// Returns whether a replay has ended in a deadlock.
+/// Returns whether a replay has ended in a deadlock.
 fn is_stuck(ending: Ending) -> bool
     ensures { result ≡ is_stuck ending }
 {

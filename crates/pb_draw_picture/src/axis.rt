@@ -10,7 +10,7 @@ use pb_base::{Names, NoMemory};
 use pb_draw::drawing::Mark;
 use std::alloc::Global;
 
-// Returns how wide the first of some silent picks are.
+/// Returns how wide the first of some silent picks are.
 #[tactic(auto, using(crate::proofs::AxisLemmas::squeezed_few))]
 fn squeezed(picks: u64, of: u64) -> u64
     requires { of ≤ 2 ^ 33 }
@@ -40,7 +40,7 @@ impl Knot {
         self.silent_x() + squeezed(self.silent, self.silent)
     }
 
-    // Returns where a position begins that is at the event, or among the silent picks behind it.
+    /// Returns where a position begins that is at the event, or among the silent picks behind it.
     fn x_in(&self, position: u64) -> u64
         ensures x { result ≡ spec.x_in self.now position }
         ensures near { result ≤ 2 ^ 44 }
@@ -52,7 +52,7 @@ impl Knot {
     }
 }
 
-// Returns how wide the pick of an event is.
+/// Returns how wide the pick of an event is.
 fn width_of(alloc: Global, names: &Names, mark: &Mark) -> Result<u64, NoMemory>
     ensures wide { IfOk result (λ width. SIDE ≤ width) }
     ensures narrow { IfOk result (λ width. width ≤ 900) }
@@ -63,7 +63,7 @@ fn width_of(alloc: Global, names: &Names, mark: &Mark) -> Result<u64, NoMemory>
     Ok(SIDE + characters.min(MAX_CHARACTERS) * CHARACTER)
 }
 
-// Returns the knot that begins here, if the next event is at a position, or the run ends before it.
+/// Returns the knot that begins here, if the next event is at a position, or the run ends before it.
 fn knot_to(start: Start, next: u64) -> Knot
     requires behind { start.position < next }
     requires early { next ≤ 2 ^ 32 + 1 }
@@ -80,7 +80,7 @@ fn knot_to(start: Start, next: u64) -> Knot
     }
 }
 
-// Returns the start behind a knot, at the position of the next event.
+/// Returns the start behind a knot, at the position of the next event.
 fn start_at(knot: &Knot, position: u64, width: u64) -> Start
     requires near { knot.now.x + knot.now.width + 90 ≤ 1000 + 1000 * position }
     requires early { position ≤ 2 ^ 32 }
@@ -96,7 +96,7 @@ fn start_at(knot: &Knot, position: u64, width: u64) -> Start
     }
 }
 
-// Returns the start of a run, at the left of its time.
+/// Returns the start of a run, at the left of its time.
 fn first_start(left: u64) -> Start
     requires { left ≤ 1000 }
     ensures { result.position ≡ 0 }

@@ -19,7 +19,7 @@ pub(crate) fn number_text(alloc: Global, number: u64, words: &[u8]) -> Result<Ve
     Ok(text)
 }
 
-// Appends the name with a number to `text`, if there is one.
+/// Appends the name with a number to `text`, if there is one.
 fn put_name(text: &mut Vec<u8>, names: &[Vec<u8>], i: usize) -> Result<(), NoMemory>
     ensures { OnOk result (text.new.items ≡ text.old.items ++ name_of (map (λ name. name.items) names.now) i) }
 {
@@ -39,7 +39,7 @@ pub(crate) fn arm_text(alloc: Global, names: &Names, pick: Pick) -> Result<Vec<u
     Ok(text)
 }
 
-// Appends an amount and the name of its resource to `text`.
+/// Appends an amount and the name of its resource to `text`.
 fn put_pair(text: &mut Vec<u8>, names: &Names, pair: Pair) -> Result<(), NoMemory>
     ensures { OnOk result (text.new.items ≡ text.old.items ++ pair_text (names_view names.now) pair) }
 {
@@ -48,7 +48,7 @@ fn put_pair(text: &mut Vec<u8>, names: &Names, pair: Pair) -> Result<(), NoMemor
     put_name(text, &names.resources, usize::from(pair.resource))
 }
 
-// Returns ` k R` for each pair of a bundle.
+/// Returns ` k R` for each pair of a bundle.
 fn pairs_of(alloc: Global, names: &Names, bundle: &Bundle) -> Result<Vec<u8>, NoMemory>
     ensures { IfOk result (λ text. text.items ≡ pairs_text (names_view names.now) bundle.now) }
 {
@@ -73,7 +73,7 @@ pub(crate) fn bundle_text(
     Ok(text)
 }
 
-// Returns the word for a fault.
+/// Returns the word for a fault.
 fn fault_word(kind: FaultKind) -> &'static [u8]
     ensures { result.now ≡ fault_text kind }
 {

@@ -16,7 +16,7 @@ use pb_base::{Capital, Names, NoMemory};
 use pb_draw::drawing::{CashCurve, CashStep};
 use std::alloc::Global;
 
-// Returns how high an amount is drawn.
+/// Returns how high an amount is drawn.
 fn height_of(capital: u32, cash: u32) -> u64
     ensures { result ≡ spec.height_of capital cash }
 {
@@ -32,7 +32,7 @@ pub(crate) fn foot_of(grid: &Grid, r: usize) -> u64
     grid.bottom + (r as u64 + 1) * CURVE_ROW
 }
 
-// Returns where the first of some steps is, if there is one.
+/// Returns where the first of some steps is, if there is one.
 fn next_of(steps: &[CashStep]) -> Option<u64>
     ensures { result ≡ spec.next_of steps.now }
 {
@@ -42,7 +42,7 @@ fn next_of(steps: &[CashStep]) -> Option<u64>
     }
 }
 
-// Adds the curve of resource r.
+/// Adds the curve of resource r.
 fn add_curve(
     rects: &mut Vec<Rect>,
     grid: &Grid,
@@ -93,7 +93,7 @@ pub(crate) fn add_curves(
     Ok(())
 }
 
-// Returns the amount at a step.
+/// Returns the amount at a step.
 fn amount_at(
     alloc: Global,
     grid: &Grid,
@@ -114,7 +114,7 @@ fn amount_at(
     })
 }
 
-// Returns the name of a resource.
+/// Returns the name of a resource.
 fn name_at(
     alloc: Global,
     names: &Names,
@@ -135,7 +135,7 @@ fn name_at(
     })
 }
 
-// Adds the amounts of a curve.
+/// Adds the amounts of a curve.
 fn add_amounts(
     alloc: Global,
     grid: &Grid,

@@ -64,7 +64,7 @@ impl Grid {
         track_of(&self.rows, pick)
     }
 
-    // Returns below how many others a hold is.
+    /// Returns below how many others a hold is.
     fn depth(&self, k: usize) -> u32
         ensures { result ≡ (spec.places_of self.now).depth k }
     {
@@ -83,7 +83,7 @@ impl Grid {
     }
 }
 
-// Returns how many characters the longest of some names has.
+/// Returns how many characters the longest of some names has.
 fn longest(names: &[Vec<u8>]) -> u64 {
     let mut most: u64 = 0;
     for name in names {
@@ -92,7 +92,7 @@ fn longest(names: &[Vec<u8>]) -> u64 {
     most
 }
 
-// Returns where time begins, to the right of all names.
+/// Returns where time begins, to the right of all names.
 fn left_of(names: &Names) -> u64
     ensures { result ≤ 1000 }
 {

@@ -41,7 +41,7 @@ pub(crate) fn gaps_of(alloc: Global, knots: &[Knot], bottom: u64) -> Result<Vec<
     Ok(rects)
 }
 
-// Returns how many silent picks a stretch has.
+/// Returns how many silent picks a stretch has.
 fn silent_at(alloc: Global, knot: &Knot) -> Result<Label, NoMemory>
     ensures { IfOk result (λ l. l.kind ≡ LabelKind.Silent) }
 {
@@ -68,7 +68,7 @@ pub(crate) fn silents_of(alloc: Global, knots: &[Knot]) -> Result<Vec<Label>, No
     Ok(labels)
 }
 
-// Returns a text that is known.
+/// Returns a text that is known.
 fn note_at(alloc: Global, kind: LabelKind, y: u64, text: &[u8]) -> Result<Label, NoMemory>
     ensures { IfOk result (λ l. text_of l ≡ record { kind = kind; x = MARGIN; y = y; text = text.now }) }
 {
@@ -80,7 +80,7 @@ fn note_at(alloc: Global, kind: LabelKind, y: u64, text: &[u8]) -> Result<Label,
     })
 }
 
-// Adds that a run ends in a deadlock, if it does.
+/// Adds that a run ends in a deadlock, if it does.
 fn add_deadlock(
     alloc: Global,
     foot: u64,

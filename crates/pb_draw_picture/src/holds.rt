@@ -16,7 +16,7 @@ use pb_base::{Bundle, Names, NoMemory};
 use pb_draw::drawing::Bar;
 use std::alloc::Global;
 
-// Returns the position behind a pick, if there is one.
+/// Returns the position behind a pick, if there is one.
 fn behind(at: Option<u32>) -> Option<u64>
     ensures { result ≡ spec.behind at }
 {
@@ -26,7 +26,7 @@ fn behind(at: Option<u32>) -> Option<u64>
     }
 }
 
-// Returns the resource whose colour the bar of a hold has: the first of its bundle.
+/// Returns the resource whose colour the bar of a hold has: the first of its bundle.
 fn colour_of(bundle: &Bundle) -> usize
     ensures { result ≡ spec.colour_of bundle.now }
 {
@@ -36,7 +36,7 @@ fn colour_of(bundle: &Bundle) -> usize
     usize::from(bundle.get(0).resource)
 }
 
-// Returns the bar of a hold.
+/// Returns the bar of a hold.
 fn hold_at(grid: &Grid, k: usize, bar: &Bar) -> Rect
     requires { IsChain grid.now.knots.items }
     ensures { result ≡ spec.hold_at (places_of grid.now) k bar.now }
@@ -64,7 +64,7 @@ pub(crate) fn add_holds(rects: &mut Vec<Rect>, grid: &Grid, bars: &[Bar]) -> Res
     Ok(())
 }
 
-// Returns the bundle of a hold, in its bar.
+/// Returns the bundle of a hold, in its bar.
 fn bundle_at(
     alloc: Global,
     names: &Names,

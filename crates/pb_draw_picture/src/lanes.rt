@@ -17,7 +17,7 @@ use pb_base::{Names, NoMemory};
 use pb_draw::drawing::{Lane, LaneStep, Standing};
 use std::alloc::Global;
 
-// Adds the line of an arm in a state; it has none unless it is live.
+/// Adds the line of an arm in a state; it has none unless it is live.
 fn add_line_in(
     rects: &mut Vec<Rect>,
     standing: Standing,
@@ -35,7 +35,7 @@ fn add_line_in(
     }
 }
 
-// Returns where the first of some steps is, if there is one.
+/// Returns where the first of some steps is, if there is one.
 fn next_of(steps: &[LaneStep]) -> Option<u64>
     ensures { result ≡ spec.next_of steps.now }
 {
@@ -45,7 +45,7 @@ fn next_of(steps: &[LaneStep]) -> Option<u64>
     }
 }
 
-// Adds the line of an arm at a height.
+/// Adds the line of an arm at a height.
 fn add_lines_in(
     rects: &mut Vec<Rect>,
     grid: &Grid,
@@ -76,7 +76,7 @@ pub(crate) fn add_lines(rects: &mut Vec<Rect>, grid: &Grid, lanes: &[Lane]) -> R
     Ok(())
 }
 
-// Returns the name of an arm, before its line.
+/// Returns the name of an arm, before its line.
 fn name_of(alloc: Global, names: &Names, grid: &Grid, lane: &Lane) -> Result<Label, NoMemory>
     ensures { IfOk result (λ l. text_of l ≡ spec.name_of_lane (names_view names.now) (places_of grid.now) lane.now) }
 {

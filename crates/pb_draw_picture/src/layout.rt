@@ -19,7 +19,7 @@ use pb_base::{Capital, Names, NoMemory};
 use pb_draw::drawing::Drawing;
 use std::alloc::Global;
 
-// Returns where the rows of the arms and of the resources end.
+/// Returns where the rows of the arms and of the resources end.
 fn foot_of_all(grid: &Grid, capital: &Capital, drawing: &Drawing) -> u64
     requires bottom { grid.now.bottom ≤ LOWEST }
     requires curves { length drawing.now.curves.items ≡ length capital.now }
@@ -30,7 +30,7 @@ fn foot_of_all(grid: &Grid, capital: &Capital, drawing: &Drawing) -> u64
     grid.bottom + drawing.curves.len() as u64 * CURVE_ROW
 }
 
-// Returns the rectangles of a drawing.
+/// Returns the rectangles of a drawing.
 fn rects_of(
     alloc: Global,
     capital: &Capital,
@@ -50,7 +50,7 @@ fn rects_of(
     Ok(rects)
 }
 
-// Returns the texts of a drawing.
+/// Returns the texts of a drawing.
 fn labels_of(
     alloc: Global,
     names: &Names,

@@ -16,7 +16,7 @@ use pb_base::{Event, Names, NoMemory, event_line};
 use pb_draw::drawing::Mark;
 use std::alloc::Global;
 
-// Returns what an event is.
+/// Returns what an event is.
 fn kind_of(event: &Event) -> TickKind
     ensures { result ≡ spec.kind_of event.now }
 {
@@ -29,7 +29,7 @@ fn kind_of(event: &Event) -> TickKind
     }
 }
 
-// Returns the mark of an event at a place.
+/// Returns the mark of an event at a place.
 fn mark_at(alloc: Global, names: &Names, x: u64, y: u64, event: &Event) -> Result<Tick, NoMemory>
     requires { HasNames (names_view names.now) event.now }
     ensures { IfOk result (λ t. sign_of t ≡ spec.sign_at (names_view names.now) x y event.now) }
@@ -47,7 +47,7 @@ fn mark_at(alloc: Global, names: &Names, x: u64, y: u64, event: &Event) -> Resul
     })
 }
 
-// Returns the position behind the pick of a mark.
+/// Returns the position behind the pick of a mark.
 fn behind(mark: &Mark) -> u64
     ensures { result ≡ mark.now.at + 1 }
 {
@@ -76,7 +76,7 @@ pub(crate) fn marks_of(
     Ok(ticks)
 }
 
-// Returns the number of a pick at a place.
+/// Returns the number of a pick at a place.
 fn number_at(alloc: Global, x: u64, number: u32) -> Result<Label, NoMemory>
     ensures { IfOk result (λ l. text_of l ≡ record { kind = LabelKind.Number; x = x; y = NUMBER_Y; text = decimal number }) }
 {

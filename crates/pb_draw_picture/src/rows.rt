@@ -12,14 +12,14 @@ use pb_draw::drawing::{Bar, Drawing, Lane, LaneStep, Mark, Standing};
 use std::alloc::Global;
 
 impl Row {
-    // Returns where the line of the arm is.
+    /// Returns where the line of the arm is.
     fn track(&self) -> u64
         ensures { result ≡ places.track_in self.now }
     {
         self.y + ABOVE
     }
 
-    // Returns how high the row is.
+    /// Returns how high the row is.
     fn height(&self) -> u64
         ensures height { result ≡ spec.height_in self.now }
         ensures low { result ≤ ROW_MOST }
@@ -32,7 +32,7 @@ impl Row {
     }
 }
 
-// Returns whether both are of one arm of one process.
+/// Returns whether both are of one arm of one process.
 fn is_arm(a: Pick, b: Pick) -> bool
     ensures { result ≡ places.is_arm a b }
 {
@@ -52,7 +52,7 @@ pub(crate) fn track_of(rows: &[Row], pick: Pick) -> u64
     0
 }
 
-// Returns whether an arm is live from a step on.
+/// Returns whether an arm is live from a step on.
 fn is_live(step: LaneStep) -> bool
     ensures { result ≡ lanes.is_live step.standing }
 {
@@ -83,7 +83,7 @@ struct Held {
     holds: u32,
 }
 
-// Returns each arm with no hold.
+/// Returns each arm with no hold.
 fn no_holds(alloc: Global, lanes: &[Lane]) -> Result<Vec<Held>, NoMemory> {
     let mut held = Vec::new(alloc);
     for lane in lanes {
@@ -95,7 +95,7 @@ fn no_holds(alloc: Global, lanes: &[Lane]) -> Result<Vec<Held>, NoMemory> {
     Ok(held)
 }
 
-// Returns how many holds an arm has, and gives it one more.
+/// Returns how many holds an arm has, and gives it one more.
 fn take_hold(held: &mut [Held], pick: Pick) -> u32 {
     for arm in held.iter_mut() {
         if is_arm(arm.pick, pick) {
@@ -107,7 +107,7 @@ fn take_hold(held: &mut [Held], pick: Pick) -> u32 {
     0
 }
 
-// Takes a hold from an arm.
+/// Takes a hold from an arm.
 fn return_hold(held: &mut [Held], pick: Pick) {
     for arm in held.iter_mut() {
         if is_arm(arm.pick, pick) {
@@ -117,7 +117,7 @@ fn return_hold(held: &mut [Held], pick: Pick) {
     }
 }
 
-// Takes all holds from a process, which has faulted.
+/// Takes all holds from a process, which has faulted.
 fn return_all(held: &mut [Held], process: u8) {
     for arm in held.iter_mut() {
         if arm.pick.process == process {
@@ -126,7 +126,7 @@ fn return_all(held: &mut [Held], process: u8) {
     }
 }
 
-// Returns the depth of each grant: how many holds its arm has before it.
+/// Returns the depth of each grant: how many holds its arm has before it.
 fn depths_of(alloc: Global, lanes: &[Lane], marks: &[Mark]) -> Result<Vec<u32>, NoMemory> {
     let mut held = no_holds(alloc, lanes)?;
     let mut depths = Vec::new(alloc);
@@ -141,7 +141,7 @@ fn depths_of(alloc: Global, lanes: &[Lane], marks: &[Mark]) -> Result<Vec<u32>, 
     Ok(depths)
 }
 
-// Returns the depth of the hold with a number.
+/// Returns the depth of the hold with a number.
 fn depth_at(depths: &[u32], k: usize) -> u32
     ensures depth { result ≡ slice_index_or depths.now k 0 }
     ensures few { result < 2 ^ 32 }
@@ -152,7 +152,7 @@ fn depth_at(depths: &[u32], k: usize) -> u32
     }
 }
 
-// Returns for how many holds, one below the other, an arm needs room.
+/// Returns for how many holds, one below the other, an arm needs room.
 fn room_for(pick: Pick, bars: &[Bar], depths: &[u32]) -> u64
     ensures room { spec.HasRoom pick bars.now depths.now result }
     ensures few { result ≤ 2 ^ 32 }
@@ -174,7 +174,7 @@ pub(crate) struct Rows {
     pub end: u64,
 }
 
-// Returns the row of an arm at a height.
+/// Returns the row of an arm at a height.
 fn row_at(y: u64, lane: &Lane, bars: &[Bar], depths: &[u32]) -> Row
     requires { y ≤ LOWEST }
     ensures row { spec.IsRowOf lane.now bars.now depths.now result }
@@ -188,7 +188,7 @@ fn row_at(y: u64, lane: &Lane, bars: &[Bar], depths: &[u32]) -> Row
     }
 }
 
-// Returns the rows of arms, one below the other, and where they end.
+/// Returns the rows of arms, one below the other, and where they end.
 fn pile_of(
     alloc: Global,
     lanes: &[Lane],

@@ -9,7 +9,7 @@ use pb_base::NoMemory;
 use pb_base::writing::{put, put_number};
 use std::alloc::Global;
 
-// Returns the word for what a rectangle stands for.
+/// Returns the word for what a rectangle stands for.
 fn rect_word(kind: RectKind) -> &'static [u8]
     ensures { result.now ≡ spec.rect_word kind }
 {
@@ -24,7 +24,7 @@ fn rect_word(kind: RectKind) -> &'static [u8]
     }
 }
 
-// Returns the word for what a text stands for.
+/// Returns the word for what a text stands for.
 fn label_word(kind: LabelKind) -> &'static [u8]
     ensures { result.now ≡ spec.label_word kind }
 {
@@ -39,7 +39,7 @@ fn label_word(kind: LabelKind) -> &'static [u8]
     }
 }
 
-// Returns the word for what an event is.
+/// Returns the word for what an event is.
 fn tick_word(kind: TickKind) -> &'static [u8]
     ensures { result.now ≡ spec.tick_word kind }
 {
@@ -52,7 +52,7 @@ fn tick_word(kind: TickKind) -> &'static [u8]
     }
 }
 
-// Returns the outline of a mark, from its place on.
+/// Returns the outline of a mark, from its place on.
 fn outline(kind: TickKind) -> &'static [u8]
     ensures { result.now ≡ spec.outline kind }
 {
@@ -65,7 +65,7 @@ fn outline(kind: TickKind) -> &'static [u8]
     }
 }
 
-// Appends the word for the colour of a rectangle to `text`, if it has one.
+/// Appends the word for the colour of a rectangle to `text`, if it has one.
 fn put_colour(text: &mut Vec<u8>, kind: RectKind) -> Result<(), NoMemory>
     ensures { OnOk result (text.new.items ≡ text.old.items ++ spec.colour_text kind) }
 {
@@ -80,7 +80,7 @@ fn put_colour(text: &mut Vec<u8>, kind: RectKind) -> Result<(), NoMemory>
     }
 }
 
-// Appends a rectangle to `text`.
+/// Appends a rectangle to `text`.
 fn put_rect(text: &mut Vec<u8>, rect: &Rect) -> Result<(), NoMemory>
     ensures { OnOk result (text.new.items ≡ text.old.items ++ spec.rect_text rect.now) }
 {
@@ -96,7 +96,7 @@ fn put_rect(text: &mut Vec<u8>, rect: &Rect) -> Result<(), NoMemory>
     Ok(())
 }
 
-// Appends a label to `text`.
+/// Appends a label to `text`.
 fn put_label(text: &mut Vec<u8>, label: &Label) -> Result<(), NoMemory>
     ensures { OnOk result (text.new.items ≡ text.old.items ++ spec.label_text label.now) }
 {
@@ -112,7 +112,7 @@ fn put_label(text: &mut Vec<u8>, label: &Label) -> Result<(), NoMemory>
     Ok(())
 }
 
-// Appends the mark of an event to `text`.
+/// Appends the mark of an event to `text`.
 fn put_tick(text: &mut Vec<u8>, tick: &Tick) -> Result<(), NoMemory>
     ensures { OnOk result (text.new.items ≡ text.old.items ++ spec.tick_text tick.now) }
 {
@@ -135,14 +135,14 @@ fn put_tick(text: &mut Vec<u8>, tick: &Tick) -> Result<(), NoMemory>
     Ok(())
 }
 
-// Returns what each kind of shape looks like.
+/// Returns what each kind of shape looks like.
 fn style() -> &'static [u8]
     ensures { result.now ≡ spec.style }
 {
     STYLE
 }
 
-// Appends what a picture begins with to `text`.
+/// Appends what a picture begins with to `text`.
 fn put_head(text: &mut Vec<u8>, picture: &Picture) -> Result<(), NoMemory>
     ensures { OnOk result (text.new.items ≡ text.old.items ++ spec.head_text picture.now) }
 {
@@ -159,15 +159,15 @@ fn put_head(text: &mut Vec<u8>, picture: &Picture) -> Result<(), NoMemory>
     Ok(())
 }
 
-// How many colours there are: the first eight resources differ, and the ninth has the colour of the first. They are
-// those of Okabe and Ito (Color Universal Design, 2008), lighter or darker, which differ to colour-blind eyes too.
+/// How many colours there are: the first eight resources differ, and the ninth has the colour of the first. They are
+/// those of Okabe and Ito (Color Universal Design, 2008), lighter or darker, which differ to colour-blind eyes too.
 const COLOURS: usize = 8;
 
-// What each kind of shape looks like.
+/// What each kind of shape looks like.
 const STYLE: &[u8] =
     b"\">\n<title>A run, pick by pick</title>\n<style>\ntext{font:11px monospace;fill:#000}\npath{fill:#000}\n.name{font-weight:bold}\n.number,.silent,.note{fill:#555;font-size:10px}\n.amount{font-size:10px}\n.paper{fill:#fff}\n.gap{fill:#eee}\n.going{fill:#999}\n.short{fill:url(#hatch);stroke:#000;stroke-width:.5}\n.kept{fill:url(#dots);stroke:#000;stroke-width:.5}\n.hatch{stroke:#000}\n.deadlock{fill:#c00;font-weight:bold}\n.hold{stroke:#000;stroke-width:.5}\n.level{fill:#333}\n.r0{fill:#bfe1f6}\n.r1{fill:#f7dca3}\n.r2{fill:#a3dccb}\n.r3{fill:#edcbdd}\n.r4{fill:#f9f5b9}\n.r5{fill:#8fb8dc}\n.r6{fill:#f1c4a6}\n.r7{fill:#d9d9d9}\n.print path{fill:#fff;stroke:#000;stroke-width:1.5}\n.fault path{stroke:#c00;stroke-width:2.5}\n@media (prefers-color-scheme:dark){\ntext{fill:#eee}\npath{fill:#eee}\n.number,.silent,.note{fill:#aaa}\n.paper{fill:#1b1b1b}\n.gap{fill:#333}\n.going{fill:#888}\n.short,.kept{stroke:#eee}\n.hatch{stroke:#eee}\n.deadlock{fill:#f66}\n.hold{stroke:#eee}\n.level{fill:#ddd}\n.r0{fill:#1f5f86}\n.r1{fill:#7a5600}\n.r2{fill:#00604a}\n.r3{fill:#74405d}\n.r4{fill:#6b6600}\n.r5{fill:#00436a}\n.r6{fill:#7d3800}\n.r7{fill:#555}\n.print path{fill:#1b1b1b;stroke:#eee}\n.fault path{stroke:#f66}\n}\n</style>\n<defs><pattern id=\"hatch\" width=\"5\" height=\"5\" patternUnits=\"userSpaceOnUse\"><path class=\"hatch\" d=\"M0 5L5 0\"/></pattern><pattern id=\"dots\" width=\"8\" height=\"8\" patternUnits=\"userSpaceOnUse\"><path d=\"M2 4a2 2 0 1 0 4 0a2 2 0 1 0-4 0z\"/></pattern></defs>\n<rect class=\"paper\" width=\"100%\" height=\"100%\"/>\n";
 
-// Appends rectangles to `text`.
+/// Appends rectangles to `text`.
 fn put_rects(text: &mut Vec<u8>, rects: &[Rect]) -> Result<(), NoMemory>
     ensures { OnOk result (text.new.items ≡ text.old.items ++ flat_map spec.rect_text rects.now) }
 {
@@ -177,7 +177,7 @@ fn put_rects(text: &mut Vec<u8>, rects: &[Rect]) -> Result<(), NoMemory>
     Ok(())
 }
 
-// Appends labels to `text`.
+/// Appends labels to `text`.
 fn put_labels(text: &mut Vec<u8>, labels: &[Label]) -> Result<(), NoMemory>
     ensures { OnOk result (text.new.items ≡ text.old.items ++ flat_map spec.label_text labels.now) }
 {
@@ -187,7 +187,7 @@ fn put_labels(text: &mut Vec<u8>, labels: &[Label]) -> Result<(), NoMemory>
     Ok(())
 }
 
-// Appends the marks of events to `text`.
+/// Appends the marks of events to `text`.
 fn put_ticks(text: &mut Vec<u8>, ticks: &[Tick]) -> Result<(), NoMemory>
     ensures { OnOk result (text.new.items ≡ text.old.items ++ flat_map spec.tick_text ticks.now) }
 {

@@ -86,7 +86,7 @@ const CALLS: [Call; 7] = [
     },
 ];
 
-// Returns the words of a call: the program's name, and those of the text, which spaces separate.
+/// Returns the words of a call: the program's name, and those of the text, which spaces separate.
 fn words_of<'a>(alloc: Global, text: &'a str) -> Option<Vec<&'a str>> {
     let mut words = Vec::new(alloc);
     words.push("parbegin").ok()?;
@@ -96,14 +96,14 @@ fn words_of<'a>(alloc: Global, text: &'a str) -> Option<Vec<&'a str>> {
     Some(words)
 }
 
-// Returns whether the output is that of the call.
+/// Returns whether the output is that of the call.
 fn is_output_of(output: &[u8], call: &Call) -> bool {
     output.starts_with(call.first)
         && output.ends_with(call.last)
         && call.length.is_none_or(|length| output.len() == length)
 }
 
-// Returns whether a call writes what it should, with its status.
+/// Returns whether a call writes what it should, with its status.
 fn writes<R: AllocGlobal + Threads + Wait + Sync>(rt: &R, call: &Call) -> Option<bool> {
     let alloc = rt.alloc();
     let words = words_of(alloc, call.words)?;
@@ -120,7 +120,7 @@ fn does_what_the_words_say(rt: HostRuntime) {
     }
 }
 
-// Returns whether this page is written, of an input that no read succeeds on.
+/// Returns whether this page is written, of an input that no read succeeds on.
 fn is_explained<R: AllocGlobal + Threads + Wait + Sync>(
     rt: &R,
     words: &str,
@@ -142,7 +142,7 @@ fn explains(rt: HostRuntime) {
     assert!(rt; is_explained(&rt, "explain", list) == Some(true));
 }
 
-// Returns the bytes that the call of an example reads.
+/// Returns the bytes that the call of an example reads.
 fn bytes_of(alloc: Global, input: ExampleInput) -> Result<Vec<u8>, AllocError> {
     let mut bytes = Vec::new(alloc);
     match input {
@@ -159,7 +159,7 @@ fn bytes_of(alloc: Global, input: ExampleInput) -> Result<Vec<u8>, AllocError> {
     Ok(bytes)
 }
 
-// Returns whether the call of an example writes its refusal line alone, and this line has the code.
+/// Returns whether the call of an example writes its refusal line alone, and this line has the code.
 fn is_refused<R: AllocGlobal + Threads + Wait + Sync>(
     rt: &R,
     code: Code,

@@ -17,7 +17,7 @@ use std::alloc::Global;
 use std::sync::Wait;
 use std::thread::Threads;
 
-// Runs the code of an object, or writes why there is none.
+/// Runs the code of an object, or writes why there is none.
 fn run_object<O: Output, R: Threads + Wait + Sync>(
     rt: &R,
     alloc: Global,

@@ -64,7 +64,7 @@ pub fn record_engine<I: Input, O: Output, R: Threads + Wait + Sync>(
     }
 }
 
-// Runs a text, and writes it with its picks.
+/// Runs a text, and writes it with its picks.
 fn record_text<O: Output, R: Threads + Wait + Sync>(
     rt: &R,
     alloc: Global,
@@ -87,8 +87,8 @@ fn record_text<O: Output, R: Threads + Wait + Sync>(
     }
 }
 
-// Returns the text and the picks of a run of its code, or the line that they are too long or that there is no
-// thread.
+/// Returns the text and the picks of a run of its code, or the line that they are too long or that there is no
+/// thread.
 fn recording<R: Threads + Wait + Sync>(
     rt: &R,
     alloc: Global,
@@ -119,8 +119,8 @@ fn recording<R: Threads + Wait + Sync>(
     })
 }
 
-// Returns the picks of a run of the code, with their status: drawn ones if there is a seed, else those that workers
-// report; nothing if their lines would be too long for an input. With a seed the only fault is out of memory.
+/// Returns the picks of a run of the code, with their status: drawn ones if there is a seed, else those that workers
+/// report; nothing if their lines would be too long for an input. With a seed the only fault is out of memory.
 fn record_picks<R: Threads + Wait + Sync>(
     rt: &R,
     alloc: Global,
@@ -148,7 +148,7 @@ fn record_picks<R: Threads + Wait + Sync>(
     }
 }
 
-// Returns the picks that workers report, with their status: under the banker there is no deadlock.
+/// Returns the picks that workers report, with their status: under the banker there is no deadlock.
 fn reported<R: Threads + Wait + Sync>(
     rt: &R,
     alloc: Global,
@@ -195,7 +195,7 @@ pub fn drawn_run(
     }))
 }
 
-// Returns the status of a run that has ended so.
+/// Returns the status of a run that has ended so.
 fn status_of(ending: Ending) -> Status
     ensures { result ≡ recorded_status ending }
 {
@@ -205,7 +205,7 @@ fn status_of(ending: Ending) -> Status
     }
 }
 
-// Returns a fault if out of memory, or the line that a thread could not be started.
+/// Returns a fault if out of memory, or the line that a thread could not be started.
 fn no_run(alloc: Global, fault: RunFault) -> Result<Reply, NoMemory>
     ensures { IfOk result (λ r.
         (fault ≢ RunFault.NoMemory) × (r.text.items ≡ line (codes "threads")) × (r.status ≡ Status.Threads)) }

@@ -51,7 +51,7 @@ pub fn tell_run<O: Output, R: Threads + Wait + Sync>(
     }
 }
 
-// Writes the line of each event that workers report, and the last line.
+/// Writes the line of each event that workers report, and the last line.
 fn tell_report<O: Output>(
     alloc: Global,
     verified: &Verified,
@@ -70,7 +70,7 @@ fn tell_report<O: Output>(
     }
 }
 
-// Writes the last line of a run.
+/// Writes the last line of a run.
 fn tell_outcome<O: Output>(page: Page, output: &mut O, report: &Report, steps: u32) -> Status
     ensures text { Tells (SaysOfOutcome (events_of report.now.trace.entries) steps page report.now.outcome)
         (O.written output.old) (O.written output.new) result }
@@ -87,7 +87,7 @@ fn tell_outcome<O: Output>(page: Page, output: &mut O, report: &Report, steps: u
     }
 }
 
-// Writes that the steps were used up.
+/// Writes that the steps were used up.
 fn tell_limit<O: Output>(mut page: Page, output: &mut O, steps: u32) -> Status
     ensures text { Says (O.written output.old) (O.written output.new) (page ++ line (codes "limit " ++ decimal steps)) Status.Limit result }
     ensures faults { TellsWriteFaults (O.failures output.old) (O.failures output.new) result }

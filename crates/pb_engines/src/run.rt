@@ -42,7 +42,7 @@ pub fn run_engine<I: Input, O: Output, R: Threads + Wait + Sync>(
     }
 }
 
-// Runs a text.
+/// Runs a text.
 fn run_text<O: Output, R: Threads + Wait + Sync>(
     rt: &R,
     alloc: Global,

@@ -56,7 +56,7 @@ pub fn entry_for(code: Code) -> Entry
     *entry_at(code)
 }
 
-// Returns the same by reference.
+/// Returns the same by reference.
 fn entry_at(code: Code) -> &'static Entry
     ensures { plain_entry result.now ≡ entry_of code }
 {

@@ -16,7 +16,7 @@ use pb_command_io::reply::{Reply, tell};
 use pb_options::Code;
 use std::alloc::Global;
 
-// Appends a line to a text.
+/// Appends a line to a text.
 fn put_line(text: &mut Vec<u8>, line: &str) -> Result<(), NoMemory>
     ensures { OnOk result (text.new.items ≡ text.old.items ++ line_of line.now) }
 {
@@ -25,7 +25,7 @@ fn put_line(text: &mut Vec<u8>, line: &str) -> Result<(), NoMemory>
     Ok(())
 }
 
-// Appends the first line of a page to a text.
+/// Appends the first line of a page to a text.
 fn put_first_line(text: &mut Vec<u8>, code: Code, entry: &Entry) -> Result<(), NoMemory>
     ensures { OnOk result (text.new.items ≡ text.old.items ++ title_line code (plain_entry entry.now)) }
 {
@@ -34,7 +34,7 @@ fn put_first_line(text: &mut Vec<u8>, code: Code, entry: &Entry) -> Result<(), N
     put_line(text, entry.summary)
 }
 
-// Appends a call that reads a text to a text, as a shell takes it.
+/// Appends a call that reads a text to a text, as a shell takes it.
 fn put_call_with_text(text: &mut Vec<u8>, command: &str, given: &str) -> Result<(), NoMemory>
     ensures { OnOk result (text.new.items ≡ text.old.items ++ shell_text command.now (Text given.now)) }
 {
@@ -46,7 +46,7 @@ fn put_call_with_text(text: &mut Vec<u8>, command: &str, given: &str) -> Result<
     Ok(())
 }
 
-// Appends what makes the first line and a repeated line to a text, as a shell takes it.
+/// Appends what makes the first line and a repeated line to a text, as a shell takes it.
 fn put_repetition(text: &mut Vec<u8>, repeated: &str, times: u32) -> Result<(), NoMemory>
     ensures { OnOk result (text.new.items ≡ text.old.items ++ repetition_text repeated.now times) }
 {
@@ -58,7 +58,7 @@ fn put_repetition(text: &mut Vec<u8>, repeated: &str, times: u32) -> Result<(), 
     Ok(())
 }
 
-// Appends a call that reads a repeated line to a text, as a shell takes it.
+/// Appends a call that reads a repeated line to a text, as a shell takes it.
 fn put_call_with_lines(
     text: &mut Vec<u8>,
     command: &str,
@@ -73,7 +73,7 @@ fn put_call_with_lines(
     Ok(())
 }
 
-// Appends a call to a text, as a shell takes it.
+/// Appends a call to a text, as a shell takes it.
 fn put_call(text: &mut Vec<u8>, command: &str, input: ExampleInput) -> Result<(), NoMemory>
     ensures { OnOk result (text.new.items ≡ text.old.items ++ shell_text command.now (plain_input input)) }
 {
@@ -83,7 +83,7 @@ fn put_call(text: &mut Vec<u8>, command: &str, input: ExampleInput) -> Result<()
     }
 }
 
-// Appends a call that is refused to a text, with its refusal line.
+/// Appends a call that is refused to a text, with its refusal line.
 fn put_example(text: &mut Vec<u8>, example: &Example) -> Result<(), NoMemory>
     ensures { OnOk result (text.new.items ≡ text.old.items ++ example_text (plain_example example.now)) }
 {
@@ -94,7 +94,7 @@ fn put_example(text: &mut Vec<u8>, example: &Example) -> Result<(), NoMemory>
     Ok(())
 }
 
-// Appends the example of a page to a text, if it has one.
+/// Appends the example of a page to a text, if it has one.
 fn put_any_example(text: &mut Vec<u8>, example: Option<Example>) -> Result<(), NoMemory>
     ensures { OnOk result (text.new.items ≡ text.old.items ++ examples_text (option_map plain_example example)) }
 {
@@ -104,7 +104,7 @@ fn put_any_example(text: &mut Vec<u8>, example: Option<Example>) -> Result<(), N
     }
 }
 
-// Appends the first line and the meaning to a text.
+/// Appends the first line and the meaning to a text.
 fn put_meaning(text: &mut Vec<u8>, code: Code, entry: &Entry) -> Result<(), NoMemory>
     ensures { OnOk result (text.new.items ≡ text.old.items ++ meaning_text code (plain_entry entry.now)) }
 {
@@ -114,7 +114,7 @@ fn put_meaning(text: &mut Vec<u8>, code: Code, entry: &Entry) -> Result<(), NoMe
     Ok(())
 }
 
-// Appends the page of an entry to a text.
+/// Appends the page of an entry to a text.
 fn put_entry(text: &mut Vec<u8>, code: Code, entry: &Entry) -> Result<(), NoMemory>
     ensures { OnOk result (text.new.items ≡ text.old.items ++ page_of_entry code (plain_entry entry.now)) }
 {
@@ -125,14 +125,14 @@ fn put_entry(text: &mut Vec<u8>, code: Code, entry: &Entry) -> Result<(), NoMemo
     Ok(())
 }
 
-// Appends the page of a code to a text.
+/// Appends the page of a code to a text.
 fn put_page(text: &mut Vec<u8>, code: Code) -> Result<(), NoMemory>
     ensures { OnOk result (text.new.items ≡ text.old.items ++ page_of code) }
 {
     put_entry(text, code, &entry_for(code))
 }
 
-// Appends a line for each of these codes to a text.
+/// Appends a line for each of these codes to a text.
 fn put_lines(text: &mut Vec<u8>, listed: &[Code]) -> Result<(), NoMemory>
     ensures { OnOk result (text.new.items ≡ text.old.items ++ list_of_codes listed.now) }
 {
@@ -142,7 +142,7 @@ fn put_lines(text: &mut Vec<u8>, listed: &[Code]) -> Result<(), NoMemory>
     Ok(())
 }
 
-// Appends the page of the code that is asked for to a text, or the list of all codes.
+/// Appends the page of the code that is asked for to a text, or the list of all codes.
 fn put_explanation(text: &mut Vec<u8>, asked: Option<Code>) -> Result<(), NoMemory>
     ensures { OnOk result (text.new.items ≡ text.old.items ++ explanation_of asked) }
 {
@@ -152,7 +152,7 @@ fn put_explanation(text: &mut Vec<u8>, asked: Option<Code>) -> Result<(), NoMemo
     }
 }
 
-// Returns all that is said.
+/// Returns all that is said.
 fn explanation(alloc: Global, asked: Option<Code>) -> Result<Reply, NoMemory>
     ensures { IfOk result (λ reply. SaysOfExplain asked reply.text.items reply.status) }
 {

@@ -29,7 +29,7 @@ pub fn explain_refusal<E: Output>(alloc: Global, words: &[&str], bytes: &[u8], e
     let _ = write_all(error, &message);
 }
 
-// Returns the message of what a command refused, or nothing if it refuses no input.
+/// Returns the message of what a command refused, or nothing if it refuses no input.
 fn message_for(alloc: Global, options: &Options, bytes: &[u8]) -> Option<Result<Vec<u8>, NoMemory>>
     ensures { IfSome result (λ made. IfOk made (λ message. TellsRefused options.now bytes.now message.items)) }
 {
@@ -64,7 +64,7 @@ fn message_for(alloc: Global, options: &Options, bytes: &[u8]) -> Option<Result<
     }
 }
 
-// Returns how `emit` reads its input.
+/// Returns how `emit` reads its input.
 fn reading_of(format: Format) -> Reading
     ensures { result ≡ format_reading format }
 {
@@ -74,7 +74,7 @@ fn reading_of(format: Format) -> Reading
     }
 }
 
-// Returns how `outcomes` reads its input, by whether it is to compare prints.
+/// Returns how `outcomes` reads its input, by whether it is to compare prints.
 fn reading_for(expect: bool) -> Reading
     ensures { result ≡ outcomes_reading expect }
 {

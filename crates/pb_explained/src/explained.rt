@@ -43,7 +43,7 @@ pub fn answer_and_explain<I: Input, O: Output, E: Output, R: Threads + Wait + Sy
     status
 }
 
-// Answers a call, as it is or in JSON lines.
+/// Answers a call, as it is or in JSON lines.
 fn answer_as<I: Input, O: Output, R: Threads + Wait + Sync>(
     rt: &R,
     alloc: Global,
@@ -64,7 +64,7 @@ fn answer_as<I: Input, O: Output, R: Threads + Wait + Sync>(
     }
 }
 
-// Returns whether a word is the first behind the program's name.
+/// Returns whether a word is the first behind the program's name.
 fn is_first(words: &[&str], word: &str) -> bool
     ensures { IsTrue result ↔ IsFirst word.now words.now }
 {
@@ -74,8 +74,8 @@ fn is_first(words: &[&str], word: &str) -> bool
     }
 }
 
-// Returns the words without this one, if it is the first. It is then in the place of the program's name, which is
-// not looked at.
+/// Returns the words without this one, if it is the first. It is then in the place of the program's name, which is
+/// not looked at.
 fn without<'w, 't>(words: &'w [&'t str], word: &str) -> &'w [&'t str]
     ensures { IsWithout word.now words.now result.now }
 {

@@ -8,7 +8,7 @@ ghost use Rattle.pb_frames.specs.Heads as spec;
 
 use pb_code::is_numeral;
 
-// What the line that says the size begins with.
+/// What the line that says the size begins with.
 const LENGTH: &[u8] = b"Content-Length: ";
 
 /// What a line of a header comes to, with those before it.
@@ -22,7 +22,7 @@ pub enum LineEnd {
     Wrong,
 }
 
-// Returns the number that up to eight digits write.
+/// Returns the number that up to eight digits write.
 fn value(digits: &[u8]) -> usize
     requires digits { list_all is_ascii_digit digits.now ≡ true }
     requires few { length digits.now < 9 }
@@ -35,7 +35,7 @@ fn value(digits: &[u8]) -> usize
     number
 }
 
-// Returns the size that a word of one to eight digits writes.
+/// Returns the size that a word of one to eight digits writes.
 fn size_in(word: &[u8]) -> Option<usize>
     ensures { result ≡ spec.size_of word.now }
 {
@@ -46,7 +46,7 @@ fn size_in(word: &[u8]) -> Option<usize>
     }
 }
 
-// Returns what a line, given without its end, comes to.
+/// Returns what a line, given without its end, comes to.
 fn line_says(line: &[u8], said: Option<usize>) -> LineEnd
     ensures { result ≡ spec.of_line line.now said }
 {

@@ -9,7 +9,7 @@ use itoa::Buffer;
 use pb_base::device::{Output, write_all};
 use std::alloc::{AllocError, Global};
 
-// Returns a content with its header.
+/// Returns a content with its header.
 fn with_header(alloc: Global, content: &[u8]) -> Result<Vec<u8>, AllocError>
     ensures { IfOk result (λ text. text.items ≡ framed content.now) }
 {

@@ -9,7 +9,7 @@ use pb_base::writing::{put, put_digits};
 /// The greatest integer up to which a float of 64 bits has each integer.
 const MAX_EXACT: i64 = 9_007_199_254_740_991;
 
-// Returns whether a reader that keeps numbers as floats of 64 bits keeps this one.
+/// Returns whether a reader that keeps numbers as floats of 64 bits keeps this one.
 fn is_exact(value: i64) -> bool
     ensures { result ≡ is_exact value }
 {
@@ -39,7 +39,7 @@ pub fn put_comma(out: &mut Vec<u8>, item: usize) -> Result<(), NoMemory>
     put(out, b",")
 }
 
-// Appends an item of a list of integers, with the comma before it.
+/// Appends an item of a list of integers, with the comma before it.
 fn put_item(out: &mut Vec<u8>, item: usize, value: i64) -> Result<(), NoMemory>
     ensures { OnOk result (out.new.items ≡ out.old.items ++ (comma item ++ integer_text value)) }
 {

@@ -7,7 +7,7 @@ ghost use Rattle.pb_json.specs.Strings.{escaped, hex_digit, is_plain, string_tex
 use pb_base::NoMemory;
 use pb_base::writing::put;
 
-// Returns the digit of base 16 of a number.
+/// Returns the digit of base 16 of a number.
 fn hex_digit(number: u8) -> u8
     requires { number < 16 }
     ensures { result ≡ hex_digit number }
@@ -19,14 +19,14 @@ fn hex_digit(number: u8) -> u8
     }
 }
 
-// Returns whether a byte stands for itself, if it is no quote and no backslash.
+/// Returns whether a byte stands for itself, if it is no quote and no backslash.
 fn is_plain(byte: u8) -> bool
     ensures { result ≡ is_plain byte }
 {
     byte >= 32 && byte < 127 && byte != b'<'
 }
 
-// Appends what stands for a byte inside a string.
+/// Appends what stands for a byte inside a string.
 fn put_byte(out: &mut Vec<u8>, byte: u8) -> Result<(), NoMemory>
     ensures { OnOk result (out.new.items ≡ out.old.items ++ escaped byte) }
 {

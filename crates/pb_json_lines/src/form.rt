@@ -38,7 +38,7 @@ pub struct Form {
     pub pattern: &'static str,
 }
 
-// The forms of the lines that belong to an outcome or a deadlock.
+/// The forms of the lines that belong to an outcome or a deadlock.
 static PARTS: [Form; 10] = [
     Form {
         section: Section::Processes,
@@ -92,7 +92,7 @@ static PARTS: [Form; 10] = [
     },
 ];
 
-// All other forms but the last, in the order in which they are tried.
+/// All other forms but the last, in the order in which they are tried.
 static FORMS: [Form; 43] = [
     Form {
         section: Section::Alone,
@@ -311,35 +311,35 @@ static FORMS: [Form; 43] = [
     },
 ];
 
-// The form of any other line.
+/// The form of any other line.
 static OTHER: Form = Form {
     section: Section::Alone,
     first: "\"kind\":\"line\"",
     pattern: "W",
 };
 
-// Returns the forms of the lines that belong to an outcome or a deadlock.
+/// Returns the forms of the lines that belong to an outcome or a deadlock.
 fn parts() -> &'static [Form]
     ensures { map spec.plain_form result.now ≡ spec.parts }
 {
     &PARTS
 }
 
-// Returns the other forms.
+/// Returns the other forms.
 fn forms() -> &'static [Form]
     ensures { map spec.plain_form result.now ≡ spec.forms }
 {
     &FORMS
 }
 
-// Returns the form of any other line.
+/// Returns the form of any other line.
 fn other() -> &'static Form
     ensures { spec.plain_form result.now ≡ spec.other }
 {
     &OTHER
 }
 
-// Returns the first of these forms that a line fits, or another one.
+/// Returns the first of these forms that a line fits, or another one.
 fn first_of(forms: &'static [Form], otherwise: &'static Form, line: &[u8]) -> &'static Form
     ensures { spec.plain_form result.now ≡ spec.first_of (map spec.plain_form forms.now) (spec.plain_form otherwise.now) line.now }
 {

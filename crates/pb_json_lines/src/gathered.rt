@@ -69,7 +69,7 @@ impl Output for Gathered {
     }
 }
 
-// Writes that memory does not suffice.
+/// Writes that memory does not suffice.
 fn tell_memory<O: Output>(alloc: Global, output: &mut O) -> Status
     ensures text { Says (O.written output.old) (O.written output.new) memory_object Status.Memory result }
     ensures faults { TellsWriteFaults (O.failures output.old) (O.failures output.new) result }
@@ -77,7 +77,7 @@ fn tell_memory<O: Output>(alloc: Global, output: &mut O) -> Status
     Page::new(alloc).finish_with(output, b"{\"kind\":\"memory\"}", Status::Memory)
 }
 
-// Writes the JSON lines of a text, and returns the status if no write failed.
+/// Writes the JSON lines of a text, and returns the status if no write failed.
 fn tell_lines<O: Output>(alloc: Global, text: &[u8], given: Status, output: &mut O) -> Status
     requires { given ≢ Status.Device }
     ensures text { Says (O.written output.old) (O.written output.new) (json_lines text.now) given result

@@ -7,7 +7,7 @@ ghost use Rattle.pb_json_lines.specs.JsonLines as spec;
 use pb_base::NoMemory;
 use std::alloc::Global;
 
-// Returns the place of the first line feed.
+/// Returns the place of the first line feed.
 fn line_feed(text: &[u8]) -> Option<usize>
     ensures place { result ≡ position (λ b. b == 10) text.now }
     ensures within { IfSome result (λ at. at < length text.now) }
@@ -15,14 +15,14 @@ fn line_feed(text: &[u8]) -> Option<usize>
     text.iter().position(|b| *b == b'\n')
 }
 
-// A line without its line feed, and what is behind it.
+/// A line without its line feed, and what is behind it.
 #[derive(Clone, Copy)]
 struct Cut<'t> {
     line: &'t [u8],
     rest: &'t [u8],
 }
 
-// Cuts off the first line of a text that is not empty.
+/// Cuts off the first line of a text that is not empty.
 fn first_line(text: &[u8]) -> Cut<'_>
     requires { 0 < length text.now }
     ensures lines { spec.lines_of text.now ≡ result.line.now ∷ spec.lines_of result.rest.now }

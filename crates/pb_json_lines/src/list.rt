@@ -32,7 +32,7 @@ pub(crate) fn is_name_byte(b: u8) -> bool
     b.is_ascii_alphabetic() || b.is_ascii_digit() || b == b'_'
 }
 
-// Returns where a reader is behind a number, at a byte that is no digit.
+/// Returns where a reader is behind a number, at a byte that is no digit.
 fn behind_number(pairs: bool, byte: u8) -> Mode
     ensures { result ≡ cond (byte == 32) (cond pairs Mode.FirstLetter Mode.FirstDigit) Mode.Wrong }
 {
@@ -46,14 +46,14 @@ fn behind_number(pairs: bool, byte: u8) -> Mode
     }
 }
 
-// Returns the mode, if the test holds.
+/// Returns the mode, if the test holds.
 fn only_if(test: bool, mode: Mode) -> Mode
     ensures { result ≡ cond test mode Mode.Wrong }
 {
     if test { mode } else { Mode::Wrong }
 }
 
-// Returns where a reader is behind one byte more.
+/// Returns where a reader is behind one byte more.
 fn next(pairs: bool, mode: Mode, byte: u8) -> Mode
     ensures { result ≡ spec.next pairs mode byte }
 {
@@ -69,7 +69,7 @@ fn next(pairs: bool, mode: Mode, byte: u8) -> Mode
     }
 }
 
-// Returns whether a list may end there.
+/// Returns whether a list may end there.
 fn may_end(pairs: bool, mode: Mode) -> bool
     ensures { result ≡ spec.may_end pairs mode }
 {
@@ -91,7 +91,7 @@ pub(crate) fn is_list(pairs: bool, word: &[u8]) -> bool
     may_end(pairs, mode)
 }
 
-// Returns what stands for a space.
+/// Returns what stands for a space.
 fn parting(pairs: bool, mode: Mode) -> &'static [u8]
     ensures { result.now ≡ spec.parting pairs mode }
 {
@@ -104,7 +104,7 @@ fn parting(pairs: bool, mode: Mode) -> &'static [u8]
     }
 }
 
-// Appends what is said of a byte.
+/// Appends what is said of a byte.
 fn put_said(out: &mut Vec<u8>, pairs: bool, mode: Mode, byte: u8) -> Result<(), NoMemory>
     ensures { OnOk result (out.new.items ≡ out.old.items ++ spec.said pairs mode byte) }
 {
@@ -114,7 +114,7 @@ fn put_said(out: &mut Vec<u8>, pairs: bool, mode: Mode, byte: u8) -> Result<(), 
     put(out, &[byte])
 }
 
-// Appends what is said of the bytes of a list.
+/// Appends what is said of the bytes of a list.
 fn put_inside(out: &mut Vec<u8>, pairs: bool, word: &[u8]) -> Result<(), NoMemory>
     ensures { OnOk result (out.new.items ≡ out.old.items ++ spec.inside pairs Mode.Begin word.now) }
 {
@@ -126,7 +126,7 @@ fn put_inside(out: &mut Vec<u8>, pairs: bool, word: &[u8]) -> Result<(), NoMemor
     Ok(())
 }
 
-// Returns the end of the last pair.
+/// Returns the end of the last pair.
 fn closing(pairs: bool) -> &'static [u8]
     ensures { result.now ≡ spec.closing pairs }
 {

@@ -29,7 +29,7 @@ pub enum Marker {
     Plural,
 }
 
-// Returns whether a byte is one of these.
+/// Returns whether a byte is one of these.
 fn is_among(bytes: &[u8], byte: u8) -> bool
     ensures { result ≡ list_any (λ b. b == byte) bytes.now }
 {
@@ -57,7 +57,7 @@ pub(crate) fn marker_of(byte: u8) -> Marker
     }
 }
 
-// Returns the place of the first byte that no name has.
+/// Returns the place of the first byte that no name has.
 fn name_end(line: &[u8]) -> Option<usize>
     ensures place { result ≡ position (λ b. not (names.is_name_byte b)) line.now }
     ensures within { IfSome result (λ at. at < length line.now) }
@@ -65,14 +65,14 @@ fn name_end(line: &[u8]) -> Option<usize>
     line.iter().position(|b| !is_name_byte(*b))
 }
 
-// Returns whether a byte is a digit or a minus sign.
+/// Returns whether a byte is a digit or a minus sign.
 fn is_number_byte(b: u8) -> bool
     ensures { result ≡ spec.is_number_byte b }
 {
     b.is_ascii_digit() || b == b'-'
 }
 
-// Returns the place of the first byte that no number has.
+/// Returns the place of the first byte that no number has.
 fn number_end(line: &[u8]) -> Option<usize>
     ensures place { result ≡ position (λ b. not (spec.is_number_byte b)) line.now }
     ensures within { IfSome result (λ at. at < length line.now) }
@@ -80,7 +80,7 @@ fn number_end(line: &[u8]) -> Option<usize>
     line.iter().position(|b| !is_number_byte(*b))
 }
 
-// Returns the place, or the length of the line.
+/// Returns the place, or the length of the line.
 fn up_to(end: Option<usize>, line: &[u8]) -> usize
     requires { IfSome end (λ at. at < length line.now) }
     ensures value { result ≡ spec.up_to end line.now }
@@ -92,7 +92,7 @@ fn up_to(end: Option<usize>, line: &[u8]) -> usize
     }
 }
 
-// Returns 1 if there is a byte.
+/// Returns 1 if there is a byte.
 fn one(line: &[u8]) -> usize
     ensures value { result ≡ spec.one line.now }
     ensures within { result ≤ length line.now }
@@ -103,7 +103,7 @@ fn one(line: &[u8]) -> usize
     }
 }
 
-// Returns 1 if the first byte is an `s`.
+/// Returns 1 if the first byte is an `s`.
 fn plural(line: &[u8]) -> usize
     ensures value { result ≡ spec.plural line.now }
     ensures within { result ≤ length line.now }
@@ -128,7 +128,7 @@ pub(crate) fn taken(marker: Marker, line: &[u8]) -> usize
     }
 }
 
-// Returns whether a word begins with a letter.
+/// Returns whether a word begins with a letter.
 fn begins_with_letter(word: &[u8]) -> bool
     ensures { result ≡ spec.begins_with_letter word.now }
 {
@@ -138,7 +138,7 @@ fn begins_with_letter(word: &[u8]) -> bool
     }
 }
 
-// Returns whether a word is a number, behind a minus sign or not.
+/// Returns whether a word is a number, behind a minus sign or not.
 fn is_integer(word: &[u8]) -> bool
     ensures { result ≡ spec.is_integer word.now }
 {

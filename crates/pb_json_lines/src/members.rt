@@ -15,7 +15,7 @@ use pb_base::writing::put;
 use pb_code::is_numeral;
 use pb_json::put_string;
 
-// The first number that a float of 64 bits may not have.
+/// The first number that a float of 64 bits may not have.
 const TOO_GREAT: u64 = 9_007_199_254_740_992;
 
 /// Returns whether a line is of a pattern.
@@ -35,7 +35,7 @@ pub(crate) fn fits(pattern: &[u8], line: &[u8]) -> bool
     rest.is_empty()
 }
 
-// Returns the key of the member that a byte of a pattern makes.
+/// Returns the key of the member that a byte of a pattern makes.
 fn key_of(byte: u8) -> &'static str
     ensures { result.now ≡ spec.key_of byte }
 {
@@ -84,7 +84,7 @@ fn key_of(byte: u8) -> &'static str
     }
 }
 
-// Returns the number that up to 16 digits write.
+/// Returns the number that up to 16 digits write.
 fn value(digits: &[u8]) -> u64
     requires digits { list_all is_ascii_digit digits.now ≡ true }
     requires few { length digits.now < 17 }
@@ -97,7 +97,7 @@ fn value(digits: &[u8]) -> u64
     number
 }
 
-// Returns whether a reader that keeps numbers as floats of 64 bits keeps the number of these digits.
+/// Returns whether a reader that keeps numbers as floats of 64 bits keeps the number of these digits.
 fn is_exact(digits: &[u8]) -> bool
     ensures { result ≡ spec.is_exact digits.now }
 {
@@ -108,7 +108,7 @@ fn is_exact(digits: &[u8]) -> bool
     }
 }
 
-// Returns the digits of a number.
+/// Returns the digits of a number.
 fn digits_of(word: &[u8]) -> &[u8]
     ensures { result.now ≡ spec.digits_of word.now }
 {
@@ -118,7 +118,7 @@ fn digits_of(word: &[u8]) -> &[u8]
     }
 }
 
-// Appends a number as it stands, or a string of it.
+/// Appends a number as it stands, or a string of it.
 fn put_number(out: &mut Vec<u8>, word: &[u8]) -> Result<(), NoMemory>
     ensures { OnOk result (out.new.items ≡ out.old.items ++ spec.number_text word.now) }
 {
@@ -130,7 +130,7 @@ fn put_number(out: &mut Vec<u8>, word: &[u8]) -> Result<(), NoMemory>
     put(out, b"\"")
 }
 
-// Appends the key of a member.
+/// Appends the key of a member.
 fn put_key(out: &mut Vec<u8>, byte: u8) -> Result<(), NoMemory>
     ensures { OnOk result (out.new.items ≡ out.old.items ++ (codes ",\"" ++ spec.key_of byte ++ codes "\":")) }
 {
@@ -139,7 +139,7 @@ fn put_key(out: &mut Vec<u8>, byte: u8) -> Result<(), NoMemory>
     put(out, b"\":")
 }
 
-// Appends the value of a member that is a number.
+/// Appends the value of a member that is a number.
 fn put_number_member(out: &mut Vec<u8>, byte: u8, word: &[u8]) -> Result<(), NoMemory>
     ensures { OnOk result (out.new.items ≡ out.old.items ++ spec.member_text byte (spec.number_text word.now)) }
 {
@@ -147,7 +147,7 @@ fn put_number_member(out: &mut Vec<u8>, byte: u8, word: &[u8]) -> Result<(), NoM
     put_number(out, word)
 }
 
-// Appends a member that is a string.
+/// Appends a member that is a string.
 fn put_string_member(out: &mut Vec<u8>, byte: u8, word: &[u8]) -> Result<(), NoMemory>
     ensures { OnOk result (out.new.items ≡ out.old.items ++ spec.member_text byte (string_text word.now)) }
 {
@@ -155,7 +155,7 @@ fn put_string_member(out: &mut Vec<u8>, byte: u8, word: &[u8]) -> Result<(), NoM
     put_string(out, word)
 }
 
-// Appends a member that is a list.
+/// Appends a member that is a list.
 fn put_list_member(out: &mut Vec<u8>, byte: u8, pairs: bool, word: &[u8]) -> Result<(), NoMemory>
     ensures { OnOk result (out.new.items ≡ out.old.items ++ spec.member_text byte (list_text pairs word.now)) }
 {
@@ -163,7 +163,7 @@ fn put_list_member(out: &mut Vec<u8>, byte: u8, pairs: bool, word: &[u8]) -> Res
     put_list(out, pairs, word)
 }
 
-// Appends the member that a byte of a pattern makes of what it took.
+/// Appends the member that a byte of a pattern makes of what it took.
 fn put_member(out: &mut Vec<u8>, marker: Marker, byte: u8, word: &[u8]) -> Result<(), NoMemory>
     ensures { OnOk result (out.new.items ≡ out.old.items ++ spec.member_by marker byte word.now) }
 {

@@ -14,7 +14,7 @@ use pb_base::writing::put;
 use pb_json::put_comma;
 use std::alloc::Global;
 
-// Appends what the object of a line says, without its braces.
+/// Appends what the object of a line says, without its braces.
 #[tactic(auto, unfolding(crate::specs::Forms::said_by))]
 fn put_said(out: &mut Vec<u8>, is_open: bool, text: &[u8]) -> Result<(), NoMemory>
     ensures { OnOk result (out.new.items ≡ out.old.items ++ forms.said_by (forms.form_of is_open text.now) text.now) }
@@ -24,7 +24,7 @@ fn put_said(out: &mut Vec<u8>, is_open: bool, text: &[u8]) -> Result<(), NoMemor
     put_members(out, form.pattern.as_bytes(), text)
 }
 
-// Appends the object of a line.
+/// Appends the object of a line.
 #[tactic(auto, unfolding(crate::specs::JsonLines::object_of))]
 fn put_object(out: &mut Vec<u8>, is_open: bool, text: &[u8]) -> Result<(), NoMemory>
     ensures { OnOk result (out.new.items ≡ out.old.items ++ spec.object_of is_open text.now) }
@@ -34,7 +34,7 @@ fn put_object(out: &mut Vec<u8>, is_open: bool, text: &[u8]) -> Result<(), NoMem
     put(out, b"}")
 }
 
-// Returns the number of a section.
+/// Returns the number of a section.
 fn place_of(section: Section) -> u8
     ensures { result ≡ spec.place_of section }
 {
@@ -51,21 +51,21 @@ fn place_of(section: Section) -> u8
     }
 }
 
-// Returns the section of a line.
+/// Returns the section of a line.
 fn section_of(is_open: bool, text: &[u8]) -> Section
     ensures { result ≡ forms.section_of is_open text.now }
 {
     form_of(is_open, text).section
 }
 
-// Returns whether a part of an outcome or a deadlock is of a section.
+/// Returns whether a part of an outcome or a deadlock is of a section.
 fn is_of(section: Section, text: &[u8]) -> bool
     ensures { result ≡ spec.is_of section text.now }
 {
     place_of(section_of(true, text)) == place_of(section)
 }
 
-// Returns whether a line is that of an outcome or a deadlock.
+/// Returns whether a line is that of an outcome or a deadlock.
 fn opens(is_open: bool, text: &[u8]) -> bool
     ensures { result ≡ spec.opens is_open text.now }
 {
@@ -82,7 +82,7 @@ fn opens(is_open: bool, text: &[u8]) -> bool
     }
 }
 
-// Returns whether a line belongs to the outcome or the deadlock before it.
+/// Returns whether a line belongs to the outcome or the deadlock before it.
 fn is_part(is_open: bool, text: &[u8]) -> bool
     ensures { result ≡ spec.is_part is_open text.now }
 {
@@ -98,7 +98,7 @@ fn is_part(is_open: bool, text: &[u8]) -> bool
     }
 }
 
-// Appends the object of a part behind others, with the comma before it.
+/// Appends the object of a part behind others, with the comma before it.
 fn put_item(out: &mut Vec<u8>, before: usize, text: &[u8]) -> Result<(), NoMemory>
     ensures { OnOk result (out.new.items ≡ out.old.items ++ (comma before ++ spec.object_of true text.now)) }
 {
@@ -106,7 +106,7 @@ fn put_item(out: &mut Vec<u8>, before: usize, text: &[u8]) -> Result<(), NoMemor
     put_object(out, true, text)
 }
 
-// Appends the objects of those lines that are of a section.
+/// Appends the objects of those lines that are of a section.
 fn put_items(out: &mut Vec<u8>, section: Section, lines: &[&[u8]]) -> Result<(), NoMemory>
     ensures { OnOk result (out.new.items ≡ out.old.items ++ spec.items section 0 (map (λ l. l.now) lines.now)) }
 {
@@ -120,7 +120,7 @@ fn put_items(out: &mut Vec<u8>, section: Section, lines: &[&[u8]]) -> Result<(),
     Ok(())
 }
 
-// Appends a member with the objects of the lines that are of a section.
+/// Appends a member with the objects of the lines that are of a section.
 fn put_list(
     out: &mut Vec<u8>,
     key: &[u8],
@@ -136,7 +136,7 @@ fn put_list(
     put(out, b"]")
 }
 
-// Appends the lists of an outcome or a deadlock.
+/// Appends the lists of an outcome or a deadlock.
 #[tactic(auto, unfolding(crate::specs::JsonLines::lists_of))]
 fn put_lists(out: &mut Vec<u8>, lines: &[&[u8]]) -> Result<(), NoMemory>
     ensures { OnOk result (out.new.items ≡ out.old.items ++ spec.lists_of (map (λ l. l.now) lines.now)) }
@@ -149,7 +149,7 @@ fn put_lists(out: &mut Vec<u8>, lines: &[&[u8]]) -> Result<(), NoMemory>
     put_list(out, b"picks", Section::Picks, lines)
 }
 
-// Returns the lines at the front that belong to an outcome or a deadlock before them.
+/// Returns the lines at the front that belong to an outcome or a deadlock before them.
 fn parts_of<'s, 't>(lines: &'s [&'t [u8]]) -> &'s [&'t [u8]]
     ensures { map (λ l. l.now) result.now ≡ spec.parts_of (map (λ l. l.now) lines.now) }
 {
@@ -161,7 +161,7 @@ fn parts_of<'s, 't>(lines: &'s [&'t [u8]]) -> &'s [&'t [u8]]
     lines
 }
 
-// Appends the object of an outcome or a deadlock.
+/// Appends the object of an outcome or a deadlock.
 #[tactic(auto, unfolding(crate::specs::JsonLines::block_of))]
 fn put_block(
     out: &mut Vec<u8>,
@@ -177,7 +177,7 @@ fn put_block(
     put(out, b"}")
 }
 
-// Appends what is written for a line.
+/// Appends what is written for a line.
 fn put_for(out: &mut Vec<u8>, is_open: bool, text: &[u8], lines: &[&[u8]]) -> Result<(), NoMemory>
     ensures { OnOk result (out.new.items ≡ out.old.items ++ spec.said_of is_open text.now (map (λ l. l.now) lines.now)) }
 {
@@ -192,14 +192,14 @@ fn put_for(out: &mut Vec<u8>, is_open: bool, text: &[u8], lines: &[&[u8]]) -> Re
     put(out, b"\n")
 }
 
-// Returns whether the next line may belong to an outcome or a deadlock.
+/// Returns whether the next line may belong to an outcome or a deadlock.
 fn stays_open(is_open: bool, text: &[u8]) -> bool
     ensures { result ≡ spec.opens is_open text.now || spec.is_part is_open text.now }
 {
     opens(is_open, text) || is_part(is_open, text)
 }
 
-// Appends the objects of lines.
+/// Appends the objects of lines.
 fn put_objects(out: &mut Vec<u8>, lines: &[&[u8]]) -> Result<(), NoMemory>
     ensures { OnOk result (out.new.items ≡ out.old.items ++ spec.objects false (map (λ l. l.now) lines.now)) }
 {

@@ -65,7 +65,7 @@ const OUTCOMES: [Case; 3] = [
     },
 ];
 
-// Returns whether the JSON lines of a case are made.
+/// Returns whether the JSON lines of a case are made.
 fn makes(alloc: Global, case: &Case) -> bool {
     match json_lines(alloc, case.text) {
         Ok(lines) => lines.as_slice() == case.lines,

@@ -32,7 +32,7 @@ const CASES: [Case; 3] = [
     },
 ];
 
-// Returns whether a case is told so, with its status.
+/// Returns whether a case is told so, with its status.
 fn tells(alloc: Global, case: &Case) -> Result<bool, NoMemory> {
     let mut gathered = Gathered::new(alloc);
     let Ok(()) = write_all(&mut gathered, case.text) else {
@@ -50,7 +50,7 @@ fn what_a_command_wrote_is_told(rt: HostRuntime) {
     }
 }
 
-// An output with no room.
+/// An output with no room.
 fn is_device(alloc: Global) -> Result<bool, NoMemory> {
     let mut gathered = Gathered::new(alloc);
     let Ok(()) = write_all(&mut gathered, b"done\n") else {

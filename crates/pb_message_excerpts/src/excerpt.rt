@@ -9,7 +9,7 @@ use pb_base::NoMemory;
 use pb_base::writing::put_digits;
 use std::alloc::Global;
 
-// The most bytes that are shown of a line on each side of a place.
+/// The most bytes that are shown of a line on each side of a place.
 const WIDTH: usize = 100;
 
 /// Returns the place of a byte of a text, or of its end, as a message shows it: its line and column, with a
@@ -29,7 +29,7 @@ pub fn show_place(
     show(alloc, label, text, &place)
 }
 
-// Returns a place as a message shows it.
+/// Returns a place as a message shows it.
 fn show(alloc: Global, label: &[u8], text: &[u8], place: &Place) -> Result<Vec<u8>, NoMemory>
     requires { IsPlace text.now place.now.at place.now }
     ensures { IfOk result (λ shown. shown.items ≡ excerpt label.now text.now place.now) }
@@ -39,7 +39,7 @@ fn show(alloc: Global, label: &[u8], text: &[u8], place: &Place) -> Result<Vec<u
     Ok(shown)
 }
 
-// Appends a place to `out`, as a message shows it.
+/// Appends a place to `out`, as a message shows it.
 fn put_excerpt(out: &mut Vec<u8>, label: &[u8], text: &[u8], place: &Place) -> Result<(), NoMemory>
     requires { IsPlace text.now place.now.at place.now }
     ensures { OnOk result (out.new.items ≡ out.old.items ++ excerpt label.now text.now place.now) }
@@ -51,7 +51,7 @@ fn put_excerpt(out: &mut Vec<u8>, label: &[u8], text: &[u8], place: &Place) -> R
     Ok(())
 }
 
-// Appends the margin of a place to `out`.
+/// Appends the margin of a place to `out`.
 fn put_margin(out: &mut Vec<u8>, place: &Place) -> Result<(), NoMemory>
     ensures { OnOk result (out.new.items ≡ out.old.items ++ margin_of place.now) }
 {
@@ -118,7 +118,7 @@ pub fn printable(alloc: Global, bytes: &[u8]) -> Result<Vec<u8>, NoMemory>
     Ok(shown)
 }
 
-// Appends bytes to `out`, as a message shows them.
+/// Appends bytes to `out`, as a message shows them.
 fn put_printable(out: &mut Vec<u8>, bytes: &[u8]) -> Result<(), NoMemory>
     ensures { OnOk result (out.new.items ≡ out.old.items ++ map shown_byte bytes.now) }
 {
@@ -141,7 +141,7 @@ pub fn printable_byte(byte: u8) -> u8
     }
 }
 
-// Appends to `out` what is below bytes before a mark.
+/// Appends to `out` what is below bytes before a mark.
 fn put_below(out: &mut Vec<u8>, bytes: &[u8]) -> Result<(), NoMemory>
     ensures { OnOk result (out.new.items ≡ out.old.items ++ map below_byte bytes.now) }
 {

@@ -36,7 +36,7 @@ pub fn place_of(text: &[u8], offset: usize) -> Place
     }
 }
 
-// Returns the number of the line of an offset.
+/// Returns the number of the line of an offset.
 fn line_number(text: &[u8], offset: usize) -> usize
     requires { offset ≤ length text.now }
     ensures { result ≡ line_at text.now offset }
@@ -44,7 +44,7 @@ fn line_number(text: &[u8], offset: usize) -> usize
     text[..offset].iter().filter(|byte| **byte == b'\n').count() + 1
 }
 
-// Returns where the line of an offset begins.
+/// Returns where the line of an offset begins.
 fn line_begin(text: &[u8], offset: usize) -> usize
     requires { offset ≤ length text.now }
     ensures from { result ≤ offset }

@@ -12,15 +12,15 @@ use std::alloc::{AllocError, Global};
 use std::fmt::Write;
 use std::str;
 
-// What a pick line looks like.
+/// What a pick line looks like.
 const FORM: &str =
     "a pick line is P.a COUNT, such as p.0 12: a process, one of its arms, and how many picks it makes";
 
-// What a print line looks like.
+/// What a print line looks like.
 const PRINT_FORM: &str =
     "a print line is P.a print V, as run writes it, such as p.0 print 2: a process, one of its arms, and what it prints";
 
-// The most processes that are named.
+/// The most processes that are named.
 const MAX_NAMED: usize = 8;
 
 /// Pick lines, with the number of lines before them in the input.
@@ -59,7 +59,7 @@ pub fn bad_print_line(alloc: Global, code: &Code, lines: Lines<'_>, at: usize) -
     wording
 }
 
-// What a line that is no pick line has wrong.
+/// What a line that is no pick line has wrong.
 #[derive(Clone, Copy)]
 enum Kind<'t> {
     // No process has this name.
@@ -82,7 +82,7 @@ enum Kind<'t> {
     },
 }
 
-// Returns what a line has wrong.
+/// Returns what a line has wrong.
 fn kind_of<'t>(code: &Code, line: &'t [u8]) -> Kind<'t> {
     if let Some(kind) = kind_of_blanks(line) {
         return kind;
@@ -108,7 +108,7 @@ fn kind_of<'t>(code: &Code, line: &'t [u8]) -> Kind<'t> {
     Kind::NoCount { count }
 }
 
-// Returns what a line has wrong, if it is empty, or has blanks or a carriage return at an end.
+/// Returns what a line has wrong, if it is empty, or has blanks or a carriage return at an end.
 fn kind_of_blanks<'t>(line: &'t [u8]) -> Option<Kind<'t>> {
     let (summary, hint) = match (line.first(), line.last()) {
         (None, _) | (_, None) => (
@@ -132,7 +132,7 @@ fn kind_of_blanks<'t>(line: &'t [u8]) -> Option<Kind<'t>> {
     Some(Kind::Other { summary, hint })
 }
 
-// Splits a line at the first byte that is the mark.
+/// Splits a line at the first byte that is the mark.
 fn cut_at(line: &[u8], mark: u8) -> Option<(&[u8], &[u8])> {
     for end in 0..line.len() {
         if line[end] == mark {
@@ -142,7 +142,7 @@ fn cut_at(line: &[u8], mark: u8) -> Option<(&[u8], &[u8])> {
     None
 }
 
-// Returns the number of the process with a name.
+/// Returns the number of the process with a name.
 fn process_of(code: &Code, name: &[u8]) -> Option<usize> {
     code.names
         .processes
@@ -150,7 +150,7 @@ fn process_of(code: &Code, name: &[u8]) -> Option<usize> {
         .position(|one| one.as_slice() == name)
 }
 
-// Returns how many arms a process has.
+/// Returns how many arms a process has.
 fn arms_of(code: &Code, process: usize) -> usize {
     match code.processes.get(process) {
         Some(process) => process.entries.len(),
@@ -158,7 +158,7 @@ fn arms_of(code: &Code, process: usize) -> usize {
     }
 }
 
-// Returns the number that digits say without zeros before it.
+/// Returns the number that digits say without zeros before it.
 fn number_of(word: &[u8]) -> Option<usize> {
     let is_plain = word.iter().all(|byte| byte.is_ascii_digit())
         && (word.len() == 1 || !word.starts_with(b"0"));
@@ -168,7 +168,7 @@ fn number_of(word: &[u8]) -> Option<usize> {
     }
 }
 
-// Returns the wording of a line that names no process.
+/// Returns the wording of a line that names no process.
 fn no_process(alloc: Global, code: &Code, name: &[u8]) -> Wording {
     let mut wording = Wording::new(
         alloc,
@@ -178,7 +178,7 @@ fn no_process(alloc: Global, code: &Code, name: &[u8]) -> Wording {
     wording
 }
 
-// Returns the names of the first processes.
+/// Returns the names of the first processes.
 fn processes_note(alloc: Global, code: &Code) -> Result<String, AllocError> {
     let mut note = String::from_str(alloc, "the processes before the line %% are ")?;
     for (i, name) in code.names.processes.iter().enumerate() {
@@ -194,7 +194,7 @@ fn processes_note(alloc: Global, code: &Code) -> Result<String, AllocError> {
     Ok(note)
 }
 
-// Returns the wording of a line that names an arm that its process does not have.
+/// Returns the wording of a line that names an arm that its process does not have.
 fn no_arm(alloc: Global, code: &Code, process: usize, arm: &[u8]) -> Wording {
     let name = match code.names.processes.get(process) {
         Some(name) => name.as_slice(),
@@ -209,7 +209,7 @@ fn no_arm(alloc: Global, code: &Code, process: usize, arm: &[u8]) -> Wording {
     wording
 }
 
-// Returns the wording of a line whose count is none.
+/// Returns the wording of a line whose count is none.
 fn no_count(alloc: Global, count: &[u8]) -> Wording {
     let summary = format!(in alloc; "`{}` is not a count", Shown(count));
     let mut wording = Wording::new(alloc, summary);
@@ -241,7 +241,7 @@ pub fn too_many(alloc: Global, code: &Code, lines: Lines<'_>) -> Result<Wording,
     Ok(wording)
 }
 
-// Returns where the first line begins with which the picks are too many.
+/// Returns where the first line begins with which the picks are too many.
 fn line_past(alloc: Global, code: &Code, lines: &[u8]) -> Result<usize, NoMemory>
     requires { KeepsLimits (code_view code.now) }
 {

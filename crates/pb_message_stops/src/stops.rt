@@ -56,7 +56,7 @@ pub fn stop_of(lines: &[u8], picks: &[CountedPick], number: u32) -> Option<Stop>
     None
 }
 
-// Splits a text into its first line, without the line feed, and the rest.
+/// Splits a text into its first line, without the line feed, and the rest.
 fn first_line(text: &[u8]) -> (&[u8], &[u8])
     ensures { IsFirstLine text.now result.0.now result.1.now }
 {
@@ -80,7 +80,7 @@ pub fn stop_wording(
     arm_wording(alloc, lending, verified, lines, stop, &arm)
 }
 
-// Returns the same, from the name of the arm.
+/// Returns the same, from the name of the arm.
 fn arm_wording(
     alloc: Global,
     lending: Lending,
@@ -100,7 +100,7 @@ fn arm_wording(
     Ok(wording)
 }
 
-// Returns in words that an arm cannot make its pick, behind those that were made.
+/// Returns in words that an arm cannot make its pick, behind those that were made.
 fn summary(alloc: Global, stop: &Stop, arm: &String) -> Result<String, AllocError> {
     match stop.number {
         0 => format!(in alloc; "{arm} cannot make the first pick"),
@@ -109,7 +109,7 @@ fn summary(alloc: Global, stop: &Stop, arm: &String) -> Result<String, AllocErro
     }
 }
 
-// Returns how many picks of a line were made.
+/// Returns how many picks of a line were made.
 fn made_note(alloc: Global, stop: &Stop) -> Result<String, AllocError> {
     match stop.before {
         0 => format!(in alloc; "none of the {} picks of this line was made", stop.count),
@@ -121,7 +121,7 @@ fn made_note(alloc: Global, stop: &Stop) -> Result<String, AllocError> {
     }
 }
 
-// Returns the machine behind the picks of pick lines; none if out of memory.
+/// Returns the machine behind the picks of pick lines; none if out of memory.
 fn machine_after(
     alloc: Global,
     lending: Lending,
@@ -137,13 +137,13 @@ fn machine_after(
     }
 }
 
-// Returns the name of the arm of a pick.
+/// Returns the name of the arm of a pick.
 fn arm_name(alloc: Global, names: &Names, pick: Pick) -> Result<String, AllocError> {
     let process = Shown(name_at(&names.processes, pick.process));
     format!(in alloc; "{process}.{}", pick.arm)
 }
 
-// Returns the name with this number; nothing past the end.
+/// Returns the name with this number; nothing past the end.
 fn name_at(names: &[Vec<u8>], number: u8) -> &[u8] {
     match names.get(usize::from(number)) {
         Some(name) => name.as_slice(),
@@ -151,7 +151,7 @@ fn name_at(names: &[Vec<u8>], number: u8) -> &[u8] {
     }
 }
 
-// Returns the pick lines of the picks before this one.
+/// Returns the pick lines of the picks before this one.
 fn lines_before(
     alloc: Global,
     lines: &[u8],
@@ -166,7 +166,7 @@ fn lines_before(
     Ok(text)
 }
 
-// Notes why the arm of a pick does not go on.
+/// Notes why the arm of a pick does not go on.
 fn note_why(alloc: Global, wording: &mut Wording, code: &Code, machine: &Machine, pick: Pick) {
     let process = usize::from(pick.process);
     let arm = usize::from(pick.arm);
@@ -186,7 +186,7 @@ fn note_why(alloc: Global, wording: &mut Wording, code: &Code, machine: &Machine
     }
 }
 
-// Returns the state of an arm that does not ask for anything.
+/// Returns the state of an arm that does not ask for anything.
 fn stands(faulted: bool, state: ThreadState) -> &'static str {
     if faulted {
         return "its process has faulted";
@@ -198,7 +198,7 @@ fn stands(faulted: bool, state: ThreadState) -> &'static str {
     }
 }
 
-// Returns the bundle for which an arm asks, if it is at a request.
+/// Returns the bundle for which an arm asks, if it is at a request.
 fn asked<'c>(code: &'c Code, process: usize, thread: &Thread) -> Option<&'c Bundle> {
     let code = code.processes.get(process)?;
     match code.instrs.get(usize::from(thread.place()?)) {
@@ -207,7 +207,7 @@ fn asked<'c>(code: &'c Code, process: usize, thread: &Thread) -> Option<&'c Bund
     }
 }
 
-// Returns why a request is refused.
+/// Returns why a request is refused.
 fn request_note(
     alloc: Global,
     names: &Names,
@@ -226,7 +226,7 @@ fn request_note(
     )
 }
 
-// Returns the cash of a resource, if it is less than what is asked for.
+/// Returns the cash of a resource, if it is less than what is asked for.
 fn short_cash(bank: &Lender, asked: Pair) -> Option<u32> {
     let resource = usize::from(asked.resource);
     if bank.resources() <= resource {

@@ -37,7 +37,7 @@ fn byte_in_words(alloc: Global, byte: u8) -> Result<String, AllocError> {
     }
 }
 
-// Returns what is usually meant by the first byte of the rest of a text, behind these tokens.
+/// Returns what is usually meant by the first byte of the rest of a text, behind these tokens.
 fn meaning_of(tokens: &[Token], open: Option<&Open>, rest: &[u8]) -> &'static str {
     let last = tokens.len().saturating_sub(1);
     match rest.first().copied().unwrap_or(0) {
@@ -54,7 +54,7 @@ fn meaning_of(tokens: &[Token], open: Option<&Open>, rest: &[u8]) -> &'static st
     }
 }
 
-// Returns what is usually meant by `:` behind these tokens.
+/// Returns what is usually meant by `:` behind these tokens.
 fn meaning_of_colon(tokens: &[Token], last: usize) -> &'static str {
     if is_at(tokens, last.saturating_sub(1), Mark::Resource) {
         "a resource is declared with `=`: resource r = 2;"
@@ -65,7 +65,7 @@ fn meaning_of_colon(tokens: &[Token], last: usize) -> &'static str {
     }
 }
 
-// Returns what is usually meant by `.` behind these tokens.
+/// Returns what is usually meant by `.` behind these tokens.
 fn meaning_of_point(tokens: &[Token], last: usize) -> &'static str {
     if is_at(tokens, last, Mark::End) {
         "a process ends with end, and no point is behind it"
@@ -76,7 +76,7 @@ fn meaning_of_point(tokens: &[Token], last: usize) -> &'static str {
     }
 }
 
-// Returns what is usually meant by `{` behind these tokens.
+/// Returns what is usually meant by `{` behind these tokens.
 fn meaning_of_brace(tokens: &[Token], open: Option<&Open>) -> &'static str {
     match open {
         Some(open) if open.part.is_none() && open.word == Mark::If =>
@@ -91,7 +91,7 @@ fn meaning_of_brace(tokens: &[Token], open: Option<&Open>) -> &'static str {
     }
 }
 
-// Returns what is usually meant by a byte that is not allowed.
+/// Returns what is usually meant by a byte that is not allowed.
 fn usual_meaning(byte: u8) -> &'static str {
     match byte {
         b'/' => "a quotient is written a div b; a comment begins with //",
@@ -107,7 +107,7 @@ fn usual_meaning(byte: u8) -> &'static str {
     }
 }
 
-// Returns the wording of a byte that is not one of ASCII: of the character that it begins.
+/// Returns the wording of a byte that is not one of ASCII: of the character that it begins.
 fn foreign_character(alloc: Global, text: &[u8], at: usize) -> Wording
     requires { at ≤ length text.now }
 {
@@ -137,7 +137,7 @@ fn foreign_character(alloc: Global, text: &[u8], at: usize) -> Wording
     wording
 }
 
-// Returns the character with which bytes begin, if they begin with one in UTF-8.
+/// Returns the character with which bytes begin, if they begin with one in UTF-8.
 fn character_at(bytes: &[u8]) -> Option<char> {
     for length in 1..5 {
         if let Ok(text) = str::from_utf8(&bytes[..bytes.len().min(length)]) {
@@ -147,7 +147,7 @@ fn character_at(bytes: &[u8]) -> Option<char> {
     None
 }
 
-// Returns whether an offset of a text is in a comment.
+/// Returns whether an offset of a text is in a comment.
 fn is_comment(text: &[u8], at: usize) -> bool {
     let mut slashes = 0u32;
     for i in 0..at.min(text.len()) {
@@ -160,7 +160,7 @@ fn is_comment(text: &[u8], at: usize) -> bool {
     slashes == 2
 }
 
-// Returns the name of a character that cannot be seen, or is easily taken for another.
+/// Returns the name of a character that cannot be seen, or is easily taken for another.
 fn name_of(number: u32) -> Option<&'static str> {
     match number {
         0x7F..=0x9F => Some("a control character"),
@@ -173,7 +173,7 @@ fn name_of(number: u32) -> Option<&'static str> {
     }
 }
 
-// Returns what is written in the place of a character.
+/// Returns what is written in the place of a character.
 fn ascii_for(number: u32) -> &'static str {
     match number {
         0xA0 | 0x202F => "write a blank in its place",

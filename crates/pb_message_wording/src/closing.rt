@@ -37,12 +37,12 @@ pub fn closing_mistake(
     Some(wrong_closer(alloc, tokens, number, last))
 }
 
-// Returns whether the token with a number closes something that is open.
+/// Returns whether the token with a number closes something that is open.
 fn is_closing(tokens: &[Token], number: usize, open: &[Open]) -> bool {
     open.iter().any(|one| one.is_closed_by(tokens, number))
 }
 
-// Returns the wording of an `else` that cannot be here.
+/// Returns the wording of an `else` that cannot be here.
 fn else_mistake(alloc: Global, tokens: &[Token], last: &Open, open: &[Open]) -> Option<Wording> {
     if last.word == Mark::If && last.part == Some(Mark::Else) {
         let summary = format!(in alloc;
@@ -66,7 +66,7 @@ fn else_mistake(alloc: Global, tokens: &[Token], last: &Open, open: &[Open]) -> 
     ))
 }
 
-// Returns the wording of a statement that is not closed.
+/// Returns the wording of a statement that is not closed.
 fn not_closed(alloc: Global, tokens: &[Token], open: &Open) -> Wording {
     let mut wording = Wording::new(
         alloc,
@@ -92,7 +92,7 @@ fn not_closed(alloc: Global, tokens: &[Token], open: &Open) -> Wording {
     wording
 }
 
-// Returns whether what is open is an `if` with another one just behind its `else`.
+/// Returns whether what is open is an `if` with another one just behind its `else`.
 fn is_else_if(tokens: &[Token], open: &Open) -> bool {
     if open.word != Mark::If || open.part != Some(Mark::Else) {
         return false;
@@ -105,7 +105,7 @@ fn is_else_if(tokens: &[Token], open: &Open) -> bool {
     false
 }
 
-// Returns the wording of a word that closes nothing, beside what is open.
+/// Returns the wording of a word that closes nothing, beside what is open.
 fn wrong_closer(alloc: Global, tokens: &[Token], number: usize, last: &Open) -> Wording {
     let mut wording = Wording::new(
         alloc,
@@ -126,7 +126,7 @@ fn wrong_closer(alloc: Global, tokens: &[Token], number: usize, last: &Open) -> 
     wording
 }
 
-// Returns the word that closes a statement at a token as it is spelled.
+/// Returns the word that closes a statement at a token as it is spelled.
 fn spelled_at(tokens: &[Token], number: usize) -> &'static str {
     match mark_at(tokens, number) {
         Some(word) => spelled(word),
@@ -134,7 +134,7 @@ fn spelled_at(tokens: &[Token], number: usize) -> &'static str {
     }
 }
 
-// Returns the wording of a token outside of all processes.
+/// Returns the wording of a token outside of all processes.
 fn outside_mistake(alloc: Global, tokens: &[Token], number: usize) -> Option<Wording> {
     if process_before(tokens, number).is_some() {
         return behind_mistake(alloc, tokens, number);
@@ -158,7 +158,7 @@ fn outside_mistake(alloc: Global, tokens: &[Token], number: usize) -> Option<Wor
     None
 }
 
-// Returns the wording of a token behind the end of a process.
+/// Returns the wording of a token behind the end of a process.
 fn behind_mistake(alloc: Global, tokens: &[Token], number: usize) -> Option<Wording> {
     if !is_at(tokens, number.checked_sub(1)?, Mark::End) {
         return None;

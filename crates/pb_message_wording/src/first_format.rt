@@ -22,7 +22,7 @@ pub fn unsaid_wording(alloc: Global, text: &[u8]) -> Result<Wording, NoMemory> {
     Ok(pointing(alloc, summary, tokens.get(number)))
 }
 
-// Returns the wording that points at a token.
+/// Returns the wording that points at a token.
 fn pointing(alloc: Global, summary: &str, token: Option<&Token<'_>>) -> Wording {
     let mut wording = Wording::of(alloc, summary);
     wording.spot_token(alloc, "", token);
@@ -33,7 +33,7 @@ fn pointing(alloc: Global, summary: &str, token: Option<&Token<'_>>) -> Wording 
     wording
 }
 
-// Returns the number of the word `process` before the first process that is too many.
+/// Returns the number of the word `process` before the first process that is too many.
 fn process_past(tokens: &[Token]) -> Option<usize> {
     let mut count = 0usize;
     for number in 0..tokens.len() {
@@ -47,7 +47,7 @@ fn process_past(tokens: &[Token]) -> Option<usize> {
     None
 }
 
-// Returns the number of the first token of the first hold of several resources.
+/// Returns the number of the first token of the first hold of several resources.
 fn joint_hold(tokens: &[Token]) -> Option<usize> {
     let mut hold = None;
     for number in 0..tokens.len() {

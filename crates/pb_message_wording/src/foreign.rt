@@ -8,13 +8,13 @@ use pb_base::NoMemory;
 use pb_lexer::{LexFault, Mark, Token, lex};
 use std::alloc::Global;
 
-// Words of other languages that mean one thing, and how that is written here.
+/// Words of other languages that mean one thing, and how that is written here.
 struct Meaning {
     words: &'static str,
     hint: &'static str,
 }
 
-// The words of each meaning, in small letters, with a blank before and behind each.
+/// The words of each meaning, in small letters, with a blank before and behind each.
 const MEANINGS: [Meaning; 13] = [
     Meaning {
         words: " endif ",
@@ -88,8 +88,8 @@ pub fn foreign_word(
     }
 }
 
-// Returns whether the token with a number is a name at which a statement begins, and behind which no operator
-// is.
+/// Returns whether the token with a number is a name at which a statement begins, and behind which no operator
+/// is.
 fn is_call(tokens: &[Token], number: usize) -> bool {
     let behind = number.saturating_add(1);
     is_name(tokens, number)
@@ -103,7 +103,7 @@ fn is_call(tokens: &[Token], number: usize) -> bool {
             || tokens.len() <= behind)
 }
 
-// Returns the wording of a word, if it is one of another language, or a reserved word but for its letters.
+/// Returns the wording of a word, if it is one of another language, or a reserved word but for its letters.
 fn meant(alloc: Global, tokens: &[Token], number: usize) -> Result<Option<Wording>, NoMemory> {
     let text = text_at(tokens, number);
     let word = small(alloc, text)?;
@@ -119,7 +119,7 @@ fn meant(alloc: Global, tokens: &[Token], number: usize) -> Result<Option<Wordin
     })
 }
 
-// Returns whether a word is a reserved one.
+/// Returns whether a word is a reserved one.
 fn is_word(alloc: Global, word: &String) -> Result<bool, NoMemory> {
     match lex(alloc, word.as_bytes()) {
         Ok(tokens) => Ok(is_reserved(&tokens, 0)),
@@ -128,7 +128,7 @@ fn is_word(alloc: Global, word: &String) -> Result<bool, NoMemory> {
     }
 }
 
-// Returns a word in small letters, with a blank before and behind it.
+/// Returns a word in small letters, with a blank before and behind it.
 fn small(alloc: Global, text: &[u8]) -> Result<String, NoMemory> {
     let mut word = String::from_str(alloc, " ")?;
     for byte in text {
@@ -138,7 +138,7 @@ fn small(alloc: Global, text: &[u8]) -> Result<String, NoMemory> {
     Ok(word)
 }
 
-// Returns what is written here in the place of a word.
+/// Returns what is written here in the place of a word.
 fn hint_of(word: &String) -> Option<&'static str> {
     for meaning in &MEANINGS {
         if meaning.words.contains(word.as_str()) {

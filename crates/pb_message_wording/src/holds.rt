@@ -7,11 +7,11 @@ use pb_codegen::ClaimsFault;
 use pb_lexer::{Kind, Mark, Token};
 use std::alloc::{AllocError, Global};
 
-// The most holds that are shown.
+/// The most holds that are shown.
 const MAX_SHOWN: usize = 6;
 
-// The greatest amount of a resource that is held at once, the tokens of the holds of which it is the sum, and
-// whether two arms hold parts of it side by side.
+/// The greatest amount of a resource that is held at once, the tokens of the holds of which it is the sum, and
+/// whether two arms hold parts of it side by side.
 #[derive(Drop)]
 struct Peak {
     amount: u64,
@@ -19,8 +19,8 @@ struct Peak {
     is_shared: bool,
 }
 
-// A statement that is open: what it adds itself, the greatest peak of its parts, and of a parbegin the peaks
-// of the arms before this one together.
+/// A statement that is open: what it adds itself, the greatest peak of its parts, and of a parbegin the peaks
+/// of the arms before this one together.
 #[derive(Drop)]
 struct Frame {
     is_parbegin: bool,
@@ -38,7 +38,7 @@ impl Peak {
         }
     }
 
-    // Adds another peak, which is held at the same time.
+    /// Adds another peak, which is held at the same time.
     fn add(&mut self, other: &Peak) -> Result<(), NoMemory> {
         self.amount = self.amount.saturating_add(other.amount);
         self.is_shared |= other.is_shared;
@@ -57,7 +57,7 @@ impl Frame {
         }
     }
 
-    // Ends an arm of a parbegin.
+    /// Ends an arm of a parbegin.
     fn end_arm(&mut self, alloc: Global) -> Result<(), NoMemory> {
         let is_shared = self.together.amount > 0 && self.greatest.amount > 0;
         self.together.add(&self.greatest)?;
@@ -66,7 +66,7 @@ impl Frame {
         Ok(())
     }
 
-    // Returns the peak of the whole statement.
+    /// Returns the peak of the whole statement.
     fn whole(self) -> Result<Peak, NoMemory> {
         let Frame {
             own: mut peak,
@@ -113,7 +113,7 @@ fn claim_in_words(alloc: Global, fault: &ClaimsFault) -> Result<String, AllocErr
     )
 }
 
-// Notes the first claims beside this one that are over their capital, and how many there are more.
+/// Notes the first claims beside this one that are over their capital, and how many there are more.
 fn note_others(
     alloc: Global,
     wording: &mut Wording,
@@ -133,8 +133,8 @@ fn note_others(
     Ok(())
 }
 
-// Notes the claims of a process, whose word `process` is here, that are over their capital, beside this one;
-// from how many there were before to how many there are.
+/// Notes the claims of a process, whose word `process` is here, that are over their capital, beside this one;
+/// from how many there were before to how many there are.
 fn note_claims(
     alloc: Global,
     wording: &mut Wording,
@@ -157,7 +157,7 @@ fn note_claims(
     Ok(count)
 }
 
-// A claim over its capital.
+/// A claim over its capital.
 #[derive(Clone, Copy)]
 struct Claim<'t> {
     process: &'t [u8],
@@ -167,14 +167,14 @@ struct Claim<'t> {
 }
 
 impl Claim<'_> {
-    // Returns whether a fault is of this claim.
+    /// Returns whether a fault is of this claim.
     fn is_of(&self, fault: &ClaimsFault) -> bool {
         self.process == fault.process.as_slice() && self.resource == fault.resource.as_slice()
     }
 }
 
-// Returns the claim of a process on a resource, whose words `process` and `resource` are here, if it is over
-// its capital.
+/// Returns the claim of a process on a resource, whose words `process` and `resource` are here, if it is over
+/// its capital.
 fn claim_over<'t>(
     alloc: Global,
     tokens: &[Token<'t>],
@@ -196,7 +196,7 @@ fn claim_over<'t>(
     }))
 }
 
-// Notes a claim over its capital, if it is among the first ones.
+/// Notes a claim over its capital, if it is among the first ones.
 fn note_claim(alloc: Global, wording: &mut Wording, claim: &Claim<'_>, number: usize) {
     if number <= MAX_SHOWN {
         wording.note(format!(in alloc;
@@ -209,7 +209,7 @@ fn note_claim(alloc: Global, wording: &mut Wording, claim: &Claim<'_>, number: u
     }
 }
 
-// Adds the first holds of these, and how many there are more.
+/// Adds the first holds of these, and how many there are more.
 fn tell_holds(
     alloc: Global,
     wording: &mut Wording,
@@ -226,7 +226,7 @@ fn tell_holds(
     }
 }
 
-// Adds where a hold is, and how much it asks for.
+/// Adds where a hold is, and how much it asks for.
 fn tell_hold(alloc: Global, wording: &mut Wording, tokens: &[Token], hold: usize, resource: &[u8]) {
     if let Some(token) = tokens.get(hold) {
         let amount = own_amount(tokens, hold, resource);
@@ -243,7 +243,7 @@ fn claim_hint(alloc: Global, fault: &ClaimsFault) -> Result<String, AllocError> 
     )
 }
 
-// Returns the peak of a process on a resource.
+/// Returns the peak of a process on a resource.
 fn process_peak(
     alloc: Global,
     tokens: &[Token],
@@ -267,7 +267,7 @@ fn process_peak(
     }
 }
 
-// Goes on by a token.
+/// Goes on by a token.
 fn follow(
     alloc: Global,
     tokens: &[Token],
@@ -291,7 +291,7 @@ fn follow(
     Ok(())
 }
 
-// Closes the statement that was opened last: its peak is one of the statement in which it is.
+/// Closes the statement that was opened last: its peak is one of the statement in which it is.
 fn close(open: &mut Vec<Frame>) -> Result<(), NoMemory> {
     let Some(frame) = open.pop() else {
         return Ok(());
@@ -305,7 +305,7 @@ fn close(open: &mut Vec<Frame>) -> Result<(), NoMemory> {
     Ok(())
 }
 
-// Returns what a statement adds to the peaks of its parts.
+/// Returns what a statement adds to the peaks of its parts.
 fn own_peak(
     alloc: Global,
     tokens: &[Token],
@@ -322,7 +322,7 @@ fn own_peak(
     Ok(peak)
 }
 
-// Returns how much of a resource the hold asks for that begins with this token.
+/// Returns how much of a resource the hold asks for that begins with this token.
 fn own_amount(tokens: &[Token], hold: usize, resource: &[u8]) -> u64 {
     for number in hold..tokens.len() {
         if is_at(tokens, number, Mark::Do) {
@@ -337,7 +337,7 @@ fn own_amount(tokens: &[Token], hold: usize, resource: &[u8]) -> u64 {
     0
 }
 
-// Returns the number that a token is.
+/// Returns the number that a token is.
 fn number_at(tokens: &[Token], number: usize) -> u64 {
     match tokens.get(number) {
         Some(token) => match token.kind() {

@@ -13,14 +13,14 @@ use pb_base::NoMemory;
 use pb_lexer::{Mark, Token};
 use std::alloc::Global;
 
-// A mistake in words, with what is usually meant.
+/// A mistake in words, with what is usually meant.
 #[derive(Clone, Copy)]
 struct Mistake {
     summary: &'static str,
     hint: &'static str,
 }
 
-// Returns a mistake with these words.
+/// Returns a mistake with these words.
 fn usual(summary: &'static str, hint: &'static str) -> Option<Mistake> {
     Some(Mistake { summary, hint })
 }
@@ -69,7 +69,7 @@ fn missing_semicolon(alloc: Global) -> Wording {
     wording
 }
 
-// Returns whether a statement may end just before a token.
+/// Returns whether a statement may end just before a token.
 fn ends_before(tokens: &[Token], number: usize) -> bool {
     match number.checked_sub(1) {
         Some(before) => ends_statement(tokens, before),
@@ -77,7 +77,7 @@ fn ends_before(tokens: &[Token], number: usize) -> bool {
     }
 }
 
-// Returns a mistake that is told in the same words wherever it is made.
+/// Returns a mistake that is told in the same words wherever it is made.
 fn plain_mistake(tokens: &[Token], number: usize, open: Option<&Open>) -> Option<Mistake> {
     if let Some(told) = list_mistake(tokens, number) {
         return Some(told);
@@ -91,7 +91,7 @@ fn plain_mistake(tokens: &[Token], number: usize, open: Option<&Open>) -> Option
     equals_mistake(tokens, number, open)
 }
 
-// Returns a mistake of a list of statements.
+/// Returns a mistake of a list of statements.
 fn list_mistake(tokens: &[Token], number: usize) -> Option<Mistake> {
     let before = number.checked_sub(1)?;
     if begins_list(tokens, before) && ends_list(tokens, number) {
@@ -124,7 +124,7 @@ fn list_mistake(tokens: &[Token], number: usize) -> Option<Mistake> {
     None
 }
 
-// Returns a mistake of a declaration of integers.
+/// Returns a mistake of a declaration of integers.
 fn declaration_mistake(tokens: &[Token], number: usize) -> Option<Mistake> {
     if is_at(tokens, number, Mark::Integer) && process_before(tokens, number).is_some() {
         return usual(
@@ -157,7 +157,7 @@ fn declaration_mistake(tokens: &[Token], number: usize) -> Option<Mistake> {
     None
 }
 
-// Returns a mistake of the parts of a program.
+/// Returns a mistake of the parts of a program.
 fn program_mistake(tokens: &[Token], number: usize) -> Option<Mistake> {
     let process = process_before(tokens, number);
     if is_at(tokens, number, Mark::Resource) && process.is_some() {
@@ -188,7 +188,7 @@ fn program_mistake(tokens: &[Token], number: usize) -> Option<Mistake> {
     None
 }
 
-// Returns a mistake of `=`, `:=` and comparisons.
+/// Returns a mistake of `=`, `:=` and comparisons.
 fn equals_mistake(tokens: &[Token], number: usize, open: Option<&Open>) -> Option<Mistake> {
     let before = number.checked_sub(1)?;
     let begins = is_statement_start(tokens, before) && is_name(tokens, before);
@@ -226,7 +226,7 @@ fn equals_mistake(tokens: &[Token], number: usize, open: Option<&Open>) -> Optio
     None
 }
 
-// Returns whether a token compares two numbers.
+/// Returns whether a token compares two numbers.
 fn is_comparison(tokens: &[Token], number: usize) -> bool {
     matches!(
         mark_at(tokens, number),
@@ -236,7 +236,7 @@ fn is_comparison(tokens: &[Token], number: usize) -> bool {
     )
 }
 
-// Returns a mistake that is told with a word of the text.
+/// Returns a mistake that is told with a word of the text.
 fn named_mistake(
     alloc: Global,
     tokens: &[Token],
@@ -261,7 +261,7 @@ fn named_mistake(
     None
 }
 
-// Returns whether a name is wanted behind a token.
+/// Returns whether a name is wanted behind a token.
 fn wants_name(tokens: &[Token], number: usize) -> bool {
     matches!(
         mark_at(tokens, number),
@@ -287,7 +287,7 @@ fn missing_begin(alloc: Global, tokens: &[Token], name: usize) -> Wording {
     wording
 }
 
-// Returns whether an operator is at a token with which other languages change an integer.
+/// Returns whether an operator is at a token with which other languages change an integer.
 fn is_change(tokens: &[Token], number: usize) -> bool {
     let next = mark_at(tokens, number.saturating_add(1));
     match mark_at(tokens, number) {
@@ -314,7 +314,7 @@ fn changed_in_place(alloc: Global, tokens: &[Token], name: usize) -> Wording {
     wording
 }
 
-// Returns a mistake of the amounts of a hold.
+/// Returns a mistake of the amounts of a hold.
 fn hold_mistake(alloc: Global, tokens: &[Token], number: usize) -> Option<Wording> {
     let before = number.checked_sub(1)?;
     let name = Shown(text_at(tokens, number));

@@ -24,12 +24,12 @@ pub fn names_wording(
     }
 }
 
-// Returns the number of the token that begins at an offset, or of the first one.
+/// Returns the number of the token that begins at an offset, or of the first one.
 fn at_or_first(tokens: &[Token], at: usize) -> usize {
     token_at(tokens, at).unwrap_or(0)
 }
 
-// The kinds of names.
+/// The kinds of names.
 #[derive(Clone, Copy, PartialEq, Eq)]
 enum Named {
     Resource,
@@ -37,7 +37,7 @@ enum Named {
     Integer,
 }
 
-// Returns of which kind a name is that is declared here.
+/// Returns of which kind a name is that is declared here.
 fn declared_kind(tokens: &[Token], number: usize) -> Named {
     let before = number.saturating_sub(1);
     if is_at(tokens, before, Mark::Resource) {
@@ -72,7 +72,7 @@ fn too_many(alloc: Global, tokens: &[Token], kind: Limited) -> Result<Wording, N
     Ok(wording)
 }
 
-// Returns in words that there are too many of a kind.
+/// Returns in words that there are too many of a kind.
 fn limit_in_words(kind: Limited) -> &'static str {
     match kind {
         Limited::Processes => "the program has more than 64 processes",
@@ -83,7 +83,7 @@ fn limit_in_words(kind: Limited) -> &'static str {
     }
 }
 
-// Returns the token with which there are too many of a kind.
+/// Returns the token with which there are too many of a kind.
 fn first_too_many(
     alloc: Global,
     tokens: &[Token],
@@ -98,7 +98,7 @@ fn first_too_many(
     })
 }
 
-// Returns the number of the token that is the `nth` of this mark, counted from 1.
+/// Returns the number of the token that is the `nth` of this mark, counted from 1.
 fn nth_mark(tokens: &[Token], mark: Mark, nth: usize) -> Option<usize> {
     let mut left = nth;
     for number in 0..tokens.len() {
@@ -112,7 +112,7 @@ fn nth_mark(tokens: &[Token], mark: Mark, nth: usize) -> Option<usize> {
     None
 }
 
-// Returns the number of the first name with which a process declares more than `MAX_INTEGERS`.
+/// Returns the number of the first name with which a process declares more than `MAX_INTEGERS`.
 fn integer_past_limit(tokens: &[Token]) -> Option<usize> {
     let mut declared = None;
     for number in 0..tokens.len() {
@@ -124,8 +124,8 @@ fn integer_past_limit(tokens: &[Token]) -> Option<usize> {
     None
 }
 
-// Returns how many integers a process has declared up to a token, if that is in a declaration, from how many
-// it had declared before.
+/// Returns how many integers a process has declared up to a token, if that is in a declaration, from how many
+/// it had declared before.
 fn integers_behind(tokens: &[Token], number: usize, before: Option<usize>) -> Option<usize> {
     if is_at(tokens, number, Mark::Integer) {
         return Some(0);
@@ -139,14 +139,14 @@ fn integers_behind(tokens: &[Token], number: usize, before: Option<usize>) -> Op
     Some(before?.saturating_add(1))
 }
 
-// Returns the number of the first token of the first arm of a parbegin that has too many.
+/// Returns the number of the first token of the first arm of a parbegin that has too many.
 fn arm_past_limit(alloc: Global, tokens: &[Token], most: usize) -> Result<Option<usize>, NoMemory> {
     let mut open = Vec::new(alloc);
     arm_past(tokens, most, &mut open)
 }
 
-// Returns the same. The statements that are open are kept with the number of arms so far, if it is a
-// parbegin.
+/// Returns the same. The statements that are open are kept with the number of arms so far, if it is a
+/// parbegin.
 fn arm_past(
     tokens: &[Token],
     most: usize,
@@ -161,7 +161,7 @@ fn arm_past(
     Ok(None)
 }
 
-// Goes on by a token, if it opens or closes a statement.
+/// Goes on by a token, if it opens or closes a statement.
 fn follow_brackets(
     tokens: &[Token],
     number: usize,
@@ -177,8 +177,8 @@ fn follow_brackets(
     Ok(())
 }
 
-// Counts one more arm of the statement that was opened last, and returns how many it has; 0 if it is not a
-// parbegin.
+/// Counts one more arm of the statement that was opened last, and returns how many it has; 0 if it is not a
+/// parbegin.
 fn next_arm(open: &mut Vec<Option<usize>>) -> usize {
     match open.last_mut() {
         Some(Some(arms)) => {
@@ -202,7 +202,7 @@ fn twice(alloc: Global, tokens: &[Token], number: usize) -> Wording {
     wording
 }
 
-// Returns in words that a name is declared twice.
+/// Returns in words that a name is declared twice.
 fn twice_in_words(
     alloc: Global,
     tokens: &[Token],
@@ -224,7 +224,7 @@ fn twice_in_process(
     format!(in alloc; "integer {name} is declared twice in process {process}")
 }
 
-// Returns the number of the token at which a name is declared that is declared again at this one.
+/// Returns the number of the token at which a name is declared that is declared again at this one.
 fn first_declaration(tokens: &[Token], number: usize, named: Named) -> Option<usize> {
     let name = text_at(tokens, number);
     let from = match named {
@@ -274,7 +274,7 @@ fn unknown_integer(alloc: Global, tokens: &[Token], number: usize) -> Wording {
     wording
 }
 
-// Returns what is written in the place of a truth value of other languages.
+/// Returns what is written in the place of a truth value of other languages.
 fn truth_hint(name: &[u8]) -> Option<&'static str> {
     if name.eq_ignore_ascii_case(b"true") {
         Some("there is no truth value: write 1, as in while 1 do")
@@ -293,7 +293,7 @@ fn undeclared_in_words(
     format!(in alloc; "integer {name} is not declared in process {process}")
 }
 
-// Returns how an integer is declared in the process in which a token is.
+/// Returns how an integer is declared in the process in which a token is.
 fn integer_hint(alloc: Global, tokens: &[Token], number: usize) -> Result<String, AllocError> {
     if declares_integers(tokens, number) {
         return String::from_str(
@@ -311,7 +311,7 @@ fn owner_hint(alloc: Global, name: Shown<'_>, owner: Shown<'_>) -> Result<String
     )
 }
 
-// Returns whether the process in which a token is declares any integer.
+/// Returns whether the process in which a token is declares any integer.
 fn declares_integers(tokens: &[Token], number: usize) -> bool {
     match process_before(tokens, number) {
         Some(process) => is_at(tokens, process.saturating_add(3), Mark::Integer),
@@ -319,7 +319,7 @@ fn declares_integers(tokens: &[Token], number: usize) -> bool {
     }
 }
 
-// Returns the name of a process that declares an integer of this name.
+/// Returns the name of a process that declares an integer of this name.
 fn other_owner<'t>(tokens: &[Token<'t>], name: &[u8]) -> Option<&'t [u8]> {
     let mut declared = None;
     for number in 0..tokens.len() {

@@ -9,7 +9,7 @@ use pb_object::{ObjectFault, read_any};
 use pb_verifier::{VerifyFault, verify};
 use std::alloc::Global;
 
-// Enough halvings to narrow `MAX_PLACES` places down to one.
+/// Enough halvings to narrow `MAX_PLACES` places down to one.
 const HALVINGS: usize = 17;
 
 /// Returns the wording of a fault of bytes that are not an object.
@@ -17,7 +17,7 @@ pub fn unread_wording(alloc: Global, bytes: &[u8], fault: ObjectFault) -> Wordin
     Wording::noted(alloc, line_in_words(fault), hint_of(bytes))
 }
 
-// Returns in words what a line of an object has wrong.
+/// Returns in words what a line of an object has wrong.
 fn line_in_words(fault: ObjectFault) -> &'static str {
     match fault {
         ObjectFault::Limit(_) => "a number in this line is out of range",
@@ -25,7 +25,7 @@ fn line_in_words(fault: ObjectFault) -> &'static str {
     }
 }
 
-// Returns what is usually meant by bytes that are not an object.
+/// Returns what is usually meant by bytes that are not an object.
 fn hint_of(bytes: &[u8]) -> &'static str {
     if bytes.starts_with(b"PBO ") {
         "hint: emit writes objects; docs/FORMATS.md, \"Object text\", lists their lines"
@@ -46,7 +46,7 @@ pub fn unsafe_wording(
     }
 }
 
-// Returns the wording of a fault of a process, with its place if it is at one.
+/// Returns the wording of a fault of a process, with its place if it is at one.
 fn process_wording(
     alloc: Global,
     bytes: &[u8],
@@ -66,7 +66,7 @@ fn process_wording(
     Ok(wording)
 }
 
-// Returns a fault of code in words.
+/// Returns a fault of code in words.
 fn in_words(fault: VerifyFault) -> &'static str {
     match fault {
         VerifyFault::OutOfLimits => "a count, a number or a name is out of its limits",
@@ -85,8 +85,8 @@ fn in_words(fault: VerifyFault) -> &'static str {
     }
 }
 
-// Returns the fault of the code of an object of which one process alone is left, and of that the first
-// instructions: the others jump to themselves, except forks and joins.
+/// Returns the fault of the code of an object of which one process alone is left, and of that the first
+/// instructions: the others jump to themselves, except forks and joins.
 fn fault_of_part(
     alloc: Global,
     bytes: &[u8],
@@ -100,7 +100,7 @@ fn fault_of_part(
     }
 }
 
-// Returns the code of which that is left.
+/// Returns the code of which that is left.
 fn part_of(alloc: Global, bytes: &[u8], process: usize, kept: usize) -> Result<Code, NoMemory> {
     let Ok((mut code, _)) = read_any(alloc, bytes) else {
         return Err(NoMemory);
@@ -109,7 +109,7 @@ fn part_of(alloc: Global, bytes: &[u8], process: usize, kept: usize) -> Result<C
     Ok(code)
 }
 
-// Leaves one process, and of that the first instructions.
+/// Leaves one process, and of that the first instructions.
 fn leave_part(
     alloc: Global,
     processes: &mut [ProcessCode],
@@ -126,7 +126,7 @@ fn leave_part(
     Ok(())
 }
 
-// Returns the code of a process that ends at once.
+/// Returns the code of a process that ends at once.
 fn nothing(alloc: Global) -> Result<ProcessCode, NoMemory> {
     Ok(ProcessCode {
         integers: 0,
@@ -136,7 +136,7 @@ fn nothing(alloc: Global) -> Result<ProcessCode, NoMemory> {
     })
 }
 
-// Makes the instructions behind the first ones jump to themselves, except forks and joins.
+/// Makes the instructions behind the first ones jump to themselves, except forks and joins.
 fn cut(code: &mut ProcessCode, kept: usize) {
     for (place, instr) in code.instrs.iter_mut().enumerate() {
         if place >= kept && !is_fork_or_join(*instr) {
@@ -149,7 +149,7 @@ fn is_fork_or_join(instr: Instr) -> bool {
     matches!(instr, Instr::Fork { .. } | Instr::Join { .. })
 }
 
-// Returns a jump to a place.
+/// Returns a jump to a place.
 fn jump_to(place: usize) -> Instr {
     match u16::try_from(place) {
         Ok(target) => Instr::Jump(target),
@@ -157,7 +157,7 @@ fn jump_to(place: usize) -> Instr {
     }
 }
 
-// Returns the number of the first process whose code has this fault by itself.
+/// Returns the number of the first process whose code has this fault by itself.
 fn faulty_process(
     alloc: Global,
     bytes: &[u8],
@@ -171,7 +171,7 @@ fn faulty_process(
     Ok(None)
 }
 
-// Returns the place at which a message points; nothing of faults of a process as a whole.
+/// Returns the place at which a message points; nothing of faults of a process as a whole.
 fn place_to_show(
     alloc: Global,
     bytes: &[u8],
@@ -184,8 +184,8 @@ fn place_to_show(
     }
 }
 
-// Returns the first place of a process such that the code up to it has the fault; nothing if it has it
-// without any.
+/// Returns the first place of a process such that the code up to it has the fault; nothing if it has it
+/// without any.
 fn first_faulty_place(
     alloc: Global,
     bytes: &[u8],
@@ -208,7 +208,7 @@ fn first_faulty_place(
     Ok(high.checked_sub(1))
 }
 
-// Returns the name of a process of an object; nothing past the last one.
+/// Returns the name of a process of an object; nothing past the last one.
 fn name_of(alloc: Global, bytes: &[u8], process: usize) -> Result<Vec<u8>, NoMemory> {
     match read_any(alloc, bytes) {
         Ok((code, _)) => Ok(Vec::from_slice(alloc, process_name(&code, process))?),
@@ -223,7 +223,7 @@ fn process_name(code: &Code, process: usize) -> &[u8] {
     }
 }
 
-// Returns the offset of the line of an instruction in an object.
+/// Returns the offset of the line of an instruction in an object.
 fn instruction_offset(bytes: &[u8], process: usize, place: usize) -> usize {
     let mut processes = 0usize;
     let mut left = None;

@@ -57,7 +57,7 @@ pub fn open_before(alloc: Global, tokens: &[Token], number: usize) -> Result<Vec
     Ok(open)
 }
 
-// Goes on by a token.
+/// Goes on by a token.
 fn follow(tokens: &[Token], number: usize, open: &mut Vec<Open>) -> Result<(), NoMemory> {
     let Some(word) = mark_at(tokens, number) else {
         return Ok(());

@@ -28,7 +28,7 @@ pub fn part_mistake(
     }
 }
 
-// Returns whether a test has ended before the token with a number, also if there are no more.
+/// Returns whether a test has ended before the token with a number, also if there are no more.
 fn ends_test(tokens: &[Token], number: usize) -> bool {
     begins_statement(tokens, number)
         || ends_list(tokens, number)
@@ -39,7 +39,7 @@ fn ends_test(tokens: &[Token], number: usize) -> bool {
         )
 }
 
-// Returns whether the name of a resource is here, behind `of`.
+/// Returns whether the name of a resource is here, behind `of`.
 fn is_pair(tokens: &[Token], number: usize) -> bool {
     match number.checked_sub(1) {
         Some(before) => is_at(tokens, before, Mark::Of),

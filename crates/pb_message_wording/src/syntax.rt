@@ -9,14 +9,14 @@ use pb_lexer::{LexFault, Token, lex};
 use pb_parser::{ParseFault, parse};
 use std::alloc::{AllocError, Global};
 
-// What may come at a place of the text, tried by one spelling of it.
+/// What may come at a place of the text, tried by one spelling of it.
 struct Probe {
     spelling: &'static str,
     name: &'static str,
     part_of: Part,
 }
 
-// The longer phrases of which a token may be the beginning.
+/// The longer phrases of which a token may be the beginning.
 #[derive(Clone, Copy, PartialEq, Eq)]
 enum Part {
     // It is shown wherever it may come.
@@ -135,7 +135,7 @@ const PROBES: [Probe; 19] = [
     },
 ];
 
-// Which phrases may begin at a place.
+/// Which phrases may begin at a place.
 #[derive(Clone, Copy)]
 struct Phrases {
     statement: bool,
@@ -191,7 +191,7 @@ fn unexpected_in_words(
     }
 }
 
-// Returns the line that says what may come behind the first part of a text; nothing if no token may.
+/// Returns the line that says what may come behind the first part of a text; nothing if no token may.
 fn expected(alloc: Global, text: &[u8]) -> Result<Option<String>, NoMemory> {
     let phrases = phrases_behind(alloc, text)?;
     let mut line = String::from_str(alloc, "expected: ")?;
@@ -203,7 +203,7 @@ fn expected(alloc: Global, text: &[u8]) -> Result<Option<String>, NoMemory> {
     Ok(Some(line))
 }
 
-// Returns which phrases may begin behind the first part of a text.
+/// Returns which phrases may begin behind the first part of a text.
 fn phrases_behind(alloc: Global, text: &[u8]) -> Result<Phrases, NoMemory> {
     Ok(Phrases {
         statement: may_follow(alloc, text, STATEMENT)?,
@@ -212,7 +212,7 @@ fn phrases_behind(alloc: Global, text: &[u8]) -> Result<Phrases, NoMemory> {
     })
 }
 
-// Appends to `line`, the beginning of a line, what may come behind the first part of a text.
+/// Appends to `line`, the beginning of a line, what may come behind the first part of a text.
 fn put_choices(
     alloc: Global,
     line: &mut String,
@@ -229,8 +229,8 @@ fn put_choices(
     Ok(())
 }
 
-// Appends to `line`, a line that was `empty` bytes long, what a probe tries, if it may come behind the first part of
-// a text and is shown beside these phrases.
+/// Appends to `line`, a line that was `empty` bytes long, what a probe tries, if it may come behind the first part of
+/// a text and is shown beside these phrases.
 fn put_probe(
     alloc: Global,
     line: &mut String,
@@ -243,7 +243,7 @@ fn put_probe(
     put_choice(line, empty, is_one, probe.name)
 }
 
-// Appends one more choice to `line`, a line that was `empty` bytes long, if it is one.
+/// Appends one more choice to `line`, a line that was `empty` bytes long, if it is one.
 fn put_choice(line: &mut String, empty: usize, is_one: bool, choice: &str) -> Result<(), NoMemory> {
     if !is_one {
         return Ok(());
@@ -255,7 +255,7 @@ fn put_choice(line: &mut String, empty: usize, is_one: bool, choice: &str) -> Re
     Ok(())
 }
 
-// Returns whether what is part of these phrases is shown beside them.
+/// Returns whether what is part of these phrases is shown beside them.
 fn is_told(part_of: Part, phrases: Phrases) -> bool {
     match part_of {
         Part::Alone => true,
@@ -266,7 +266,7 @@ fn is_told(part_of: Part, phrases: Phrases) -> bool {
     }
 }
 
-// Returns whether a token may come behind the first part of a text: some program begins so.
+/// Returns whether a token may come behind the first part of a text: some program begins so.
 fn may_follow(alloc: Global, text: &[u8], token: &str) -> Result<bool, NoMemory> {
     let mut longer = Vec::from_slice(alloc, text)?;
     longer.push(b' ')?;
@@ -274,7 +274,7 @@ fn may_follow(alloc: Global, text: &[u8], token: &str) -> Result<bool, NoMemory>
     begins_program(alloc, &longer)
 }
 
-// Returns whether some program begins with this text.
+/// Returns whether some program begins with this text.
 fn begins_program(alloc: Global, text: &[u8]) -> Result<bool, NoMemory> {
     let tokens = match lex(alloc, text) {
         Ok(tokens) => tokens,

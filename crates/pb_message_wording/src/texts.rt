@@ -47,7 +47,7 @@ fn lex_wording(alloc: Global, text: &[u8], fault: LexFault) -> Result<Wording, N
     }
 }
 
-// Returns the wording of a text of more bytes than are allowed.
+/// Returns the wording of a text of more bytes than are allowed.
 fn too_long(alloc: Global, length: usize) -> Wording {
     let summary = format!(in alloc;
         "the text is {length} bytes long, and at most 65536 are allowed"

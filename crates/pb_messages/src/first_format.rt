@@ -24,7 +24,7 @@ pub fn first_format_message(alloc: Global, text: &[u8]) -> Result<Vec<u8>, NoMem
     }
 }
 
-// Returns the message that the first format can't say the code of a text; nothing if it can.
+/// Returns the message that the first format can't say the code of a text; nothing if it can.
 fn code_message(alloc: Global, text: &[u8], code: &Code) -> Result<Vec<u8>, NoMemory>
     ensures { IfOk result (λ message. SaysWhetherFirst text.now (code_view code.now) message.items) }
 {
@@ -35,7 +35,7 @@ fn code_message(alloc: Global, text: &[u8], code: &Code) -> Result<Vec<u8>, NoMe
     }
 }
 
-// Returns the message that the first format can't say the code of a text.
+/// Returns the message that the first format can't say the code of a text.
 fn unsaid_message(alloc: Global, text: &[u8]) -> Result<Vec<u8>, NoMemory>
     ensures { IfOk result (λ message. IsMessageAt [] text.now (codes "E1") None message.items) }
 {

@@ -9,8 +9,8 @@ use pb_base::limits::MAX_INPUT;
 use std::alloc::Global;
 use std::marker::Model;
 
-// The most bytes that are kept: those of the longest two parts before the commands of `debug --live`, and one
-// more. Of any other command an input is too long with fewer.
+/// The most bytes that are kept: those of the longest two parts before the commands of `debug --live`, and one
+/// more. Of any other command an input is too long with fewer.
 const MAX_KEPT: usize = 2 * MAX_INPUT + 1;
 
 /// An input that gives what another one gives, and keeps the first 8,388,609 bytes of it, so that a fault in
@@ -53,7 +53,7 @@ impl<I: Input> KeptInput<I> {
         }
     }
 
-    // Keeps bytes that were read, as many as there is room for.
+    /// Keeps bytes that were read, as many as there is room for.
     fn keep(&mut self, given: &[u8])
         ensures rest { self.new.rest ≡ self.old.rest }
         ensures failures { self.new.failures ≡ self.old.failures }
@@ -65,7 +65,7 @@ impl<I: Input> KeptInput<I> {
     }
 }
 
-// Puts bytes behind those that are kept, or keeps none if out of memory for them.
+/// Puts bytes behind those that are kept, or keeps none if out of memory for them.
 fn put(kept: &mut Option<Vec<u8>>, bytes: &[u8])
     ensures { IsAdded bytes.now (option_map (λ v. v.items) kept.old) (option_map (λ v. v.items) kept.new) }
 {

@@ -9,7 +9,7 @@ use pb_base::{Lending, NoMemory};
 use pb_command_io::parts::two_parts;
 use std::alloc::Global;
 
-// What is said if one of the two parts before the commands is too long.
+/// What is said if one of the two parts before the commands is too long.
 const LONG_PART: &[u8] =
     b"error input: the text or the pick lines, with the line %% behind them, are longer than 4194304 bytes\n";
 
@@ -26,21 +26,21 @@ pub fn live_message(alloc: Global, lending: Lending, bytes: &[u8]) -> Result<Vec
     debugged_message(alloc, lending, bytes)
 }
 
-// Returns whether one of the two parts before the commands is too long.
+/// Returns whether one of the two parts before the commands is too long.
 fn has_long_part(bytes: &[u8], rest: &[u8], commands: &[u8]) -> bool
     ensures { IsTrue result ↔ (IsLongBefore bytes.now rest.now ⊎ IsLongBefore rest.now commands.now) }
 {
     is_long_before(bytes, rest) || is_long_before(rest, commands)
 }
 
-// Returns whether what is before the rest of some bytes is too long.
+/// Returns whether what is before the rest of some bytes is too long.
 fn is_long_before(bytes: &[u8], rest: &[u8]) -> bool
     ensures { IsTrue result ↔ IsLongBefore bytes.now rest.now }
 {
     MAX_INPUT < bytes.len().saturating_sub(rest.len())
 }
 
-// Returns the message of a part that is too long.
+/// Returns the message of a part that is too long.
 fn long_message(alloc: Global) -> Result<Vec<u8>, NoMemory>
     ensures { IfOk result (λ message. message.items ≡ long_part) }
 {

@@ -19,14 +19,14 @@ use pb_message_excerpts::place_of;
 use pb_message_stops::lines::Lines;
 use std::alloc::{AllocError, Global};
 
-// What is said of an input that is too long.
+/// What is said of an input that is too long.
 const LONG_INPUT: &[u8] = b"error input: the input is longer than 4194304 bytes\n";
 
-// What is said of a run that is too long.
+/// What is said of a run that is too long.
 const LONG_OUTPUT: &[u8] =
     b"error output: the text with its run is longer than 4194304 bytes\n  = hint: record fewer steps: --steps 100000\n";
 
-// With more bytes of messages than these, the texts that follow have none.
+/// With more bytes of messages than these, the texts that follow have none.
 const MANY_BYTES: usize = 4_096;
 
 /// What a command reads.
@@ -63,7 +63,7 @@ pub fn message_of(alloc: Global, reading: Reading, bytes: &[u8]) -> Result<Vec<u
     whole_message(alloc, reading, bytes)
 }
 
-// Returns the messages of an input that is not too long.
+/// Returns the messages of an input that is not too long.
 fn whole_message(alloc: Global, reading: Reading, bytes: &[u8]) -> Result<Vec<u8>, NoMemory>
     requires { length bytes.now ≤ MAX_INPUT }
     ensures { IfOk result (λ message. SaysByReading reading bytes.now message.items) }
@@ -81,7 +81,7 @@ fn whole_message(alloc: Global, reading: Reading, bytes: &[u8]) -> Result<Vec<u8
     }
 }
 
-// Returns the message of a text, or nothing if it is accepted.
+/// Returns the message of a text, or nothing if it is accepted.
 fn whole_text_message(alloc: Global, text: &[u8]) -> Result<Vec<u8>, NoMemory>
     ensures { IfOk result (λ message. SaysOfText text.now [] message.items) }
 {
@@ -91,7 +91,7 @@ fn whole_text_message(alloc: Global, text: &[u8]) -> Result<Vec<u8>, NoMemory>
     }
 }
 
-// Returns the message of a text, if it is refused.
+/// Returns the message of a text, if it is refused.
 fn refusal_message(alloc: Global, label: &str, text: &[u8]) -> Result<Option<Vec<u8>>, NoMemory>
     ensures accepted { IfOk result (λ told. IfNone told (IsAcceptedText text.now)) }
     ensures refused { IfOk result (λ told. IfSome told (λ message. TellsRefusal label.now text.now message.items)) }
@@ -102,7 +102,7 @@ fn refusal_message(alloc: Global, label: &str, text: &[u8]) -> Result<Option<Vec
     }
 }
 
-// Returns the message of a text whose capital does not matter, or nothing if it is accepted.
+/// Returns the message of a text whose capital does not matter, or nothing if it is accepted.
 fn claims_message(alloc: Global, text: &[u8]) -> Result<Vec<u8>, NoMemory>
     ensures { IfOk result (λ message. SaysOfProgram text.now message.items) }
 {
@@ -112,7 +112,7 @@ fn claims_message(alloc: Global, text: &[u8]) -> Result<Vec<u8>, NoMemory>
     }
 }
 
-// Returns the message of an object, or nothing if it is accepted.
+/// Returns the message of an object, or nothing if it is accepted.
 fn whole_object_message(alloc: Global, object: &[u8]) -> Result<Vec<u8>, NoMemory>
     ensures { IfOk result (λ message. SaysOfObjectText object.now message.items) }
 {
@@ -122,7 +122,7 @@ fn whole_object_message(alloc: Global, object: &[u8]) -> Result<Vec<u8>, NoMemor
     }
 }
 
-// Returns the message of a text, or of its run that is too long.
+/// Returns the message of a text, or of its run that is too long.
 fn recorded_message(alloc: Global, text: &[u8]) -> Result<Vec<u8>, NoMemory>
     ensures { IfOk result (λ message. SaysOfText text.now long_output message.items) }
 {
@@ -132,7 +132,7 @@ fn recorded_message(alloc: Global, text: &[u8]) -> Result<Vec<u8>, NoMemory>
     }
 }
 
-// Returns the messages of the first texts of an input that are refused.
+/// Returns the messages of the first texts of an input that are refused.
 fn texts_messages(alloc: Global, bytes: &[u8]) -> Result<Vec<u8>, NoMemory>
     requires { length bytes.now ≤ MAX_INPUT }
     ensures { IfOk result (λ messages. SaysOfTexts bytes.now messages.items) }
@@ -187,7 +187,7 @@ fn part_label(alloc: Global, number: u64, is_last: bool) -> Result<String, Alloc
     format!(in alloc; "text {number}, ")
 }
 
-// Returns the message of a text and the pick lines behind it.
+/// Returns the message of a text and the pick lines behind it.
 fn replayed_message(alloc: Global, lending: Lending, bytes: &[u8]) -> Result<Vec<u8>, NoMemory>
     ensures { IfOk result (λ message. SaysByReading (Replayed lending) bytes.now message.items) }
 {
@@ -204,7 +204,7 @@ fn replayed_message(alloc: Global, lending: Lending, bytes: &[u8]) -> Result<Vec
     )
 }
 
-// Returns the message of a text and the print lines behind it.
+/// Returns the message of a text and the print lines behind it.
 fn expected_message(alloc: Global, bytes: &[u8]) -> Result<Vec<u8>, NoMemory>
     ensures { IfOk result (λ message. SaysByReading Expected bytes.now message.items) }
 {
@@ -220,7 +220,7 @@ fn expected_message(alloc: Global, bytes: &[u8]) -> Result<Vec<u8>, NoMemory>
     )
 }
 
-// Returns the message of a text or an object and the pick lines behind it, made under a lending.
+/// Returns the message of a text or an object and the pick lines behind it, made under a lending.
 pub(crate) fn debugged_message(
     alloc: Global,
     lending: Lending,
@@ -239,19 +239,19 @@ pub(crate) fn debugged_message(
     }
 }
 
-// Returns the number of the line at an offset.
+/// Returns the number of the line at an offset.
 fn line_of(bytes: &[u8], at: usize) -> usize {
     place_of(bytes, at.min(bytes.len())).line
 }
 
-// Returns whether bytes begin as an object does.
+/// Returns whether bytes begin as an object does.
 fn is_object(source: &[u8]) -> bool
     ensures { IsTrue result ↔ (take 4 source.now ≡ codes "PBO ") }
 {
     source.starts_with(b"PBO ")
 }
 
-// Returns the message of a text, or of pick lines over its code.
+/// Returns the message of a text, or of pick lines over its code.
 fn picked_text_message(
     alloc: Global,
     lending: Lending,
@@ -266,7 +266,7 @@ fn picked_text_message(
     }
 }
 
-// Returns the message of a text, or of print lines over its code.
+/// Returns the message of a text, or of print lines over its code.
 fn expected_text_message(alloc: Global, text: &[u8], lines: Lines<'_>) -> Result<Vec<u8>, NoMemory>
     ensures { IfOk result (λ message. SaysOfExpectedText text.now lines.entry.text.now message.items) }
 {
@@ -276,7 +276,7 @@ fn expected_text_message(alloc: Global, text: &[u8], lines: Lines<'_>) -> Result
     }
 }
 
-// Returns the message of an object, or of pick lines over its code.
+/// Returns the message of an object, or of pick lines over its code.
 fn picked_object_message(
     alloc: Global,
     lending: Lending,

@@ -32,7 +32,7 @@ pub fn object_message(alloc: Global, bytes: &[u8]) -> Result<Loaded, NoMemory>
     }
 }
 
-// Returns the message of bytes that are not an object.
+/// Returns the message of bytes that are not an object.
 fn unread_message(alloc: Global, bytes: &[u8], fault: ObjectFault) -> Result<Vec<u8>, NoMemory>
     requires { IsLoadFault bytes.now (LoadFault.Object fault) }
     ensures { IfOk result (λ message. TellsObject bytes.now message.items) }
@@ -44,7 +44,7 @@ fn unread_message(alloc: Global, bytes: &[u8], fault: ObjectFault) -> Result<Vec
     worded(alloc, "", bytes, &cause, &wording)
 }
 
-// Returns the message of code that is not safe.
+/// Returns the message of code that is not safe.
 fn unsafe_message(alloc: Global, bytes: &[u8], fault: VerifyFault) -> Result<Vec<u8>, NoMemory>
     requires { IsLoadFault bytes.now (LoadFault.Unsafe fault) }
     ensures { IfOk result (λ message. TellsObject bytes.now message.items) }

@@ -19,7 +19,7 @@ use pb_picks::{PickFault, read_picks};
 use pb_verifier::Verified;
 use std::alloc::Global;
 
-// What is before the line of a place.
+/// What is before the line of a place.
 const LABEL: &str = "pick ";
 
 /// Returns the message of pick lines that are refused or of which a pick is under this lending, over this code;
@@ -42,7 +42,7 @@ pub fn lines_message(
     }
 }
 
-// Returns the message of lines that say no picks.
+/// Returns the message of lines that say no picks.
 fn unread_message(
     alloc: Global,
     lending: Lending,
@@ -64,7 +64,7 @@ fn unread_message(
     worded(alloc, LABEL, lines.text, &cause, &wording)
 }
 
-// Returns the message of a pick that is not enabled.
+/// Returns the message of a pick that is not enabled.
 fn stop_message(
     alloc: Global,
     lending: Lending,

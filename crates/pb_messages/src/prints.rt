@@ -14,7 +14,7 @@ use pb_search_engine::{PrintFault, read_prints};
 use pb_verifier::Verified;
 use std::alloc::Global;
 
-// What is before the line of a place.
+/// What is before the line of a place.
 const LABEL: &str = "print ";
 
 /// Returns the message of print lines of which one says no print of this code; nothing if all say prints.
@@ -31,7 +31,7 @@ pub fn prints_message(
     }
 }
 
-// Returns the message of lines of which one says no print.
+/// Returns the message of lines of which one says no print.
 fn unsaid_message(
     alloc: Global,
     code: &Code,

@@ -42,7 +42,7 @@ pub fn early_message(alloc: Global, text: &[u8]) -> Result<Option<Vec<u8>>, NoMe
     }
 }
 
-// Returns the message of a fault of a text.
+/// Returns the message of a fault of a text.
 fn fault_message(
     alloc: Global,
     label: &str,

@@ -30,7 +30,7 @@ pub fn worded(
     compose(alloc, cause, summary, &shown, &details)
 }
 
-// Returns whether words are there, and in one line.
+/// Returns whether words are there, and in one line.
 fn is_summary(words: &[u8]) -> bool
     ensures { IsTrue result → IsSummary words.now }
 {
@@ -42,7 +42,7 @@ fn is_summary(words: &[u8]) -> bool
     !words.is_empty()
 }
 
-// Returns the place of a cause, if it has one, as a message shows it.
+/// Returns the place of a cause, if it has one, as a message shows it.
 fn show_cause(alloc: Global, label: &str, text: &[u8], cause: &Cause) -> Result<Vec<u8>, NoMemory>
     ensures { IfOk result (λ shown. IsShown label.now text.now cause.now.at shown.items) }
 {
@@ -52,7 +52,7 @@ fn show_cause(alloc: Global, label: &str, text: &[u8], cause: &Cause) -> Result<
     }
 }
 
-// Returns the lines behind the place of a fault.
+/// Returns the lines behind the place of a fault.
 fn details(
     alloc: Global,
     label: &str,
@@ -65,7 +65,7 @@ fn details(
     Ok(out)
 }
 
-// Appends to `out` the lines that follow the place of a fault.
+/// Appends to `out` the lines that follow the place of a fault.
 fn put_details(
     alloc: Global,
     out: &mut Vec<u8>,
@@ -85,7 +85,7 @@ fn put_details(
     Ok(())
 }
 
-// Returns the offset at which a message points first.
+/// Returns the offset at which a message points first.
 fn first_place(cause: &Cause, wording: &Wording) -> usize {
     match (cause.at, wording.spots.first()) {
         (Some(at), _) => at,
@@ -94,7 +94,7 @@ fn first_place(cause: &Cause, wording: &Wording) -> usize {
     }
 }
 
-// Appends another place to `out`.
+/// Appends another place to `out`.
 fn put_spot(
     alloc: Global,
     out: &mut Vec<u8>,
@@ -106,7 +106,7 @@ fn put_spot(
     put_place(alloc, out, &label, text, spot.at)
 }
 
-// Appends a place of a text to `out`, as `show_place` shows it.
+/// Appends a place of a text to `out`, as `show_place` shows it.
 fn put_place(
     alloc: Global,
     out: &mut Vec<u8>,
@@ -119,12 +119,12 @@ fn put_place(
     Ok(())
 }
 
-// Returns how many digits a number has.
+/// Returns how many digits a number has.
 fn decimal_width(alloc: Global, number: usize) -> Result<usize, NoMemory> {
     Ok(format!(in alloc; "{number}")?.len())
 }
 
-// Appends a note to `out`, with a margin of this width and a space before it.
+/// Appends a note to `out`, with a margin of this width and a space before it.
 fn put_note(out: &mut Vec<u8>, width: usize, note: &String) -> Result<(), NoMemory> {
     for _ in 0..width {
         out.push(b' ')?;
@@ -135,8 +135,8 @@ fn put_note(out: &mut Vec<u8>, width: usize, note: &String) -> Result<(), NoMemo
     Ok(())
 }
 
-// Returns a message: the code of a cause, what is wrong in words, the place of the fault, and details, which
-// end in line feeds.
+/// Returns a message: the code of a cause, what is wrong in words, the place of the fault, and details, which
+/// end in line feeds.
 fn compose(
     alloc: Global,
     cause: &Cause,
@@ -157,7 +157,7 @@ fn compose(
     Ok(text)
 }
 
-// Appends a message to `text`.
+/// Appends a message to `text`.
 fn put_message(
     text: &mut Vec<u8>,
     code: &[u8],

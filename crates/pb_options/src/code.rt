@@ -167,7 +167,7 @@ impl Code {
     }
 }
 
-// Returns the first of these codes that has this name.
+/// Returns the first of these codes that has this name.
 fn find(listed: &[Code], name: &str) -> Option<Code>
     ensures some { IfSome result (λ code. code_name code ≡ name.now) }
     ensures none { IfNone result (All (λ code. code_name code ≡ name.now → ⊥) listed.now) }

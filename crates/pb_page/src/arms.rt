@@ -24,7 +24,7 @@ pub(crate) fn add(entries: &mut Vec<Vec<u8>>, entry: Vec<u8>) -> Result<(), NoMe
     Ok(())
 }
 
-// Appends where an arm is.
+/// Appends where an arm is.
 fn put_place(out: &mut Vec<u8>, faulted: bool, thread: &Thread) -> Result<(), NoMemory>
     ensures { OnOk result (out.new.items ≡ out.old.items ++ spec.place_text faulted (thread_view thread.now)) }
 {
@@ -40,7 +40,7 @@ fn put_place(out: &mut Vec<u8>, faulted: bool, thread: &Thread) -> Result<(), No
     }
 }
 
-// Returns where an arm is.
+/// Returns where an arm is.
 fn place_of(alloc: Global, faulted: bool, thread: &Thread) -> Result<Vec<u8>, NoMemory>
     ensures { IfOk result (λ text. text.items ≡ spec.place_text faulted (thread_view thread.now)) }
 {
@@ -65,7 +65,7 @@ pub(crate) fn add_places(
     Ok(())
 }
 
-// Returns the operands of an arm.
+/// Returns the operands of an arm.
 fn operands_of(alloc: Global, thread: &Thread) -> Result<Vec<u8>, NoMemory>
     ensures { IfOk result (λ text. text.items ≡ spec.operands_text (thread_view thread.now)) }
 {
@@ -90,7 +90,7 @@ pub(crate) fn add_operands(
     Ok(())
 }
 
-// Appends processes, each behind a comma.
+/// Appends processes, each behind a comma.
 fn put_numbers(out: &mut Vec<u8>, numbers: &[u8]) -> Result<(), NoMemory>
     ensures { OnOk result (out.new.items ≡ out.old.items ++ spec.numbers_text numbers.now) }
 {
@@ -100,7 +100,7 @@ fn put_numbers(out: &mut Vec<u8>, numbers: &[u8]) -> Result<(), NoMemory>
     Ok(())
 }
 
-// Appends the resource of which there is too little cash.
+/// Appends the resource of which there is too little cash.
 fn put_cash(out: &mut Vec<u8>, resource: u8) -> Result<(), NoMemory>
     ensures { OnOk result (out.new.items ≡ out.old.items ++ spec.cash_text resource) }
 {
@@ -108,7 +108,7 @@ fn put_cash(out: &mut Vec<u8>, resource: u8) -> Result<(), NoMemory>
     put(out, b"]")
 }
 
-// Appends the processes that could not finish.
+/// Appends the processes that could not finish.
 fn put_rest(out: &mut Vec<u8>, rest: &Vec<u8>) -> Result<(), NoMemory>
     ensures { OnOk result (out.new.items ≡ out.old.items ++ spec.why_text (GivenWhy.Rest rest.now)) }
 {
@@ -117,7 +117,7 @@ fn put_rest(out: &mut Vec<u8>, rest: &Vec<u8>) -> Result<(), NoMemory>
     put(out, b"]")
 }
 
-// Appends why an arm does not go on, or may.
+/// Appends why an arm does not go on, or may.
 fn put_why(out: &mut Vec<u8>, why: &Why) -> Result<(), NoMemory>
     ensures { OnOk result (out.new.items ≡ out.old.items ++ spec.why_text why.now) }
 {
@@ -129,7 +129,7 @@ fn put_why(out: &mut Vec<u8>, why: &Why) -> Result<(), NoMemory>
     }
 }
 
-// Returns the text of a reason.
+/// Returns the text of a reason.
 fn why_text(alloc: Global, why: &Why) -> Result<Vec<u8>, NoMemory>
     ensures { IfOk result (λ text. text.items ≡ spec.why_text why.now) }
 {
@@ -138,7 +138,7 @@ fn why_text(alloc: Global, why: &Why) -> Result<Vec<u8>, NoMemory>
     Ok(text)
 }
 
-// Returns why an arm of a process does not go on, or may.
+/// Returns why an arm of a process does not go on, or may.
 fn why_of(
     alloc: Global,
     verified: &Verified,

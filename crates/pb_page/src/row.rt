@@ -21,7 +21,7 @@ use pb_json::put_string;
 use pb_verifier::Verified;
 use std::alloc::Global;
 
-// Returns an entry, or nothing if there is none with this number.
+/// Returns an entry, or nothing if there is none with this number.
 fn entry(entries: &[Vec<u8>], k: usize) -> &[u8]
     ensures { result.now ≡ entry_at (texts entries.now) k }
 {
@@ -31,7 +31,7 @@ fn entry(entries: &[Vec<u8>], k: usize) -> &[u8]
     }
 }
 
-// Appends an entry with its number, if it is another than it was.
+/// Appends an entry with its number, if it is another than it was.
 fn put_change(out: &mut Vec<u8>, k: usize, before: &[u8], after: &[u8]) -> Result<(), NoMemory>
     ensures { OnOk result (out.new.items ≡ out.old.items ++ spec.change_text k before.now after.now) }
 {
@@ -43,7 +43,7 @@ fn put_change(out: &mut Vec<u8>, k: usize, before: &[u8], after: &[u8]) -> Resul
     put(out, after)
 }
 
-// Appends the entries that differ.
+/// Appends the entries that differ.
 fn put_changes(out: &mut Vec<u8>, before: &[Vec<u8>], after: &[Vec<u8>]) -> Result<(), NoMemory>
     ensures { OnOk result (out.new.items
         ≡ out.old.items ++ spec.changes_text (texts before.now) (texts after.now)) }
@@ -54,7 +54,7 @@ fn put_changes(out: &mut Vec<u8>, before: &[Vec<u8>], after: &[Vec<u8>]) -> Resu
     Ok(())
 }
 
-// Appends the line of the event that a pick shows, if it shows one.
+/// Appends the line of the event that a pick shows, if it shows one.
 fn put_shown(out: &mut Vec<u8>, alloc: Global, names: &Names, step: &Step) -> Result<(), NoMemory>
     requires { HasNamesOf (names_view names.now) step.now }
     ensures { OnOk result (out.new.items ≡ out.old.items ++ spec.shown_text (names_view names.now) step.now) }
@@ -69,7 +69,7 @@ fn put_shown(out: &mut Vec<u8>, alloc: Global, names: &Names, step: &Step) -> Re
     }
 }
 
-// Appends a row.
+/// Appends a row.
 fn put_row(
     out: &mut Vec<u8>,
     alloc: Global,

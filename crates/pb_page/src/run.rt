@@ -33,7 +33,7 @@ pub struct Shown {
     pub rows: u32,
 }
 
-// Appends an entry of a state, with the comma before it.
+/// Appends an entry of a state, with the comma before it.
 fn put_entry(out: &mut Vec<u8>, k: usize, entry: &[u8]) -> Result<(), NoMemory>
     ensures { OnOk result (out.new.items ≡ out.old.items ++ (comma k ++ entry.now)) }
 {
@@ -41,7 +41,7 @@ fn put_entry(out: &mut Vec<u8>, k: usize, entry: &[u8]) -> Result<(), NoMemory>
     put(out, entry)
 }
 
-// Appends the entries of a state as a list.
+/// Appends the entries of a state as a list.
 fn put_state(out: &mut Vec<u8>, entries: &[Vec<u8>]) -> Result<(), NoMemory>
     ensures { OnOk result (out.new.items ≡ out.old.items ++ spec.state_text (texts entries.now)) }
 {
@@ -52,7 +52,7 @@ fn put_state(out: &mut Vec<u8>, entries: &[Vec<u8>]) -> Result<(), NoMemory>
     put(out, b"]")
 }
 
-// Appends a text behind words.
+/// Appends a text behind words.
 fn put_text(out: &mut Vec<u8>, words: &[u8], text: &[u8]) -> Result<(), NoMemory>
     ensures { OnOk result (out.new.items ≡ out.old.items ++ (words.now ++ string_text text.now)) }
 {
@@ -60,7 +60,7 @@ fn put_text(out: &mut Vec<u8>, words: &[u8], text: &[u8]) -> Result<(), NoMemory
     put_string(out, text)
 }
 
-// Appends what a document begins with.
+/// Appends what a document begins with.
 fn put_head(
     out: &mut Vec<u8>,
     source: &[u8],
@@ -76,7 +76,7 @@ fn put_head(
     put_number(out, b",\"from\":", from)
 }
 
-// Appends the state with which a document begins, up to the first row.
+/// Appends the state with which a document begins, up to the first row.
 fn put_start(out: &mut Vec<u8>, state: &[Vec<u8>]) -> Result<(), NoMemory>
     ensures { OnOk result (out.new.items ≡ out.old.items ++ spec.start_text (texts state.now)) }
 {
@@ -85,7 +85,7 @@ fn put_start(out: &mut Vec<u8>, state: &[Vec<u8>]) -> Result<(), NoMemory>
     put(out, b",\"rows\":[")
 }
 
-// Appends what is behind the last row.
+/// Appends what is behind the last row.
 fn put_end(out: &mut Vec<u8>, end: &[u8]) -> Result<(), NoMemory>
     ensures { OnOk result (out.new.items ≡ out.old.items ++ spec.end_text end.now) }
 {
@@ -94,7 +94,7 @@ fn put_end(out: &mut Vec<u8>, end: &[u8]) -> Result<(), NoMemory>
     put(out, b"\"}\n")
 }
 
-// Returns a machine at a position of a run.
+/// Returns a machine at a position of a run.
 fn walker_at(
     alloc: Global,
     verified: &Verified,
@@ -112,7 +112,7 @@ fn walker_at(
     Ok(walker)
 }
 
-// Appends the rows of the next picks, with commas between them.
+/// Appends the rows of the next picks, with commas between them.
 fn put_rows(
     out: &mut Vec<u8>,
     alloc: Global,
@@ -139,7 +139,7 @@ fn put_rows(
     Ok(())
 }
 
-// Returns what is behind the last row.
+/// Returns what is behind the last row.
 fn end_word(verified: &Verified, trace: &Trace, walker: &Walker) -> &'static [u8]
     requires walks { WalksBy ByBanker verified.now (picks_of trace.now.entries) walker.now }
     requires within { walker.now.at ≤ length (picks_of trace.now.entries) }

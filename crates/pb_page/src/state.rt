@@ -20,7 +20,7 @@ use pb_machine::{Machine, Proc};
 use pb_verifier::Verified;
 use std::alloc::Global;
 
-// Adds the places of all arms.
+/// Adds the places of all arms.
 fn add_all_places(
     alloc: Global,
     entries: &mut Vec<Vec<u8>>,
@@ -36,7 +36,7 @@ fn add_all_places(
     Ok(())
 }
 
-// Adds the operands of all arms.
+/// Adds the operands of all arms.
 fn add_all_operands(
     alloc: Global,
     entries: &mut Vec<Vec<u8>>,
@@ -52,7 +52,7 @@ fn add_all_operands(
     Ok(())
 }
 
-// Adds why each arm of each process does not go on, or may.
+/// Adds why each arm of each process does not go on, or may.
 fn add_all_whys(
     alloc: Global,
     entries: &mut Vec<Vec<u8>>,
@@ -72,7 +72,7 @@ fn add_all_whys(
     Ok(())
 }
 
-// Returns the text of an integer.
+/// Returns the text of an integer.
 fn integer_of(alloc: Global, value: i64) -> Result<Vec<u8>, NoMemory>
     ensures { IfOk result (λ text. text.items ≡ integer_text value) }
 {
@@ -81,7 +81,7 @@ fn integer_of(alloc: Global, value: i64) -> Result<Vec<u8>, NoMemory>
     Ok(text)
 }
 
-// Adds the integers of a process.
+/// Adds the integers of a process.
 fn add_integers(alloc: Global, entries: &mut Vec<Vec<u8>>, process: &Proc) -> Result<(), NoMemory>
     ensures { OnOk result (texts entries.new.items
         ≡ texts entries.old.items ++ spec.integers_of (proc_view process.now)) }
@@ -94,7 +94,7 @@ fn add_integers(alloc: Global, entries: &mut Vec<Vec<u8>>, process: &Proc) -> Re
     Ok(())
 }
 
-// Adds the integers of all processes.
+/// Adds the integers of all processes.
 fn add_all_integers(
     alloc: Global,
     entries: &mut Vec<Vec<u8>>,
@@ -110,7 +110,7 @@ fn add_all_integers(
     Ok(())
 }
 
-// Returns the text of an amount.
+/// Returns the text of an amount.
 fn amount_of(alloc: Global, amount: u32) -> Result<Vec<u8>, NoMemory>
     ensures { IfOk result (λ text. text.items ≡ decimal amount) }
 {
@@ -119,7 +119,7 @@ fn amount_of(alloc: Global, amount: u32) -> Result<Vec<u8>, NoMemory>
     Ok(text)
 }
 
-// Adds what a process holds of each resource.
+/// Adds what a process holds of each resource.
 fn add_loans(
     alloc: Global,
     entries: &mut Vec<Vec<u8>>,
@@ -137,7 +137,7 @@ fn add_loans(
     Ok(())
 }
 
-// Adds what each process holds of each resource.
+/// Adds what each process holds of each resource.
 fn add_all_loans(alloc: Global, entries: &mut Vec<Vec<u8>>, bank: &Lender) -> Result<(), NoMemory>
     ensures { OnOk result (texts entries.new.items ≡ texts entries.old.items
         ++ parts_below (spec.loans_of (lender_state bank.now)) (processes (lender_state bank.now))) }
@@ -148,7 +148,7 @@ fn add_all_loans(alloc: Global, entries: &mut Vec<Vec<u8>>, bank: &Lender) -> Re
     Ok(())
 }
 
-// Appends a process of an order, with the comma before it.
+/// Appends a process of an order, with the comma before it.
 fn put_next(out: &mut Vec<u8>, k: usize, process: u8) -> Result<(), NoMemory>
     ensures { OnOk result (out.new.items ≡ out.old.items ++ (comma k ++ decimal process)) }
 {
@@ -156,7 +156,7 @@ fn put_next(out: &mut Vec<u8>, k: usize, process: u8) -> Result<(), NoMemory>
     put_digits(out, process)
 }
 
-// Returns the text of an order.
+/// Returns the text of an order.
 fn order_text(alloc: Global, order: &[u8]) -> Result<Vec<u8>, NoMemory>
     ensures { IfOk result (λ text. text.items ≡ spec.order_text order.now) }
 {
@@ -169,7 +169,7 @@ fn order_text(alloc: Global, order: &[u8]) -> Result<Vec<u8>, NoMemory>
     Ok(text)
 }
 
-// Adds the order in which the banker can finish.
+/// Adds the order in which the banker can finish.
 fn add_order(alloc: Global, entries: &mut Vec<Vec<u8>>, banker: &Banker) -> Result<(), NoMemory>
     ensures { OnOk result ((order : List ℕ) × IsLeastFirst banker.now.state order
         × (texts entries.new.items ≡ texts entries.old.items ++ spec.order_text order ∷ [])) }

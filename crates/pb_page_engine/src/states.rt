@@ -63,7 +63,7 @@ pub fn states_engine<I: Input, O: Output>(
     }
 }
 
-// Writes the document of a whole input.
+/// Writes the document of a whole input.
 fn states_bytes<O: Output>(alloc: Global, shown: Shown, bytes: &[u8], output: &mut O) -> Status
     requires { length bytes.now ≤ MAX_INPUT }
     ensures text { Tells (SaysOfInput (SaysOfStates shown) bytes.now) (O.written output.old) (O.written output.new) result }
@@ -76,7 +76,7 @@ fn states_bytes<O: Output>(alloc: Global, shown: Shown, bytes: &[u8], output: &m
     }
 }
 
-// Makes the picks that lines say: returns the machine behind them, and their trace.
+/// Makes the picks that lines say: returns the machine behind them, and their trace.
 fn make_lines(
     alloc: Global,
     verified: &Verified,
@@ -96,7 +96,7 @@ fn make_lines(
     }
 }
 
-// Writes the document of the run that lines say, or why their picks are not made.
+/// Writes the document of the run that lines say, or why their picks are not made.
 fn states_lines<O: Output>(
     alloc: Global,
     shown: Shown,
@@ -119,7 +119,7 @@ fn states_lines<O: Output>(
     }
 }
 
-// Returns whether some process has faulted.
+/// Returns whether some process has faulted.
 fn has_fault(machine: &Machine) -> bool
     ensures { IsTrue result ↔ HasFault (machine_view machine.now) }
 {
@@ -131,7 +131,7 @@ fn has_fault(machine: &Machine) -> bool
     false
 }
 
-// Returns the status of a replay that has come to here.
+/// Returns the status of a replay that has come to here.
 #[tactic(auto, using(crate::proofs::ReplayStatus::faulted, crate::proofs::ReplayStatus::whole))]
 fn status_at(machine: &Machine) -> Status
     ensures status { IsStatusAt (machine_view machine.now) result }
@@ -144,7 +144,7 @@ fn status_at(machine: &Machine) -> Status
     }
 }
 
-// Returns the object of a compiled text.
+/// Returns the object of a compiled text.
 fn object_of(alloc: Global, compiled: &Compiled) -> Result<Vec<u8>, NoMemory>
     requires { AreLabels compiled.now.verified.code compiled.now.labels }
     ensures { IfOk result (λ object.
@@ -154,7 +154,7 @@ fn object_of(alloc: Global, compiled: &Compiled) -> Result<Vec<u8>, NoMemory>
     write_object2(alloc, code, compiled.labels())
 }
 
-// Returns the document of a replay.
+/// Returns the document of a replay.
 fn document(
     alloc: Global,
     shown: Shown,

@@ -54,8 +54,8 @@ impl Chooser {
     }
 }
 
-// Makes a pick that is drawn from the candidates. If the lender refuses it, another is drawn from the rest.
-// The list is for the candidates; what it holds before makes no difference.
+/// Makes a pick that is drawn from the candidates. If the lender refuses it, another is drawn from the rest.
+/// The list is for the candidates; what it holds before makes no difference.
 fn step_drawn(
     machine: &mut Machine,
     verified: &Verified,
@@ -84,7 +84,7 @@ fn step_drawn(
     Ok(Next::NotEnabled)
 }
 
-// Returns a drawn number below this one: the rest of the next word.
+/// Returns a drawn number below this one: the rest of the next word.
 fn below(generator: &mut Pcg32, end: usize) -> usize
     requires { 0 < end }
     ensures number { result ≡ (pcg32 generator.old).0 % end }
@@ -94,8 +94,8 @@ fn below(generator: &mut Pcg32, end: usize) -> usize
     generator.next_word() as usize % end
 }
 
-// Puts the candidates in the place of what the list held, in the order of their processes and then of their
-// arms.
+/// Puts the candidates in the place of what the list held, in the order of their processes and then of their
+/// arms.
 fn find_candidates(
     machine: &Machine,
     verified: &Verified,
@@ -112,7 +112,7 @@ fn find_candidates(
     Ok(())
 }
 
-// Adds the candidates of a process behind those of the processes before it.
+/// Adds the candidates of a process behind those of the processes before it.
 fn push_candidates(
     machine: &Machine,
     verified: &Verified,

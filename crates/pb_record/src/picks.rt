@@ -53,7 +53,7 @@ pub fn report_picks<R: Threads + Wait + Sync>(
     }
 }
 
-// Returns the picks of a trace; nothing as soon as they are too many for an input.
+/// Returns the picks of a trace; nothing as soon as they are too many for an input.
 fn count_picks(alloc: Global, trace: &Trace) -> Result<Option<Vec<CountedPick>>, NoMemory>
     requires { length trace.now.entries ≤ MAX_PICKS }
     ensures { IfOk result (λ picks. MatchOption picks (AreTooMany trace.now.entries)

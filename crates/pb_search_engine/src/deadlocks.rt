@@ -64,7 +64,7 @@ pub fn put_deadlock(
     Ok(())
 }
 
-// Appends where each process is in a deadlock to a text.
+/// Appends where each process is in a deadlock to a text.
 fn put_stuck(
     text: &mut Vec<u8>,
     names: &Names,
@@ -81,7 +81,7 @@ fn put_stuck(
     Ok(())
 }
 
-// Appends where a process is in a deadlock to a text, its integers, what it holds and what its arms ask for.
+/// Appends where a process is in a deadlock to a text, its integers, what it holds and what its arms ask for.
 fn put_process(
     text: &mut Vec<u8>,
     names: &Names,
@@ -98,7 +98,7 @@ fn put_process(
     put_asks(text, names, name, &process.asks)
 }
 
-// Appends the line that says where a process is to a text.
+/// Appends the line that says where a process is to a text.
 fn put_state(text: &mut Vec<u8>, name: &[u8], state: StuckState) -> Result<(), NoMemory>
     ensures { OnOk result (text.new.items ≡ text.old.items ++ line (name.now ++ state_text state)) }
 {
@@ -111,7 +111,7 @@ fn put_state(text: &mut Vec<u8>, name: &[u8], state: StuckState) -> Result<(), N
     Ok(())
 }
 
-// Appends the lines of what a process holds to a text.
+/// Appends the lines of what a process holds to a text.
 fn put_holds(
     text: &mut Vec<u8>,
     names: &Names,
@@ -126,7 +126,7 @@ fn put_holds(
     Ok(())
 }
 
-// Appends the line of what a process holds of a resource to a text, if it holds some.
+/// Appends the line of what a process holds of a resource to a text, if it holds some.
 fn put_hold(
     text: &mut Vec<u8>,
     names: &Names,
@@ -145,7 +145,7 @@ fn put_hold(
     Ok(())
 }
 
-// Appends the lines of what the arms of a process ask for to a text.
+/// Appends the lines of what the arms of a process ask for to a text.
 fn put_asks(text: &mut Vec<u8>, names: &Names, process: &[u8], asks: &[Ask]) -> Result<(), NoMemory>
     ensures { OnOk result (text.new.items
         ≡ text.old.items ++ flat_map (ask_line (names_view names.now) process.now) asks.now) }
@@ -156,7 +156,7 @@ fn put_asks(text: &mut Vec<u8>, names: &Names, process: &[u8], asks: &[Ask]) -> 
     Ok(())
 }
 
-// Appends the line of what an arm asks for to a text.
+/// Appends the line of what an arm asks for to a text.
 fn put_ask(text: &mut Vec<u8>, names: &Names, process: &[u8], ask: &Ask) -> Result<(), NoMemory>
     ensures { OnOk result (text.new.items ≡ text.old.items ++ ask_line (names_view names.now) process.now ask.now) }
 {
@@ -168,7 +168,7 @@ fn put_ask(text: &mut Vec<u8>, names: &Names, process: &[u8], ask: &Ask) -> Resu
     Ok(())
 }
 
-// Appends the pairs of a bundle to a text.
+/// Appends the pairs of a bundle to a text.
 fn put_pairs(text: &mut Vec<u8>, names: &Names, bundle: &Bundle) -> Result<(), NoMemory>
     ensures { OnOk result (text.new.items ≡ text.old.items ++ pairs_text (names_view names.now) bundle.now) }
 {
@@ -179,7 +179,7 @@ fn put_pairs(text: &mut Vec<u8>, names: &Names, bundle: &Bundle) -> Result<(), N
     Ok(())
 }
 
-// Appends an amount and the name of its resource to a text.
+/// Appends an amount and the name of its resource to a text.
 fn put_pair(text: &mut Vec<u8>, names: &Names, resource: usize, amount: u32) -> Result<(), NoMemory>
     ensures { OnOk result (text.new.items
         ≡ text.old.items ++ pair_text (names_view names.now) (record { resource = resource; amount = amount })) }

@@ -51,7 +51,7 @@ pub fn tell_expected<O: Output>(
     }
 }
 
-// Returns what is said of a compiled text and the lines behind it.
+/// Returns what is said of a compiled text and the lines behind it.
 fn reply(
     alloc: Global,
     options: OutcomesOptions,
@@ -77,7 +77,7 @@ fn reply(
     }
 }
 
-// Returns what is said of the runs of a compiled text, which are to print this.
+/// Returns what is said of the runs of a compiled text, which are to print this.
 fn compared(
     alloc: Global,
     options: OutcomesOptions,
@@ -97,7 +97,7 @@ fn compared(
     }
 }
 
-// Returns what is said if this outcome is the first that is not wanted.
+/// Returns what is said if this outcome is the first that is not wanted.
 fn other_outcome(
     alloc: Global,
     compiled: &Compiled,
@@ -118,7 +118,7 @@ fn other_outcome(
     })
 }
 
-// Returns what is said if all outcomes that were found are wanted.
+/// Returns what is said if all outcomes that were found are wanted.
 fn no_other(
     alloc: Global,
     compiled: &Compiled,

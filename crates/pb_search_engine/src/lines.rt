@@ -58,7 +58,7 @@ pub fn outcomes_text(
     Ok(text)
 }
 
-// Returns the lines of these outcomes, each with its picks.
+/// Returns the lines of these outcomes, each with its picks.
 fn found_text(
     alloc: Global,
     names: &Names,
@@ -130,7 +130,7 @@ pub fn put_last(
     }
 }
 
-// Appends that there are more than this number of something.
+/// Appends that there are more than this number of something.
 fn put_excess(text: &mut Vec<u8>, number: u32, what: &[u8]) -> Result<(), NoMemory>
     ensures { OnOk result (text.new.items ≡ text.old.items ++ (codes "more than " ++ decimal number ++ what.now)) }
 {
@@ -139,7 +139,7 @@ fn put_excess(text: &mut Vec<u8>, number: u32, what: &[u8]) -> Result<(), NoMemo
     Ok(())
 }
 
-// Appends the line that says how many outcomes and deadlocks there are and whether some run never ends.
+/// Appends the line that says how many outcomes and deadlocks there are and whether some run never ends.
 fn put_count(
     text: &mut Vec<u8>,
     outcomes: usize,
@@ -157,7 +157,7 @@ fn put_count(
     Ok(())
 }
 
-// Appends the end of a word that is said of this number.
+/// Appends the end of a word that is said of this number.
 fn put_plural(text: &mut Vec<u8>, number: usize) -> Result<(), NoMemory>
     ensures { OnOk result (text.new.items ≡ text.old.items ++ plural number) }
 {
@@ -167,7 +167,7 @@ fn put_plural(text: &mut Vec<u8>, number: usize) -> Result<(), NoMemory>
     Ok(())
 }
 
-// Appends whether some run never ends to a text.
+/// Appends whether some run never ends to a text.
 fn put_runs(text: &mut Vec<u8>, cycles: bool) -> Result<(), NoMemory>
     ensures { OnOk result (text.new.items ≡ text.old.items ++ runs_text cycles) }
 {
@@ -177,7 +177,7 @@ fn put_runs(text: &mut Vec<u8>, cycles: bool) -> Result<(), NoMemory>
     Ok(())
 }
 
-// Appends how many deadlocks there are to a text, if there are some.
+/// Appends how many deadlocks there are to a text, if there are some.
 fn put_deadlock_count(text: &mut Vec<u8>, deadlocks: usize) -> Result<(), NoMemory>
     ensures { OnOk result (text.new.items ≡ text.old.items ++ deadlocks_text deadlocks) }
 {
@@ -189,7 +189,7 @@ fn put_deadlock_count(text: &mut Vec<u8>, deadlocks: usize) -> Result<(), NoMemo
     Ok(())
 }
 
-// Appends how each process ended to a text.
+/// Appends how each process ended to a text.
 fn put_processes(
     text: &mut Vec<u8>,
     names: &[Vec<u8>],
@@ -205,7 +205,7 @@ fn put_processes(
     Ok(())
 }
 
-// Appends how a process ended to a text, and its integers.
+/// Appends how a process ended to a text, and its integers.
 fn put_process(
     text: &mut Vec<u8>,
     name: &[u8],
@@ -240,7 +240,7 @@ pub fn put_integers(
     Ok(())
 }
 
-// Appends the line of an integer of a process to a text.
+/// Appends the line of an integer of a process to a text.
 fn put_integer(text: &mut Vec<u8>, process: &[u8], name: &[u8], value: i64) -> Result<(), NoMemory>
     ensures { OnOk result (text.new.items ≡ text.old.items ++ integer_line process.now name.now value) }
 {

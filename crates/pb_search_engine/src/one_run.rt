@@ -61,7 +61,7 @@ pub fn tell_one_run<O: Output>(
     }
 }
 
-// Returns what is said of a compiled text.
+/// Returns what is said of a compiled text.
 fn reply(
     alloc: Global,
     options: OutcomesOptions,
@@ -89,7 +89,7 @@ fn reply(
     }
 }
 
-// Returns the picks that lead to an outcome or a deadlock, if there is one with its number.
+/// Returns the picks that lead to an outcome or a deadlock, if there is one with its number.
 fn picks_to(target: Target, told: &Outcomes) -> Option<&[Pick]>
     ensures { option_map (λ (picks : Bor (List Pick)). picks.now) result
         ≡ picks_to target (map found_view told.now.found.items) (map deadlock_view told.now.deadlocks.items) }
@@ -106,14 +106,14 @@ fn picks_to(target: Target, told: &Outcomes) -> Option<&[Pick]>
     }
 }
 
-// Returns the place of the one with this number, counted from 0.
+/// Returns the place of the one with this number, counted from 0.
 fn place(number: u32) -> usize
     ensures { result ≡ number - 1 }
 {
     number.saturating_sub(1) as usize
 }
 
-// Returns the answer that there is none with this number, with how many there are.
+/// Returns the answer that there is none with this number, with how many there are.
 fn no_run(alloc: Global, target: Target, told: &Outcomes, states: u32) -> Result<Reply, NoMemory>
     ensures { IfOk result (λ r.
         (r.text.items ≡ none_line target
@@ -131,7 +131,7 @@ fn no_run(alloc: Global, target: Target, told: &Outcomes, states: u32) -> Result
     })
 }
 
-// Appends that there is none with this number.
+/// Appends that there is none with this number.
 fn put_none(text: &mut Vec<u8>, target: Target) -> Result<(), NoMemory>
     ensures { OnOk result (text.new.items ≡ text.old.items ++ none_line target) }
 {
@@ -141,7 +141,7 @@ fn put_none(text: &mut Vec<u8>, target: Target) -> Result<(), NoMemory>
     }
 }
 
-// Returns the status if there is none with the number that is asked for.
+/// Returns the status if there is none with the number that is asked for.
 fn none_status(extent: Extent) -> Status
     ensures { result ≡ none_status extent }
 {

@@ -69,7 +69,7 @@ pub fn outcomes_engine<I: Input, O: Output>(
     }
 }
 
-// Writes the outcomes of a text, or a run to one of them, or whether all runs of it are as expected.
+/// Writes the outcomes of a text, or a run to one of them, or whether all runs of it are as expected.
 fn tell_text<O: Output>(
     alloc: Global,
     options: OutcomesOptions,
@@ -89,7 +89,7 @@ fn tell_text<O: Output>(
     }
 }
 
-// Returns which outcome or deadlock a run is asked for, if one is.
+/// Returns which outcome or deadlock a run is asked for, if one is.
 fn target(run: Option<u32>, deadlock: Option<u32>) -> Option<Target>
     ensures { result ≡ target_of run deadlock }
 {
@@ -100,7 +100,7 @@ fn target(run: Option<u32>, deadlock: Option<u32>) -> Option<Target>
     }
 }
 
-// Writes the outcomes of a text.
+/// Writes the outcomes of a text.
 fn tell_outcomes<O: Output>(
     alloc: Global,
     options: OutcomesOptions,
@@ -117,7 +117,7 @@ fn tell_outcomes<O: Output>(
     }
 }
 
-// Returns the lines of the outcomes and deadlocks of a compiled text, and of its fair runs if that is asked.
+/// Returns the lines of the outcomes and deadlocks of a compiled text, and of its fair runs if that is asked.
 fn reply(alloc: Global, options: OutcomesOptions, compiled: &Compiled) -> Result<Reply, NoMemory>
     requires { AreLabels compiled.now.verified.code compiled.now.labels }
     ensures { IfOk result (λ r.
@@ -133,14 +133,14 @@ fn reply(alloc: Global, options: OutcomesOptions, compiled: &Compiled) -> Result
     Ok(reply)
 }
 
-// What is said of outcomes and deadlocks, and whether it is known that every run ends.
+/// What is said of outcomes and deadlocks, and whether it is known that every run ends.
 #[derive(Drop)]
 struct FoundReply {
     reply: Reply,
     all_end: bool,
 }
 
-// Returns the lines of the outcomes and deadlocks of a compiled text.
+/// Returns the lines of the outcomes and deadlocks of a compiled text.
 fn found_reply(
     alloc: Global,
     options: OutcomesOptions,
@@ -169,7 +169,7 @@ fn found_reply(
     })
 }
 
-// Returns whether all was found, and no run never ends.
+/// Returns whether all was found, and no run never ends.
 fn all_end(extent: Extent) -> bool
     ensures { IsTrue result → extent ≡ AllFound false }
 {
@@ -179,7 +179,7 @@ fn all_end(extent: Extent) -> bool
     }
 }
 
-// Returns what is told of the fair runs of a compiled text, of which it may be known that every run ends.
+/// Returns what is told of the fair runs of a compiled text, of which it may be known that every run ends.
 fn fair_told(
     alloc: Global,
     options: OutcomesOptions,
@@ -200,7 +200,7 @@ fn fair_told(
     )
 }
 
-// Returns the same with the line of what is told of fair runs behind all else.
+/// Returns the same with the line of what is told of fair runs behind all else.
 fn with_fair_line(reply: Reply, told: FairRuns, states: u32) -> Result<Reply, NoMemory>
     ensures text { IfOk result (λ r. r.text.items ≡ reply.text.items ++ fair_line states told) }
     ensures status { IfOk result (λ r. r.status ≡ status_with reply.status told) }
@@ -226,7 +226,7 @@ fn with_fair_line(reply: Reply, told: FairRuns, states: u32) -> Result<Reply, No
     }
 }
 
-// Returns the status, by how much was found and how many deadlocks there are.
+/// Returns the status, by how much was found and how many deadlocks there are.
 fn status(extent: Extent, deadlocks: usize) -> Status
     ensures { result ≡ status_of extent deadlocks }
 {

@@ -56,7 +56,7 @@ pub fn read_prints(alloc: Global, code: &Code, text: &[u8]) -> Result<Vec<Print>
     Ok(prints)
 }
 
-// Splits a text into its first line, without the line feed, and the rest.
+/// Splits a text into its first line, without the line feed, and the rest.
 fn first_line(text: &[u8]) -> (&[u8], &[u8])
     ensures { IsFirstLine text.now result.0.now result.1.now }
 {
@@ -68,7 +68,7 @@ fn first_line(text: &[u8]) -> (&[u8], &[u8])
     (text, &text[text.len()..])
 }
 
-// Returns the print that a line says, if it says one.
+/// Returns the print that a line says, if it says one.
 fn print_of(code: &Code, line: &[u8]) -> Option<Print>
     requires { KeepsLimits (code_view code.now) }
     ensures { MatchOption result ((p : AnyPrint) → SpellsPrint (code_view code.now) line.now p → ⊥)
@@ -90,7 +90,7 @@ fn print_of(code: &Code, line: &[u8]) -> Option<Print>
     None
 }
 
-// Returns the arm and the value of a line, if it begins with this name and its arm is below `arms`.
+/// Returns the arm and the value of a line, if it begins with this name and its arm is below `arms`.
 fn print_of_process(line: &[u8], name: &[u8], arms: usize) -> Option<(u8, i64)>
     requires { arms ≤ MAX_ARMS }
     ensures { MatchOption result
@@ -101,7 +101,7 @@ fn print_of_process(line: &[u8], name: &[u8], arms: usize) -> Option<(u8, i64)>
     print_of_arms(rest, arms)
 }
 
-// Returns the arm and the value of what follows the name of a process, if its arm is below `arms`.
+/// Returns the arm and the value of what follows the name of a process, if its arm is below `arms`.
 fn print_of_arms(text: &[u8], arms: usize) -> Option<(u8, i64)>
     requires { arms ≤ MAX_ARMS }
     ensures { MatchOption result
@@ -117,7 +117,7 @@ fn print_of_arms(text: &[u8], arms: usize) -> Option<(u8, i64)>
     None
 }
 
-// Returns the value of what follows the name of a process, if it is a print of this arm.
+/// Returns the value of what follows the name of a process, if it is a print of this arm.
 fn value_of_arm(text: &[u8], arm: u8) -> Option<i64>
     ensures { MatchOption result
         ((value : ℤ) → IsSigned value → text.now ≡ arm_print_text arm value → ⊥)
@@ -130,7 +130,7 @@ fn value_of_arm(text: &[u8], arm: u8) -> Option<i64>
     value_of(rest)
 }
 
-// Returns what follows these bytes, if the text begins with them.
+/// Returns what follows these bytes, if the text begins with them.
 fn after<'t>(text: &'t [u8], start: &[u8]) -> Option<&'t [u8]>
     ensures { MatchOption result ((rest : List ℕ) → text.now ≢ start.now ++ rest)
         (λ rest. text.now ≡ start.now ++ rest.now) }
@@ -138,7 +138,7 @@ fn after<'t>(text: &'t [u8], start: &[u8]) -> Option<&'t [u8]>
     text.strip_prefix(start)
 }
 
-// Returns the integer that a word is, if it is written as events write it.
+/// Returns the integer that a word is, if it is written as events write it.
 fn value_of(word: &[u8]) -> Option<i64>
     ensures { MatchOption result ((value : ℤ) → IsSigned value → word.now ≡ signed_decimal value → ⊥)
         (λ value. IsSigned value × (word.now ≡ signed_decimal value)) }
@@ -150,7 +150,7 @@ fn value_of(word: &[u8]) -> Option<i64>
     Some(value)
 }
 
-// Reads an integer, which may have a sign and zeros before it.
+/// Reads an integer, which may have a sign and zeros before it.
 fn parsed(word: &[u8]) -> Option<i64>
     ensures { (value : ℤ) → IsSigned value → word.now ≡ signed_decimal value → result ≡ Some value }
 {
@@ -163,7 +163,7 @@ fn parsed(word: &[u8]) -> Option<i64>
     }
 }
 
-// Returns whether this is how the integer is written.
+/// Returns whether this is how the integer is written.
 fn is_written(word: &[u8], value: i64) -> bool
     ensures { IsTrue result ↔ (word.now ≡ signed_decimal value) }
 {

@@ -18,7 +18,7 @@ pub fn put_printed(text: &mut Vec<u8>, names: &Names, prints: &[Print]) -> Resul
     put_prints(text, names, prints)
 }
 
-// Appends the heading of `count` prints to a text: none if there are no prints.
+/// Appends the heading of `count` prints to a text: none if there are no prints.
 fn put_printed_head(text: &mut Vec<u8>, count: usize) -> Result<(), NoMemory>
     ensures { OnOk result (text.new.items ≡ text.old.items ++ printed_head count) }
 {
@@ -28,7 +28,7 @@ fn put_printed_head(text: &mut Vec<u8>, count: usize) -> Result<(), NoMemory>
     Ok(())
 }
 
-// Appends the lines of prints to a text.
+/// Appends the lines of prints to a text.
 fn put_prints(text: &mut Vec<u8>, names: &Names, prints: &[Print]) -> Result<(), NoMemory>
     ensures { OnOk result (text.new.items ≡ text.old.items ++ flat_map (print_line (names_view names.now)) prints.now) }
 {
@@ -38,7 +38,7 @@ fn put_prints(text: &mut Vec<u8>, names: &Names, prints: &[Print]) -> Result<(),
     Ok(())
 }
 
-// Appends the line of a print to a text.
+/// Appends the line of a print to a text.
 fn put_print(text: &mut Vec<u8>, names: &Names, print: &Print) -> Result<(), NoMemory>
     ensures { OnOk result (text.new.items ≡ text.old.items ++ print_line (names_view names.now) print.now) }
 {

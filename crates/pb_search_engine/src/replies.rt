@@ -68,7 +68,7 @@ pub fn deadlock_text(
     Ok(text)
 }
 
-// Returns what is not as expected of an outcome that is not.
+/// Returns what is not as expected of an outcome that is not.
 fn other_of(outcome: &[ProcessOutcome]) -> &'static [u8]
     ensures { IsOtherText (map process_outcome_view outcome.now) result.now }
 {
@@ -79,7 +79,7 @@ fn other_of(outcome: &[ProcessOutcome]) -> &'static [u8]
     }
 }
 
-// Appends the last line, which says what is not as expected.
+/// Appends the last line, which says what is not as expected.
 fn put_other(text: &mut Vec<u8>, what: &[u8]) -> Result<(), NoMemory>
     ensures { OnOk result (text.new.items ≡ text.old.items ++ other_line what.now) }
 {
@@ -115,7 +115,7 @@ pub fn plain_text(alloc: Global, extent: Extent, states: u32) -> Result<Reply, N
     }
 }
 
-// Returns the answer that there is more than this number of something.
+/// Returns the answer that there is more than this number of something.
 fn limit(alloc: Global, number: u32, what: &[u8]) -> Result<Reply, NoMemory>
     ensures { IfOk result (λ r. (r.text.items ≡ codes "more than " ++ decimal number ++ what.now) × (r.status ≡ Status.Limit)) }
 {

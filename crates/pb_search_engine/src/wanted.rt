@@ -36,7 +36,7 @@ pub fn first_other(
     Ok(None)
 }
 
-// Returns whether an outcome is wanted.
+/// Returns whether an outcome is wanted.
 fn is_wanted(alloc: Global, wanted: Wanted<'_>, found: &Found) -> Result<bool, NoMemory>
     ensures { IfOk result (λ is. IsTrue is ↔ IsWanted wanted.entry.any_order wanted.entry.prints.now (found_view found.now).outcome) }
 {
@@ -61,7 +61,7 @@ pub fn has_fault(outcome: &[ProcessOutcome]) -> bool
     false
 }
 
-// Returns whether these prints are the others in some order.
+/// Returns whether these prints are the others in some order.
 fn are_some_order(alloc: Global, wanted: &[Print], prints: &[Print]) -> Result<bool, NoMemory>
     ensures { IfOk result (λ are. IsTrue are ↔ IsPermutation wanted.now prints.now) }
 {
@@ -80,7 +80,7 @@ fn are_some_order(alloc: Global, wanted: &[Print], prints: &[Print]) -> Result<b
     Ok(true)
 }
 
-// Returns where a print is in a list.
+/// Returns where a print is in a list.
 fn place_in(prints: &[Print], print: Print) -> Option<usize>
     ensures some { IfSome result (λ at. slice_get prints.now at ≡ Some print) }
     ensures none { IfNone result ((at : ℕ) → slice_get prints.now at ≢ Some print) }

@@ -30,15 +30,15 @@ use pb_options::{
 };
 use std::alloc::{AllocError, Global};
 
-// The text of a word that names nobody who decides on a request.
+/// The text of a word that names nobody who decides on a request.
 const NO_LEND: &str =
     "error: the value of '--lend' is banker or cash\n\nFor more information, try '--help'.\n";
 
-// The text of `record --lend cash` without a seed.
+/// The text of `record --lend cash` without a seed.
 const NO_SEED: &str =
     "error: '--lend cash' of 'record' needs '--seed N': workers ask the banker\n\nFor more information, try '--help'.\n";
 
-// Returns the number of an option, if it was matched with one from `least` to `most`.
+/// Returns the number of an option, if it was matched with one from `least` to `most`.
 fn number(matches: &ArgMatches<'_>, id: &str, least: u64, most: u64) -> Option<u64>
     ensures some { IfSome result (HasNumberIn (rows_of (found_of matches.now)) id.now least most) }
     ensures none { IfNone result ((n : ℕ) → HasNumberIn (rows_of (found_of matches.now)) id.now least most n → ⊥) }
@@ -50,7 +50,7 @@ fn number(matches: &ArgMatches<'_>, id: &str, least: u64, most: u64) -> Option<u
     Some(number)
 }
 
-// Returns whether an option was matched with no text.
+/// Returns whether an option was matched with no text.
 fn is_absent(matches: &ArgMatches<'_>, id: &str) -> bool
     ensures { IsTrue result ↔ (one_of id.now (rows_of (found_of matches.now)) ≡ None) }
 {
@@ -61,8 +61,8 @@ fn is_absent(matches: &ArgMatches<'_>, id: &str) -> bool
     }
 }
 
-// Returns the number of an option that need not be given; nothing is returned if what is given is no number from
-// `least` to `most`.
+/// Returns the number of an option that need not be given; nothing is returned if what is given is no number from
+/// `least` to `most`.
 fn number_if_given(matches: &ArgMatches<'_>, id: &str, least: u32, most: u32) -> Option<Option<u32>>
     ensures some { IfSome result (HasOptionalNumberIn (rows_of (found_of matches.now)) id.now least most) }
     ensures none { IfNone result ((n : Option ℕ) → HasOptionalNumberIn (rows_of (found_of matches.now)) id.now least most n → ⊥) }
@@ -85,7 +85,7 @@ fn check_options(matches: &ArgMatches<'_>) -> Option<CheckOptions>
     Some(CheckOptions { heap: Some(size) })
 }
 
-// Returns whether a flag was matched with the text of one that is given.
+/// Returns whether a flag was matched with the text of one that is given.
 fn flag(matches: &ArgMatches<'_>, id: &str) -> bool
     ensures { HasFlag (rows_of (found_of matches.now)) id.now result }
 {
@@ -125,7 +125,7 @@ fn emit_options(matches: &ArgMatches<'_>) -> Option<EmitOptions>
     Some(EmitOptions { object })
 }
 
-// Returns the code that was given, or none if none was; nothing is returned if what was given is not a code.
+/// Returns the code that was given, or none if none was; nothing is returned if what was given is not a code.
 fn code_given(matches: &ArgMatches<'_>) -> Option<Option<Code>>
     ensures some { IfSome result (HasCode (rows_of (found_of matches.now))) }
     ensures none { IfNone result ((c : Option AnyCode) → HasCode (rows_of (found_of matches.now)) c → ⊥) }
@@ -136,7 +136,7 @@ fn code_given(matches: &ArgMatches<'_>) -> Option<Option<Code>>
     }
 }
 
-// Returns who decides on a request, if the option was matched with a word for it.
+/// Returns who decides on a request, if the option was matched with a word for it.
 fn lend(matches: &ArgMatches<'_>) -> Option<Lend>
     ensures some { IfSome result (HasLend (rows_of (found_of matches.now))) }
     ensures none { IfNone result ((l : AnyLend) → HasLend (rows_of (found_of matches.now)) l → ⊥) }
@@ -205,7 +205,7 @@ fn record_options(matches: &ArgMatches<'_>) -> Option<RecordOptions>
     })
 }
 
-// Returns the options of a run by workers that is recorded, if they may ask who decides: the banker alone.
+/// Returns the options of a run by workers that is recorded, if they may ask who decides: the banker alone.
 fn by_workers(run: RunOptions, lend: Lend) -> Option<RecordOptions>
     ensures some { IfSome result (λ o. (o.run ≡ run) × (o.seed ≡ None) × (o.lend ≡ lend)) }
     ensures none { IfNone result (lend ≡ Lend.Cash) }
@@ -234,7 +234,7 @@ fn run_options(matches: &ArgMatches<'_>) -> Option<RunOptions>
     })
 }
 
-// Returns the options that the matches of the words name.
+/// Returns the options that the matches of the words name.
 fn read_matches(matches: &ArgMatches<'_>) -> Option<Options>
     ensures some { IfSome result (IsReadFromMatches (subcommand_rows_of matches.now)) }
     ensures none { IfNone result ((o : AnyOptions) → IsReadFromMatches (subcommand_rows_of matches.now) o → ⊥) }
@@ -285,7 +285,7 @@ pub fn options(alloc: Global, words: &[&str]) -> Result<Options, WordsFault>
     }
 }
 
-// Returns what is wrong with words that clap takes and that name no options.
+/// Returns what is wrong with words that clap takes and that name no options.
 fn unread_text(alloc: Global, matches: &ArgMatches<'_>) -> Result<String, AllocError> {
     match matches.subcommand() {
         Some(("record", inner)) if is_cash(inner) => String::from_str(alloc, NO_SEED),
@@ -296,7 +296,7 @@ fn unread_text(alloc: Global, matches: &ArgMatches<'_>) -> Result<String, AllocE
     }
 }
 
-// Returns whether the option names the cash.
+/// Returns whether the option names the cash.
 fn is_cash(matches: &ArgMatches<'_>) -> bool {
     match lend(matches) {
         Some(Lend::Cash) => true,
@@ -304,7 +304,7 @@ fn is_cash(matches: &ArgMatches<'_>) -> bool {
     }
 }
 
-// Returns the text of a code that is not there, with those that are.
+/// Returns the text of a code that is not there, with those that are.
 fn codes_text(alloc: Global) -> Result<String, AllocError> {
     let mut text = String::new(alloc);
     text.push_str("error: no refusal has this code\n\n  codes:")?;

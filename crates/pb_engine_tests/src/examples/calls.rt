@@ -68,7 +68,7 @@ fn is_as_expected(rt: &(impl AllocGlobal + Threads + Wait + Sync), call: &Call) 
     }
 }
 
-// Makes a call, and returns its status, or nothing if its numbers are out of range.
+/// Makes a call, and returns its status, or nothing if its numbers are out of range.
 fn status_of(
     rt: &(impl AllocGlobal + Threads + Wait + Sync),
     call: &Call,
@@ -115,7 +115,7 @@ fn status_of(
     })
 }
 
-// Returns the options of one worker, if the numbers are in range.
+/// Returns the options of one worker, if the numbers are in range.
 fn run_options(quantum: u32, steps: u32) -> Option<RunOptions> {
     if quantum < 1 || 4_096 < quantum || 10_000_000 < steps {
         return None;
