@@ -1,9 +1,9 @@
 -- Lists and optional values, as several crates need them.
 use Rattle.std.proofs.Common.{◌≡◌, ℕ, zero, suc, ◌+◌, ◌<◌, ◌≤◌, List, [], ◌∷◌, ◌++◌, length, get_or, map, take, drop}
-use Rattle.std.proofs.Common.{Some, option_map, refl, sym, ap, ◌∙◌, arith, add-one, append_assoc}
-use Rattle.std.specs.Prelude.{slice_get}
+use Rattle.std.proofs.Common.{◌-◌, Some, option_map, refl, sym, ap, ◌∙◌, subst, arith, add-one, append_assoc}
+use Rattle.std.specs.Prelude.{All, remove, slice_get}
 use Rattle.std.proofs.Math.Seq.{drop-cons, take-append_seam}
-use Rattle.std.proofs.lemmas.List.{take-append-drop}
+use Rattle.std.proofs.lemmas.List.{length-drop, take-append-drop, take_all}
 use Rattle.std.proofs.lemmas.Option.{slice_get-get_or, slice_get-map}
 
 -- what an index finds
@@ -85,3 +85,22 @@ split_at bytes i b lt e =
     ap (λ c. take i bytes ++ c ∷ drop (i + 1) bytes) (sym e)
     ∙ (ap (λ k. take i bytes ++ get_or bytes i 0 ∷ drop k bytes) n
     ∙ (ap (λ (xs : List ℕ). take i bytes ++ xs) (sym (drop-cons bytes i 0 lt)) ∙ take-append-drop i bytes))
+
+-- what is true of each is true of one that is read
+pub all_at : {X : Type 0} (P : X → Type 0) (xs : List X) (k : ℕ) (x : X) → All P xs → slice_get xs k ≡ Some x → P x
+all_at P [] k x all h = absurd cc
+all_at P (y ∷ xs) zero x all h = let e : y ≡ x = cc in subst P e (all 0 y (omega arith))
+all_at P (y ∷ xs) (suc k) x all h = all_at P xs k x (λ j d u. all (suc j) d (omega (arith, u))) h
+
+-- what is in a list stays there if another is taken out
+pub get_removed : (xs : List ℕ) (i k x q : ℕ) → slice_get xs i ≡ Some x → slice_get xs k ≡ Some q → (q ≡ x → ⊥)
+    → (j : ℕ) × (slice_get (remove xs i) j ≡ Some q)
+get_removed [] i k x q at e ne = absurd cc
+get_removed (y ∷ xs) zero zero x q at e ne = absurd (ne cc)
+get_removed (y ∷ xs) zero (suc k) x q at e ne = (k, e)
+get_removed (y ∷ xs) (suc i) zero x q at e ne = (0, e)
+get_removed (y ∷ xs) (suc i) (suc k) x q at e ne = let r = get_removed xs i k x q at e ne in (suc r.0, r.1)
+
+-- what is behind a place is all that follows, by its length
+pub take_behind : (text : List ℕ) (n : ℕ) → take (length text - n) (drop n text) ≡ drop n text
+take_behind text n = let many = length-drop n text in take_all (length text - n) (drop n text) (omega (arith, many))

@@ -3,14 +3,14 @@ use Rattle.std.proofs.Common.{◌≡◌, ⊎_elim, ℕ, ◌+◌, ◌-◌, ◌<�
 use Rattle.std.specs.Prelude.{slice_get, remove}
 use Rattle.std.proofs.lemmas.Bool.{cases_lt}
 use Rattle.std.proofs.lemmas.Option.{slice_get_within}
-use Rattle.pb_base.proofs.Lists.{get_some}
+use Rattle.pb_base.proofs.Lists.{all_at, get_some}
 use Rattle.pb_base.specs.Steppers.{State}
 use Rattle.pb_code.specs.Code.{CodeProcess}
 use Rattle.pb_code.specs.Whole.{Code}
 use Rattle.pb_circles.specs.Circles.{IsCircle, IsFreeAt}
 use Rattle.pb_circles.specs.Links.{IsAmong, IsLink}
 use Rattle.pb_circles.specs.declared.link.Link.{Link}
-use Rattle.pb_circles.proofs.Lists.{among_removed, all_at}
+use Rattle.pb_circles.proofs.Lists.{among_removed}
 
 module _ (code : Code) (s : State CodeProcess) where
   -- the processes of each circle are among these

@@ -9,7 +9,7 @@ use Rattle.std.proofs.lemmas.Option.{slice_get_within, slice_get-get_or, get_or_
 use Rattle.std.proofs.lemmas.List.{get_or_past}
 use Rattle.std.proofs.lemmas.List.FromFn.{get_or-range_with_len, length-range_with_len}
 use Rattle.std.proofs.lemmas.List.Sums.{sum_by-cons}
-use Rattle.pb_base.proofs.Lists.{get_some}
+use Rattle.pb_base.proofs.Lists.{all_at, get_some}
 use Rattle.pb_base.specs.Banker.{BankerState, row_of, processes, resources, claim, loan, cash, IsWellFormed, IsWithinCash}
 use Rattle.pb_base.specs.Bundle.{amount_in}
 use Rattle.pb_base.specs.Steppers.{Bundle, Effect, Silent, Prints, Takes, Returns, Faults, Finishes, State, IsGranted}
@@ -32,7 +32,6 @@ use Rattle.pb_verifier.proofs.ThreadTurns.{turned}
 use Rattle.pb_machine.proofs.NeverStuck.{goes_on}
 use Rattle.pb_machine.proofs.OneMorePick.{move_is}
 use Rattle.pb_machine.specs.Turns.{StandsIn}
-use Rattle.pb_circles.proofs.Lists.{all_at}
 use Rattle.pb_circles.specs.Circles.{IsCircle}
 use Rattle.pb_circles.specs.Deadlocks.{DeadlocksHaveCircles, IsDeadlockBy}
 use Rattle.pb_circles.specs.Links.{IsAmong, IsLink, bank_at}

@@ -1,20 +1,13 @@
 -- Lists of processes, from which some are taken, and lists of links.
 use Rattle.std.proofs.Common.{◌≡◌, ◌⊎◌, inl, inr, ⊎_elim, ℕ, zero, suc, ◌+◌, List, [], ◌∷◌, ◌++◌, length}
-use Rattle.std.proofs.Common.{take, drop, Some, refl, ap, ◌∙◌, subst, arith}
-use Rattle.std.specs.Prelude.{slice_get, remove, All}
+use Rattle.std.proofs.Common.{take, drop, Some, refl, ap, ◌∙◌, arith}
+use Rattle.std.specs.Prelude.{All, remove, slice_get}
 use Rattle.std.proofs.lemmas.List.Elements.{All-append, All-take, All-drop}
+use Rattle.pb_base.proofs.Lists.{get_removed}
 use Rattle.pb_circles.specs.Links.{IsAmong}
 
--- what is in a list stays there if another is taken out
-among_rest : (xs : List ℕ) (i k x q : ℕ) → slice_get xs i ≡ Some x → slice_get xs k ≡ Some q → (q ≡ x → ⊥) → IsAmong (remove xs i) q
-among_rest [] i k x q at e ne = absurd cc
-among_rest (y ∷ xs) zero zero x q at e ne = absurd (ne cc)
-among_rest (y ∷ xs) zero (suc k) x q at e ne = (k, e)
-among_rest (y ∷ xs) (suc i) zero x q at e ne = (0, e)
-among_rest (y ∷ xs) (suc i) (suc k) x q at e ne = let r = among_rest xs i k x q at e ne in (suc r.0, r.1)
-
 pub among_removed : (xs : List ℕ) (i x q : ℕ) → slice_get xs i ≡ Some x → IsAmong xs q → (q ≡ x → ⊥) → IsAmong (remove xs i) q
-among_removed xs i x q at m ne = among_rest xs i m.0 x q at m.1 ne
+among_removed xs i x q at m ne = get_removed xs i m.0 x q at m.1 ne
 
 pub all_removed : {X : Type 0} (P : X → Type 0) (xs : List X) (i : ℕ) → All P xs → All P (remove xs i)
 all_removed P xs i all = All-append P (take i xs) (drop (suc i) xs) (All-take P i xs all) (All-drop P (suc i) xs all)
@@ -37,9 +30,3 @@ pub get_dropped : {X : Type 0} (n : ℕ) (xs : List X) (k : ℕ) → slice_get (
 get_dropped zero xs k = let e : k ≡ 0 + k = omega arith in ap (slice_get xs) e
 get_dropped (suc n) [] k = refl
 get_dropped (suc n) (x ∷ xs) k = let e : suc (n + k) ≡ suc n + k = omega arith in get_dropped n xs k ∙ ap (slice_get (x ∷ xs)) e
-
--- what is true of each is true of one that is read
-pub all_at : {X : Type 0} (P : X → Type 0) (xs : List X) (k : ℕ) (x : X) → All P xs → slice_get xs k ≡ Some x → P x
-all_at P [] k x all h = absurd cc
-all_at P (y ∷ xs) zero x all h = let e : y ≡ x = cc in subst P e (all 0 y (omega arith))
-all_at P (y ∷ xs) (suc k) x all h = all_at P xs k x (λ j d u. all (suc j) d (omega arith)) h

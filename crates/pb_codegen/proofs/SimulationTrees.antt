@@ -10,7 +10,7 @@ use Rattle.pb_names.specs.Source.{Waiting, Ended, Running, Nothing, Beside, firs
 use Rattle.pb_names.specs.Source.{put_among}
 use Rattle.pb_code.specs.Code.{Join, Thread, Idle, Live, thread}
 use Rattle.pb_names.specs.Claims.{FreeStep, in_arms, FreeStepAmong, in_first, in_later, held, held_among}
-use Rattle.pb_names.proofs.ArmNumbers.{Mine, AllMine}
+use Rattle.pb_names.proofs.ArmNumbers.{Mine, AllMine, first_mine, later_mine}
 use Rattle.pb_codegen.proofs.SimulationShapes.{SameArm, same_waiting, SameRunning, same_beside, same_items, same_arm}
 use Rattle.pb_codegen.proofs.SimulationShapes.{same_running}
 use Rattle.pb_codegen.proofs.SimulationListings.{Listing, line_at}
@@ -76,14 +76,6 @@ inner_range : (first k hi lo a : ℕ) → lo ≤ first → first + k ≤ hi → 
     → (lo ≤ a) × (a < hi)
 inner_range first k hi lo a l u (inl m) = omega arith
 inner_range first k hi lo a l u (inr m) = omega arith
-
-first_mine : (n k lo mid hi a : ℕ) → mid ≤ hi → Mine n lo mid a → AllMine n (suc k) lo hi a
-first_mine n k lo mid hi a u (inl m) = inl (omega arith)
-first_mine n k lo mid hi a u (inr m) = inr (omega arith)
-
-later_mine : (n k lo mid hi a : ℕ) → lo ≤ mid → AllMine (n + 1) k mid hi a → AllMine n (suc k) lo hi a
-later_mine n k lo mid hi a l (inl m) = inl (omega arith)
-later_mine n k lo mid hi a l (inr m) = inr (omega arith)
 
 -- ---- what else happens in the table doesn't matter
 

@@ -4,7 +4,6 @@ use Rattle.std.proofs.Common.{length, take, drop, Option, Some, None, option_map
 use Rattle.std.proofs.Common.{append_assoc, append-nil}
 use Rattle.std.specs.Prelude.{slice_get}
 use Rattle.std.specs.List.{position}
-use Rattle.std.proofs.lemmas.List.{take_all, length-drop}
 use Rattle.pb_debug_commands.specs.Lines.{SplitLines, one_line_more, cut, last_line, lines_of, line_numbered}
 use Rattle.pb_debug_commands.proofs.Spellings.{first_at, mapped, position_is}
 
@@ -97,7 +96,3 @@ module _ (bs : List ℕ) where
 pub none_in_nothing : (bs : List ℕ) → length bs ≡ 0 → None ≡ line_numbered bs 1
 none_in_nothing [] h = refl
 none_in_nothing (b ∷ bs) h = absurd (omega (arith, h))
-
--- what is behind an offset of a text
-pub behind : (text : List ℕ) (n : ℕ) → take (length text - n) (drop n text) ≡ drop n text
-behind text n = let many = length-drop n text in take_all (length text - n) (drop n text) (omega (arith, many))

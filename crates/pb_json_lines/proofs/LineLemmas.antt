@@ -6,8 +6,9 @@ use Rattle.std.specs.Prelude.{nat_lt}
 use Rattle.std.specs.List.{position, position_or_len, prefix_len}
 use Rattle.std.proofs.Math.Seq.{drop-cons}
 use Rattle.std.proofs.lemmas.Bool.{ltb-false}
-use Rattle.std.proofs.lemmas.List.{drop_all, take_all, length-drop, take-map}
+use Rattle.std.proofs.lemmas.List.{drop_all, take_all, take-map}
 use Rattle.std.proofs.lemmas.List.Sums.{prefix_len-le-length}
+use Rattle.pb_base.proofs.Lists.{take_behind}
 use Rattle.pb_json_lines.specs.JsonLines.{lines_of, onto, is_part, parts_of}
 
 -- ---- the first line
@@ -44,17 +45,13 @@ not_found : (n : ℕ) (t : Bool) → None ≡ cond t (Some n) None → t ≡ fal
 not_found n true h = absurd cc
 not_found n false h = refl
 
--- what is behind a place of a text
-behind : (text : List ℕ) (n : ℕ) → take (length text - n) (drop n text) ≡ drop n text
-behind text n = let many = length-drop n text in take_all (length text - n) (drop n text) (omega (arith, many))
-
 pub ends_at : (text : List ℕ) (at : ℕ) → 0 < length text → Some at ≡ position (λ b. eqb b 10) text
     → lines_of text ≡ take at text ∷ lines_of (take (length text - (at + 1)) (drop (at + 1) text))
 ends_at text at some found =
     let same : before_feed text ≡ at = found_at (before_feed text) at (nat_lt (before_feed text) (length text)) found in
     cut_line text some
     ∙ (ap (λ k. take k text ∷ lines_of (drop (k + 1) text)) same
-    ∙ ap (λ (rest : List ℕ). take at text ∷ lines_of rest) (sym (behind text (at + 1))))
+    ∙ ap (λ (rest : List ℕ). take at text ∷ lines_of rest) (sym (take_behind text (at + 1))))
 
 pub is_all : (text : List ℕ) → 0 < length text → None ≡ position (λ b. eqb b 10) text
     → lines_of text ≡ text ∷ lines_of (take (length text - length text) (drop (length text) text))
@@ -62,7 +59,7 @@ is_all text some found =
     let most = prefix_len-le-length (λ b. not (eqb b 10)) text in
     let least : length text ≤ before_feed text = ltb-false (before_feed text) (length text) (not_found (before_feed text) (nat_lt (before_feed text) (length text)) found) in
     let same : before_feed text ≡ length text = omega (arith, least, most) in
-    let none : take (length text - length text) (drop (length text) text) ≡ [] = behind text (length text) ∙ drop_all (length text) text (omega arith) in
+    let none : take (length text - length text) (drop (length text) text) ≡ [] = take_behind text (length text) ∙ drop_all (length text) text (omega arith) in
     cut_line text some
     ∙ (ap (λ k. take k text ∷ lines_of (drop (k + 1) text)) same
     ∙ (ap (λ (first : List ℕ). first ∷ lines_of (drop (length text + 1) text)) (take_all (length text) text (omega arith))

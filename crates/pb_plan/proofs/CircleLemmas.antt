@@ -3,9 +3,10 @@ use Rattle.std.proofs.Common.{◌≡◌, ◌⊎◌, inl, inr, ⊎_elim, ℕ, zer
 use Rattle.std.proofs.Common.{Option, Some, None, refl, sym, ap, ◌∙◌, subst, arith}
 use Rattle.std.specs.Prelude.{All, slice_get, remove}
 use Rattle.std.proofs.lemmas.Bool.{cases_eq}
-use Rattle.std.proofs.lemmas.List.{length-map, length-take-le}
+use Rattle.std.proofs.lemmas.List.{length-take-le}
 use Rattle.std.proofs.lemmas.List.Elements.{All-nil, All-cons, All-take}
 use Rattle.std.proofs.lemmas.Option.{slice_get_within}
+use Rattle.pb_base.proofs.Lists.{all_at, get_removed}
 use Rattle.pb_names.specs.Program.{Process}
 use Rattle.pb_names.specs.View.{process_view}
 use Rattle.pb_names.specs.declared.resolved.Process.{Process as GivenProcess}
@@ -16,26 +17,12 @@ use Rattle.pb_plan.specs.Orders.{EachHold}
 use Rattle.pb_plan.specs.declared.edge.Edge.{Edge}
 use Rattle.pb_plan.specs.declared.nest.Nest.{Nest}
 
--- what is in a list stays there if another is taken out
-among_rest : (xs : List ℕ) (i k x q : ℕ) → slice_get xs i ≡ Some x → slice_get xs k ≡ Some q → (q ≡ x → ⊥) → IsAmong (remove xs i) q
-among_rest [] i k x q at e ne = absurd cc
-among_rest (y ∷ xs) zero zero x q at e ne = absurd (ne cc)
-among_rest (y ∷ xs) zero (suc k) x q at e ne = (k, e)
-among_rest (y ∷ xs) (suc i) zero x q at e ne = (0, e)
-among_rest (y ∷ xs) (suc i) (suc k) x q at e ne = let r = among_rest xs i k x q at e ne in (suc r.0, r.1)
-
 -- what is in the first part of a list is in the list
 get_taken : {X : Type 0} (n : ℕ) (xs : List X) (k : ℕ) (x : X) → slice_get (take n xs) k ≡ Some x → slice_get xs k ≡ Some x
 get_taken zero xs k x h = absurd cc
 get_taken (suc n) [] k x h = absurd cc
 get_taken (suc n) (y ∷ xs) zero x h = h
 get_taken (suc n) (y ∷ xs) (suc k) x h = get_taken n xs k x h
-
--- what is true of each is true of one that is read
-all_at : {X : Type 0} (P : X → Type 0) (xs : List X) (k : ℕ) (x : X) → All P xs → slice_get xs k ≡ Some x → P x
-all_at P [] k x all h = absurd cc
-all_at P (y ∷ xs) zero x all h = let e : y ≡ x = cc in subst P e (all 0 y (omega arith))
-all_at P (y ∷ xs) (suc k) x all h = all_at P xs k x (λ j d u. all (suc j) d (omega (arith, u))) h
 
 module _ (Good : Edge → Type 0) where
   pub path_start : (at : ℕ) → IsPath Good [] at
@@ -99,7 +86,7 @@ circle_at processes path at k edge is there back =
 pub cover_more : (rest : List ℕ) (path : List Edge) (edge : Edge) (i at q : ℕ) → slice_get rest i ≡ Some at → edge.nest.inner ≡ at
     → IsAmong rest q ⊎ IsOnPath path q → IsAmong (remove rest i) q ⊎ IsOnPath (edge ∷ path) q
 cover_more rest path edge i at q there to (inl left) =
-    ⊎_elim (λ same. inr (0, edge, refl, to ∙ sym same)) (λ ne. inl (among_rest rest i left.0 at q there left.1 ne)) (cases_eq q at)
+    ⊎_elim (λ same. inr (0, edge, refl, to ∙ sym same)) (λ ne. inl (get_removed rest i left.0 at q there left.1 ne)) (cases_eq q at)
 cover_more rest path edge i at q there to (inr on) = inr (suc on.0, on.1, on.2, on.3)
 
 -- no process has a nest

@@ -3,7 +3,7 @@ use Rattle.std.proofs.Common.{◌≡◌, ◌∙◌, ◌⊎◌, inl, inr, ⊎_eli
 use Rattle.std.proofs.Common.{Option, Some, None, refl, sym, ap, subst, arith, eq-eqb, ne_eqb}
 use Rattle.pb_base.proofs.Cases.{same_or_not}
 use Rattle.pb_base.specs.Steppers.{Bundle}
-use Rattle.pb_names.proofs.ArmNumbers.{Mine, AllMine}
+use Rattle.pb_names.proofs.ArmNumbers.{Mine, AllMine, first_mine, later_mine}
 use Rattle.pb_names.specs.Claims.{held, held_among}
 use Rattle.pb_names.specs.Source.{Item, Arm, Doing, Waiting, Ended, Running, Nothing, Beside, running_arms}
 use Rattle.pb_names.specs.Source.{first_some, find, find_among, put, put_among}
@@ -52,14 +52,6 @@ mutual
 inner : (lo hi f k a : ℕ) → lo ≤ f → f + k ≤ hi → AllMine f k (f + k) hi a → (lo ≤ a) × (a < hi)
 inner lo hi f k a l u (inl m) = (omega (arith, l, m.0), omega (arith, u, m.1))
 inner lo hi f k a l u (inr m) = (omega (arith, l, m.0), m.1)
-
-first_mine : (n k lo mid hi a : ℕ) → mid ≤ hi → Mine n lo mid a → AllMine n (suc k) lo hi a
-first_mine n k lo mid hi a l (inl m) = inl (omega (arith, m), omega (arith, m))
-first_mine n k lo mid hi a l (inr m) = inr (m.0, omega (arith, m.1, l))
-
-later_mine : (n k lo mid hi a : ℕ) → lo ≤ mid → AllMine (n + 1) k mid hi a → AllMine n (suc k) lo hi a
-later_mine n k lo mid hi a l (inl m) = inl (omega (arith, m.0), omega (arith, m.1))
-later_mine n k lo mid hi a l (inr m) = inr (omega (arith, m.0, l), m.1)
 
 module _ (Meets : Bundle → Bundle → Type 0) where
   -- ---- the numbers of the arms that are there

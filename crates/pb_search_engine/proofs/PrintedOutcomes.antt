@@ -16,12 +16,13 @@ use Rattle.pb_names.specs.Meaning.{source_bank_by}
 use Rattle.pb_names.specs.Program.{AllWellNumbered, Program}
 use Rattle.pb_names.specs.Source.{SourceProcess, source_process}
 use Rattle.pb_search.specs.Outcomes.{AreOutcomes, Found}
+use Rattle.pb_search_stages.proofs.EitherLending.{granted}
 use Rattle.pb_search_stages.specs.Configurations.{Comes}
 use Rattle.pb_search_stages.specs.Traces.{Configuration, Outcome, Trace, TraceLeads, prints_of, trace_opening}
 use Rattle.pb_search_stages.specs.declared.print.Print.{Print}
 use Rattle.pb_search_engine.specs.Expected.{printing}
 use Rattle.pb_search_engine.specs.SourceOutcomes.{IsPrintedByCodeBy, IsPrintedBySource, prints_in}
-use Rattle.pb_search_engine.proofs.SourceOutcomeLemmas.{code_finished, granted, lent, same_outcomes, source_finished}
+use Rattle.pb_search_engine.proofs.SourceOutcomeLemmas.{code_finished, lent, same_outcomes, source_finished}
 
 -- the event of an effect prints what the effect does
 prints_split : (pick : Pick) (effect : Effect) (later : List Event)

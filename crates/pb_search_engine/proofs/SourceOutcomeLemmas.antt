@@ -33,6 +33,7 @@ use Rattle.pb_search_stages.specs.Reduction.{LeadsTo}
 use Rattle.pb_search.specs.Outcomes.{AreOutcomes, Found}
 use Rattle.pb_search_engine.specs.SourceOutcomes.{IsOutcomeOfCode, IsOutcomeOfProgram}
 use Rattle.pb_search_engine.specs.SourceOutcomes.{source_outcome}
+use Rattle.pb_search_stages.proofs.EitherLending.{granted}
 use Rattle.pb_search_stages.proofs.ReachedByBanker.{come, make}
 
 -- ---- states that are alike: the same outcome, and both are endings or neither is
@@ -114,16 +115,6 @@ lent ByCash code loans p (Takes bundle) leave = leave
 lent ByCash code loans p (Returns bundle) leave = tt
 lent ByCash code loans p (Faults kind) leave = tt
 lent ByCash code loans p Finishes leave = tt
-
-pub granted : (lending : Lending) (code : Code) (loans : Table) (p : ℕ) (effect : Effect) → IsLent lending (bank_of code) loans p effect
-    → IsGranted (bank_by lending code) loans p effect
-granted ByBanker code loans p effect leave = leave
-granted ByCash code loans p Silent leave = tt
-granted ByCash code loans p (Prints v) leave = tt
-granted ByCash code loans p (Takes bundle) leave = leave
-granted ByCash code loans p (Returns bundle) leave = tt
-granted ByCash code loans p (Faults kind) leave = tt
-granted ByCash code loans p Finishes leave = tt
 
 module _ (lending : Lending) (code : Code) where
   pub granted_comes : (s end : Configuration) (picks : List Pick) → Comes (CodeLeads lending code) s picks end

@@ -14,6 +14,7 @@ use Rattle.pb_names.specs.Meaning.{source_bank_by}
 use Rattle.pb_names.specs.Program.{AllWellNumbered, Process, Program}
 use Rattle.pb_names.specs.Source.{SourceProcess, source_process, source_step}
 use Rattle.pb_search.specs.Outcomes.{HasEndlessRun, IsBounded}
+use Rattle.pb_search_stages.proofs.EitherLending.{granted}
 use Rattle.pb_search_stages.specs.Configurations.{Comes}
 use Rattle.pb_search_stages.specs.Reaching.{CodeLeads, Configuration, IsDeadlock, outcome_of}
 use Rattle.pb_search_stages.specs.Reduction.{LeadsTo}
@@ -26,7 +27,7 @@ use Rattle.pb_search_engine.specs.SourceOutcomes.{SourceComes, SourceLeads, sour
 use Rattle.pb_search_engine.specs.SourceRuns.{HasRunsOf, IsDeadlockOfCode, IsDeadlockOfProgram, IsSourceDeadlock, SourceIsBounded}
 use Rattle.pb_search_engine.specs.SourceRuns.{SourceIsEndless, Stuck}
 use Rattle.pb_search_engine.proofs.Skips.{catches_up, rank, skips_on}
-use Rattle.pb_search_engine.proofs.SourceOutcomeLemmas.{code_finished, granted, granted_comes, lent, lent_comes, same_outcomes, source_finished}
+use Rattle.pb_search_engine.proofs.SourceOutcomeLemmas.{code_finished, granted_comes, lent, lent_comes, same_outcomes, source_finished}
 
 -- the prints on the way
 traced : (mode : Mode) (code : Code) (s : Trace) (end : Configuration) (picks : List Pick) → Comes (CodeLeads mode.lending code) s.state picks end

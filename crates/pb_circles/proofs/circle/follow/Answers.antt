@@ -2,11 +2,11 @@ use Rattle.std.proofs.Common.{◌≡◌, ◌⊎◌, ◌<◌, ℕ, List, length, 
 use Rattle.std.specs.Prelude.{slice_get, remove}
 use Rattle.std.proofs.lemmas.List.{take_rest}
 use Rattle.std.proofs.lemmas.Option.{slice_get_within}
+use Rattle.pb_base.proofs.Lists.{all_at}
 use Rattle.pb_machine.specs.Views.{machine_view}
 use Rattle.pb_circles.specs.Circles.{IsCircle, IsPath, IsOnPath}
 use Rattle.pb_circles.specs.Links.{IsAmong, IsLink}
 use Rattle.pb_circles.specs.declared.link.Link.{Link}
-use Rattle.pb_circles.proofs.Lists.{all_at}
 use Rattle.pb_circles.proofs.Paths.{circle_at, cover_more, path_more}
 use Rattle.pb_circles.proofs.circle.follow.Goals as goal
 
