@@ -10,10 +10,8 @@ ghost use Rattle.pb_command_io.specs.Faults.{TellsFaults, TellsWriteFaults};
 use crate::accept::{Refusal, compile_within};
 use bumpalo::Bump;
 use linked_list_allocator::LocalHeap;
-use pb_base::device::{Input, Output};
-use pb_command_io::input::read_input;
-use pb_command_io::parts::first_part;
-use pb_command_io::{Page, Status};
+use pb_base::{Input, Output};
+use pb_command_io::{Page, Status, first_part, read_input};
 use pb_options::CheckOptions;
 use std::alloc::{Allocator, Global};
 

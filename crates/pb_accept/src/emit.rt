@@ -9,13 +9,10 @@ ghost use Rattle.pb_command_io.specs.Inputs.{SaysOfInput};
 ghost use Rattle.pb_command_io.specs.Faults.{TellsFaults, TellsWriteFaults};
 
 use crate::accept::{compile_text, refuse};
-use pb_base::NoMemory;
-use pb_base::device::{Input, Output};
+use pb_base::{Input, NoMemory, Output};
 use pb_base::limits::MAX_INPUT;
 use pb_codegen::Compiled;
-use pb_command_io::Status;
-use pb_command_io::input::read_input;
-use pb_command_io::reply::{Reply, refused, tell};
+use pb_command_io::{Reply, Status, read_input, refused, tell};
 use pb_object::{Format, fits_first_format, write_object, write_object2};
 use pb_options::EmitOptions;
 use pb_verifier::Verified;

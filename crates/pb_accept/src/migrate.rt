@@ -9,13 +9,10 @@ ghost use Rattle.pb_object.specs.Answers.{HasText, SpellsCode};
 ghost use Rattle.pb_object.specs.declared.format.Format.TheVariants.{Two};
 
 use crate::load::{load, load_refusal};
-use pb_base::NoMemory;
-use pb_base::device::{Input, Output};
+use pb_base::{Input, NoMemory, Output};
 use pb_base::limits::MAX_INPUT;
 use pb_code::{Code, Labels};
-use pb_command_io::Status;
-use pb_command_io::input::read_input;
-use pb_command_io::reply::{Reply, tell};
+use pb_command_io::{Reply, Status, read_input, tell};
 use pb_object::write_object2;
 use std::alloc::Global;
 

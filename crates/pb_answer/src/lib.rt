@@ -2,4 +2,6 @@
 //! their command.
 #![tactic(auto)]
 
-pub mod answer;
+mod answer;
+
+pub use answer::{answer, debug, refuse, shown};

@@ -7,7 +7,7 @@ ghost use Rattle.pb_command_io.specs.Inputs.{SaysOfReading};
 
 use crate::page::Page;
 use crate::status::Status;
-use pb_base::device::{Input, Output, ReadFault, read_whole};
+use pb_base::{Input, Output, ReadFault, read_whole};
 use pb_base::limits::MAX_INPUT;
 use std::alloc::Global;
 

@@ -1,4 +1,6 @@
 //! The command line as clap reads it: the commands with their options, ranges, defaults and help.
 #![tactic(auto)]
 
-pub mod command_line;
+mod command_line;
+
+pub use command_line::command_line;

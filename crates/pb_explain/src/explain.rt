@@ -9,10 +9,8 @@ ghost use Rattle.pb_explain.specs.Pages.{meaning_text, page_of, page_of_entry, r
 ghost use Rattle.pb_explain.specs.Pages.{SaysOfExplain};
 
 use crate::entries::{Entry, Example, ExampleInput, entry_for};
-use pb_base::NoMemory;
-use pb_base::device::Output;
-use pb_command_io::Status;
-use pb_command_io::reply::{Reply, tell};
+use pb_base::{NoMemory, Output};
+use pb_command_io::{Reply, Status, tell};
 use pb_options::Code;
 use std::alloc::Global;
 

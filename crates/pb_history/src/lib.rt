@@ -2,16 +2,17 @@
 //! more.
 #![tactic(auto)]
 
-pub mod counted;
+mod counted;
 mod events;
-pub mod fault;
+mod fault;
 pub mod laws;
-pub mod replay;
-pub mod span;
+mod replay;
+mod span;
 mod spans;
-pub mod trace;
+mod trace;
 
 pub use counted::CountedPick;
 pub use fault::ReplayFault;
+pub use replay::{repeat, replay, replay_by, replay_counted, replay_counted_by};
 pub use span::Span;
 pub use trace::Trace;

@@ -2,11 +2,11 @@
 //! begins at its offset, with blanks and comments between them.
 #![tactic(auto)]
 
-pub mod error;
+mod error;
 pub mod laws;
-pub mod lexer;
+mod lexer;
 mod scan;
-pub mod token;
+mod token;
 mod words;
 
 pub use error::LexFault;

@@ -18,17 +18,13 @@ use crate::outcomes::mode;
 use crate::print_lines::{PrintFault, read_prints};
 use crate::replies::{bad_print, deadlock_text, outcome_text, plain_text};
 use crate::wanted::{Wanted, first_other};
-use pb_accept::accept::{compile_text, refuse};
-use pb_base::NoMemory;
-use pb_base::device::Output;
+use pb_accept::{compile_text, refuse};
+use pb_base::{NoMemory, Output};
 use pb_base::limits::MAX_INPUT;
 use pb_codegen::Compiled;
-use pb_command_io::Status;
-use pb_command_io::parts::two_parts;
-use pb_command_io::reply::{Reply, tell};
+use pb_command_io::{Reply, Status, tell, two_parts};
 use pb_options::OutcomesOptions;
-use pb_search::explore::explore_by;
-use pb_search::{Outcomes, Until};
+use pb_search::{Outcomes, Until, explore_by};
 use std::alloc::Global;
 
 /// Writes whether all runs of a text are as the print lines say that follow it, behind a line `%%`; and else the
