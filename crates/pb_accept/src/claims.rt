@@ -98,8 +98,8 @@ fn tell_claims<O: Output>(alloc: Global, text: &[u8], output: &mut O) -> Status
 /// declared, the line of its claim, whether or not the capital is enough; or the refusal line of a text that
 /// is not a program.
 ///
-/// After a read that failed nothing is written; after a write that failed, a first part of what was being
-/// said.
+/// After a read that failed nothing is written; after a write that failed, a prefix of the
+/// output.
 pub fn claims_engine<I: Input, O: Output>(alloc: Global, input: &mut I, output: &mut O) -> Status
     ensures text { IfSome (I.rest input.old) (λ bytes.
         Tells (SaysOfInput SaysOfClaims bytes) (O.written output.old) (O.written output.new) result) }

@@ -81,8 +81,8 @@ fn emit_text<O: Output>(alloc: Global, format: Format, text: &[u8], output: &mut
 /// refused it writes the refusal line; for one whose code has more than 32 processes, or takes several
 /// resources at once, the line `refused E1` if the first format was asked for.
 ///
-/// After a read that failed nothing is written; after a write that failed, a first part of what was being
-/// said.
+/// After a read that failed nothing is written; after a write that failed, a prefix of the
+/// output.
 pub fn emit_engine<I: Input, O: Output>(
     alloc: Global,
     options: EmitOptions,

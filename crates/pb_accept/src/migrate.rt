@@ -56,8 +56,8 @@ fn tell_migration<O: Output>(alloc: Global, bytes: &[u8], output: &mut O) -> Sta
 /// or by the first fault of its code. From the first format integers get the names `v0`, `v1` and so on, and
 /// no place a line.
 ///
-/// After a read that failed nothing is written; after a write that failed, a first part of what was being
-/// said.
+/// After a read that failed nothing is written; after a write that failed, a prefix of the
+/// output.
 pub fn migrate_engine<I: Input, O: Output>(alloc: Global, input: &mut I, output: &mut O) -> Status
     ensures text { IfSome (I.rest input.old) (λ bytes.
         Tells (SaysOfInput SaysOfMigration bytes) (O.written output.old) (O.written output.new) result) }

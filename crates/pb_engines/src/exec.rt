@@ -43,8 +43,8 @@ fn run_object<O: Output, R: Threads + Wait + Sync>(
 /// an object, or whose code is not safe, are refused with their refusal line. If a thread could not be
 /// started the line is `threads`.
 ///
-/// After a read that failed nothing is written; after a write that failed, a first part of what was being
-/// said.
+/// After a read that failed nothing is written; after a write that failed, a prefix of the
+/// output.
 pub fn exec_engine<I: Input, O: Output, R: Threads + Wait + Sync>(
     rt: &R,
     alloc: Global,

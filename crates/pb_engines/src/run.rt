@@ -19,8 +19,8 @@ use std::thread::Threads;
 /// `done`, or `limit` with the number of steps if they were used up before. For a text that is
 /// refused it writes the refusal line. If a thread could not be started the line is `threads`.
 ///
-/// After a read that failed nothing is written; after a write that failed, a first part of what was being
-/// said.
+/// After a read that failed nothing is written; after a write that failed, a prefix of the
+/// output.
 pub fn run_engine<I: Input, O: Output, R: Threads + Wait + Sync>(
     rt: &R,
     alloc: Global,

@@ -45,7 +45,7 @@ use std::alloc::Global;
 /// number, as `replay` reads it, or that there is none. With `options.expect` the input is a text and print lines
 /// behind it, and it is written whether all runs of the text are as these lines say, as `tell_expected` does.
 ///
-/// After a read that failed nothing is written; after a write that failed, a first part of what was being said.
+/// After a read that failed nothing is written; after a write that failed, a prefix of the output.
 pub fn outcomes_engine<I: Input, O: Output>(
     alloc: Global,
     options: OutcomesOptions,
