@@ -2,6 +2,4 @@
 //! their command.
 #![tactic(auto)]
 
-mod answer;
-
-pub use answer::{answer, debug, refuse, shown};
+pub mod answer;

@@ -10,7 +10,7 @@ ghost use Rattle.pb_c_call.specs.Replies.{RefusesThreads};
 
 use crate::drawn::record_drawn_engine;
 use pb_accept::{check_engine, claims_engine, emit_engine, migrate_engine, replay_engine};
-use pb_answer::{debug, refuse, shown};
+use pb_answer::answer::{debug, refuse, shown};
 use pb_bank_engine::bank_engine;
 use pb_base::{Input, Output};
 use pb_command_io::Status;

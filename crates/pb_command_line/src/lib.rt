@@ -1,6 +1,4 @@
 //! The command line as clap reads it: the commands with their options, ranges, defaults and help.
 #![tactic(auto)]
 
-mod command_line;
-
-pub use command_line::command_line;
+pub mod command_line;

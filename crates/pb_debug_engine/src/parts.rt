@@ -11,7 +11,8 @@ ghost use Rattle.pb_debug_engine.specs.Live.{AnswersOfCode, AnswersOfParts};
 ghost use Rattle.pb_command_io.specs.Answers.{Tells};
 
 use crate::session::tell_session;
-use pb_accept::{LinesFault, compile_text, lines_refusal, load, load_refusal, refuse};
+use pb_accept::load::{load, load_refusal};
+use pb_accept::{LinesFault, compile_text, lines_refusal, refuse};
 use pb_base::{Input, Lending, Output};
 use pb_base::limits::MAX_INPUT;
 use pb_code::Labels;

@@ -11,7 +11,8 @@ ghost use Rattle.pb_verifier.specs.Verified.{VerifiedCode};
 
 use pb_base::limits::MAX_PICKS;
 use pb_base::{Lending, NoMemory, Pick};
-use pb_history::{CountedPick, ReplayFault, Trace, repeat};
+use pb_history::replay::repeat;
+use pb_history::{CountedPick, ReplayFault, Trace};
 use pb_machine::Machine;
 use pb_verifier::Verified;
 use std::alloc::Global;

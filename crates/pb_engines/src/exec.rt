@@ -6,7 +6,7 @@ ghost use Rattle.pb_command_io.specs.Inputs.{SaysOfInput};
 ghost use Rattle.pb_command_io.specs.Faults.{TellsFaults, TellsWriteFaults};
 
 use crate::report::tell_run;
-use pb_accept::{load, load_refusal};
+use pb_accept::load::{load, load_refusal};
 use pb_base::{Input, Output};
 use pb_base::limits::MAX_INPUT;
 use pb_command_io::{Status, read_input, tell};

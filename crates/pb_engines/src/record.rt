@@ -10,7 +10,8 @@ ghost use Rattle.pb_options.specs.Lends.{lending_for};
 ghost use Rattle.pb_record.specs.Recorded.{IsTooLong};
 ghost use Rattle.pb_verifier.specs.Verified.{IsVerified};
 
-use pb_accept::{Ending, compile_text, ended, ending_of, refuse, too_long};
+use pb_accept::run_text::{ended, too_long};
+use pb_accept::{Ending, compile_text, ending_of, refuse};
 use pb_base::{Input, Lending, NoMemory, Output};
 use pb_base::limits::{MAX_INPUT, MAX_PICKS};
 use pb_command_io::{Reply, Status, read_input, tell};

@@ -6,13 +6,12 @@ mod counted;
 mod events;
 mod fault;
 pub mod laws;
-mod replay;
+pub mod replay;
 mod span;
 mod spans;
 mod trace;
 
 pub use counted::CountedPick;
 pub use fault::ReplayFault;
-pub use replay::{repeat, replay, replay_by, replay_counted, replay_counted_by};
 pub use span::Span;
 pub use trace::Trace;

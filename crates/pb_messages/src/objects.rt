@@ -7,7 +7,8 @@ ghost use Rattle.pb_accept.specs.Loading.{IsLoaded, IsLoadFault};
 ghost use Rattle.pb_messages.specs.Said.{TellsObject};
 
 use crate::worded::worded;
-use pb_accept::{LoadFault, load, object_cause, verify_cause};
+use pb_accept::load::{LoadFault, load};
+use pb_accept::{object_cause, verify_cause};
 use pb_base::NoMemory;
 use pb_code::Labels;
 use pb_message_wording::{unread_wording, unsafe_wording};

@@ -9,7 +9,7 @@ use pb_banker::Lender;
 use pb_base::Pick;
 use pb_codegen::{Compiled, compile};
 use pb_debug::Debugger;
-use pb_history::replay;
+use pb_history::replay::replay;
 use pb_machine::Machine;
 use std::alloc::Global;
 

@@ -24,7 +24,8 @@ use pb_base::limits::MAX_INPUT;
 use pb_codegen::Compiled;
 use pb_command_io::{Reply, Status, tell, two_parts};
 use pb_options::OutcomesOptions;
-use pb_search::{Outcomes, Until, explore_by};
+use pb_search::explore::explore_by;
+use pb_search::{Outcomes, Until};
 use std::alloc::Global;
 
 /// Writes whether all runs of a text are as the print lines say that follow it, behind a line `%%`; and else the

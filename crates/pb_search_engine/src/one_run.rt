@@ -17,13 +17,15 @@ ghost use Rattle.pb_search_engine.specs.SaysOutcomes.{mode_for, until_for};
 use crate::counts::count_picks;
 use crate::lines::{put_head, put_last};
 use crate::outcomes::{mode, until};
-use pb_accept::{compile_text, refuse, run_text};
+use pb_accept::run_text::run_text;
+use pb_accept::{compile_text, refuse};
 use pb_base::{NoMemory, Output, Pick};
 use pb_base::limits::MAX_INPUT;
 use pb_codegen::Compiled;
 use pb_command_io::{Reply, Status, tell};
 use pb_options::OutcomesOptions;
-use pb_search::{Extent, Outcomes, explore_by};
+use pb_search::explore::explore_by;
+use pb_search::{Extent, Outcomes};
 use std::alloc::Global;
 
 /// An outcome or a deadlock, by its number from 1 in what `outcomes` writes.
