@@ -10,9 +10,9 @@ ghost use Rattle.pb_command_io.specs.Faults.{TellsFaults, TellsWriteFaults};
 
 use crate::accept::{Refusal, analyze_text};
 use bumpalo::Bump;
-use pb_base::{Claims, Input, NoMemory, Output};
 use pb_base::limits::MAX_INPUT;
 use pb_base::writing::put_number;
+use pb_base::{Claims, Input, NoMemory, Output};
 use pb_command_io::{Reply, Status, read_input, refused, tell};
 use pb_names::{Resolved, Resource};
 use std::alloc::{Allocator, Global};

@@ -9,8 +9,8 @@ ghost use Rattle.pb_command_io.specs.Inputs.{SaysOfInput};
 ghost use Rattle.pb_command_io.specs.Faults.{TellsFaults, TellsWriteFaults};
 
 use crate::accept::{compile_text, refuse};
-use pb_base::{Input, NoMemory, Output};
 use pb_base::limits::MAX_INPUT;
+use pb_base::{Input, NoMemory, Output};
 use pb_codegen::Compiled;
 use pb_command_io::{Reply, Status, read_input, refused, tell};
 use pb_object::{Format, fits_first_format, write_object, write_object2};

@@ -9,8 +9,8 @@ ghost use Rattle.pb_object.specs.Answers.{HasText, SpellsCode};
 ghost use Rattle.pb_object.specs.declared.format.Format.TheVariants.{Two};
 
 use crate::load::{load, load_refusal};
-use pb_base::{Input, NoMemory, Output};
 use pb_base::limits::MAX_INPUT;
+use pb_base::{Input, NoMemory, Output};
 use pb_code::{Code, Labels};
 use pb_command_io::{Reply, Status, read_input, tell};
 use pb_object::write_object2;

@@ -1,6 +1,8 @@
 //! Requests of a client.
 
-use pb_adapter_requests::{Kind, asked_lines, asks_events, kind_of, number_of, place_of, request_of, text_of};
+use pb_adapter_requests::{
+    Kind, asked_lines, asks_events, kind_of, number_of, place_of, request_of, text_of,
+};
 use serde_json::Value;
 
 #[test]

@@ -8,8 +8,8 @@ ghost use Rattle.pb_verifier.specs.Verified.{IsVerified};
 
 use pb_accept::run_text::{ended, too_long};
 use pb_accept::{compile_text, refuse};
-use pb_base::{Input, Lending, NoMemory, Output};
 use pb_base::limits::{MAX_INPUT, MAX_PICKS};
+use pb_base::{Input, Lending, NoMemory, Output};
 use pb_command_io::{Reply, Status, read_input, tell};
 use pb_engines::drawn_run;
 use pb_picks::write_picks;

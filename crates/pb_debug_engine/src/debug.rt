@@ -7,8 +7,8 @@ ghost use Rattle.pb_command_io.specs.Faults.{TellsFaults, TellsWriteFaults};
 ghost use Rattle.pb_command_io.specs.Inputs.{SaysOfInput};
 
 use crate::parts::debug_parts;
-use pb_base::{Input, Lending, MemoryInput, Output};
 use pb_base::limits::MAX_INPUT;
+use pb_base::{Input, Lending, MemoryInput, Output};
 use pb_command_io::{Status, read_input, two_parts};
 use std::alloc::Global;
 

@@ -10,9 +10,11 @@ ghost use Rattle.pb_history.specs.Positions.{AreEnabledBy};
 ghost use Rattle.pb_machine.specs.Views.{IsMachineBy, machine_view};
 ghost use Rattle.pb_options.specs.Lends.{lending_for};
 
-use pb_accept::{Ending, compile_text, end_status, ending_of, lines_refusal, make_lines_by, refuse, status_at};
-use pb_base::{Input, Lending, NoMemory, Output};
+use pb_accept::{
+    Ending, compile_text, end_status, ending_of, lines_refusal, make_lines_by, refuse, status_at,
+};
 use pb_base::limits::{MAX_INPUT, MAX_PICKS};
+use pb_base::{Input, Lending, NoMemory, Output};
 use pb_command_io::{Reply, Status, read_input, tell, two_parts};
 use pb_draw::draw;
 use pb_draw_picture::{lay_out, write_svg};

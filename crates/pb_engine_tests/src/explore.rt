@@ -3,7 +3,9 @@
 use pb_base::Lending;
 use pb_codegen::compile;
 use pb_search::explore::{explore, explore_by};
-use pb_search::{Deadlock, Extent, Found, Outcomes, ProcessOutcome, StuckProcess, StuckState, Until};
+use pb_search::{
+    Deadlock, Extent, Found, Outcomes, ProcessOutcome, StuckProcess, StuckState, Until,
+};
 use pb_search_stages::Mode;
 use std::alloc::Global;
 

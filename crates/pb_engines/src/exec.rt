@@ -7,8 +7,8 @@ ghost use Rattle.pb_command_io.specs.Faults.{TellsFaults, TellsWriteFaults};
 
 use crate::report::tell_run;
 use pb_accept::load::{load, load_refusal};
-use pb_base::{Input, Output};
 use pb_base::limits::MAX_INPUT;
+use pb_base::{Input, Output};
 use pb_command_io::{Status, read_input, tell};
 use pb_options::RunOptions;
 use std::alloc::Global;

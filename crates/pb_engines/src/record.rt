@@ -12,8 +12,8 @@ ghost use Rattle.pb_verifier.specs.Verified.{IsVerified};
 
 use pb_accept::run_text::{ended, too_long};
 use pb_accept::{Ending, compile_text, ending_of, refuse};
-use pb_base::{Input, Lending, NoMemory, Output};
 use pb_base::limits::{MAX_INPUT, MAX_PICKS};
+use pb_base::{Input, Lending, NoMemory, Output};
 use pb_command_io::{Reply, Status, read_input, tell};
 use pb_history::CountedPick;
 use pb_options::{RecordOptions, RunOptions};

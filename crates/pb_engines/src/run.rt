@@ -7,8 +7,8 @@ ghost use Rattle.pb_command_io.specs.Faults.{TellsFaults, TellsWriteFaults};
 
 use crate::report::tell_run;
 use pb_accept::{compile_text, refuse};
-use pb_base::{Input, Output};
 use pb_base::limits::MAX_INPUT;
+use pb_base::{Input, Output};
 use pb_command_io::{Status, read_input};
 use pb_options::RunOptions;
 use std::alloc::Global;

@@ -7,4 +7,7 @@ mod code;
 mod options;
 
 pub use code::{Code, UnknownCode};
-pub use options::{CheckOptions, DebugOptions, DrawOptions, EmitOptions, Lend, MAX_HEAP, MAX_ROWS, MIN_HEAP, OutcomesOptions, RecordOptions, ReplayOptions, RunOptions, StatesOptions, UnknownLend};
+pub use options::{
+    CheckOptions, DebugOptions, DrawOptions, EmitOptions, Lend, MAX_HEAP, MAX_ROWS, MIN_HEAP,
+    OutcomesOptions, RecordOptions, ReplayOptions, RunOptions, StatesOptions, UnknownLend,
+};

@@ -16,12 +16,12 @@ ghost use Rattle.pb_history.specs.Positions.{AreEnabled};
 ghost use Rattle.pb_machine.specs.Views.{machine_view};
 
 use pb_accept::{LinesFault, compile_text, lines_refusal, refuse};
-use pb_base::{Input, NoMemory, Output};
 use pb_base::limits::{MAX_INPUT, MAX_PICKS};
+use pb_base::{Input, NoMemory, Output};
 use pb_codegen::Compiled;
 use pb_command_io::{Reply, Status, read_input, tell, two_parts};
-use pb_history::replay::replay_counted;
 use pb_history::Trace;
+use pb_history::replay::replay_counted;
 use pb_machine::Machine;
 use pb_object::write_object2;
 use pb_page::{Shown, run_document};

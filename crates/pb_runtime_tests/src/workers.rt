@@ -4,8 +4,8 @@ use crate::codes::{DEVICES, DIVIDES, FORKS, INCREMENTS, PRINT, PRINTS, TURNS, ve
 use crate::examples::EXAMPLES;
 use pb_base::{Event, FaultKind, NoMemory, Pick};
 use pb_codegen::compile;
-use pb_history::replay::replay;
 use pb_history::Trace;
+use pb_history::replay::replay;
 use pb_shared::Outcome;
 use pb_verifier::Verified;
 use pb_workers::{Gate, Report, RunFault, run_workers};

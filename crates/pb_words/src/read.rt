@@ -23,7 +23,10 @@ use clap::{ArgMatches, Error};
 use pb_base::limits::{MAX_PICKS, MAX_QUANTUM, MAX_STATES, MAX_WORKERS};
 use pb_command_line::command_line::command_line;
 use pb_object::Format;
-use pb_options::{CheckOptions, Code, DebugOptions, DrawOptions, EmitOptions, Lend, MAX_HEAP, MAX_ROWS, MIN_HEAP, OutcomesOptions, RecordOptions, ReplayOptions, RunOptions, StatesOptions};
+use pb_options::{
+    CheckOptions, Code, DebugOptions, DrawOptions, EmitOptions, Lend, MAX_HEAP, MAX_ROWS, MIN_HEAP,
+    OutcomesOptions, RecordOptions, ReplayOptions, RunOptions, StatesOptions,
+};
 use std::alloc::{AllocError, Global};
 
 /// The text of a word that names nobody who decides on a request.
