@@ -2,3 +2,4 @@ pub mod Cutting
 pub mod Kept
 pub mod NumberedLines
 pub mod Spellings
+pub mod Trims
