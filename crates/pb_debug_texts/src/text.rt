@@ -155,15 +155,22 @@ pub fn put_threads(text: &mut Vec<u8>, process: &Proc) -> Result<(), NoMemory>
     Ok(())
 }
 
+/// Appends numbers to a text, each after a space.
+fn put_values(text: &mut Vec<u8>, values: &[i64]) -> Result<(), NoMemory>
+    ensures { OnOk result (text.new.items ≡ text.old.items ++ said.values_text values.now) }
+{
+    for i in 0..values.len() {
+        put_number(text, b" ", values[i])?;
+    }
+    Ok(())
+}
+
 /// Appends the line of the operands of an arm to a text, the last one on top.
 pub fn put_stack(text: &mut Vec<u8>, thread: &Thread) -> Result<(), NoMemory>
     ensures { OnOk result (text.new.items ≡ text.old.items ++ said.stack_text (thread_view thread.now)) }
 {
     put(text, b"stack")?;
-    let operands = thread.operands();
-    for k in 0..operands.len() {
-        put_number(text, b" ", operands[k])?;
-    }
+    put_values(text, thread.operands())?;
     put(text, b"\n")
 }
 
