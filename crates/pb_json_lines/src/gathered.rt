@@ -8,7 +8,7 @@ ghost use Rattle.pb_json_lines.specs.Replies.{ReadFailed, SaysInJson, memory_obj
 
 use crate::form::Dialect;
 use crate::text::json_lines;
-use pb_base::device::{DeviceFault, Output, write_all};
+use pb_base::{DeviceFault, Output, write_all};
 use pb_command_io::{Page, Status};
 use std::alloc::Global;
 use std::marker::Model;

@@ -1,6 +1,6 @@
 //! The engines behind the data of a page in a browser: the states of a run.
 #![tactic(auto)]
 
-pub mod states;
+mod states;
 
 pub use states::states_engine;
