@@ -224,11 +224,12 @@ def calls() -> list[tuple[list[str], bytes]]:
     names = (b"resource order = 1; resource refused = 2; process order begin integer x; hold 1 of order do print 1 od end\n"
              b"process bottleneck begin integer x; hold 1 of refused do x := 1 div 0 od end process refused begin skip end\n")
     nothing = b"process refused begin print 1 end\n"
-    odd = b"process p // \xff\x00\"\x7f\nbegin integer ok, memory;\nok\n:= 1;\nmemory\n:= 2; print ok end\n"
+    odd = b"process p // \t\"\\<%%\r\nbegin integer ok, memory;\nok\n:= 1;\nmemory\n:= 2; print ok end\n"
     asks = (b"to 2\nvars p\nthreads p\nloans\nwho tape\ncircle\nline p.0\ntext p.0\nwhy p.0\nnext\nprev\nwrote p ok\nuntil p.0 3\n"
             b"pick p.0\nhelp\nto 99\nvars q\nthreads p\nnonsense\n")
-    jobs = (b"resource tape-1 4\nresource 2.d 2\njob a tape-1 3, 2.d 1\njob 1-b tape-1 4\nask a tape-1 2\nask a tape-1 2\nwant 1-b tape-1 3\n"
-            b"why a 2.d 1\norder\norder a 1-b\norder a a\norder a\nstate\ngive a tape-1 2\nhelp\nhold a tape-1 9\nleave a\nnonsense\n")
+    jobs = (b"resource tape-1 4\nresource 2.d 2\njob a 3 tape-1, 1 2.d\njob 1-b 4 tape-1\nask a 2 tape-1\nask a 2 tape-1\nask 1-b 4 tape-1\n"
+            b"want 1-b 3 tape-1\nwhy a 1 2.d\norder\norder a 1-b\norder 1-b a\norder a a\norder a\nstate\ngive a 2 tape-1\nhelp\n"
+            b"hold a 1 2.d\ndrop a\nleave a\nnonsense\n")
     made.append((["bank"], jobs))
     for words in (["record"], ["record", "--seed", "3"], ["outcomes", "--run", "1"], ["outcomes", "--run=1"], ["outcomes", "--run", "1", "--expect"],
                   ["outcomes", "--deadlock", "1"], ["outcomes"], ["run"]):
