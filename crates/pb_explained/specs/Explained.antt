@@ -1,5 +1,5 @@
 -- What a call writes on its output and on standard error: its answer, and what a person is told of a refusal.
-use Rattle.std.specs.Prelude.{◌≡◌, ◌⊎◌, ◌↔◌, IsTrue, ℕ, Bool, true, false, List, [], ◌∷◌, Option, Some, codes}
+use Rattle.std.specs.Prelude.{◌≡◌, ◌⊎◌, ◌↔◌, IsTrue, ℕ, Bool, true, false, List, [], ◌∷◌, map, Option, Some, codes}
 use Rattle.std.specs.Borrow.{Bor}
 use Rattle.clap.specs.Words.{Text}
 use Rattle.pb_base.specs.declared.lending.Lending.{Lending}
@@ -9,6 +9,7 @@ use Rattle.pb_answer.specs.Calls.{CallTellsFaults, CallWrites}
 use Rattle.pb_command_io.specs.Faults.{Devices, TellsFaults}
 use Rattle.pb_command_io.specs.declared.status.Status.{Status}
 use Rattle.pb_command_io.specs.declared.status.Status.TheVariants.{Refused}
+use Rattle.pb_json_lines.specs.Dialects.{dialect_of}
 use Rattle.pb_json_lines.specs.Replies.{TellsInJson}
 use Rattle.pb_messages.specs.LiveInputs.{SaysOfLiveInput}
 use Rattle.pb_messages.specs.Said.{SaysToPerson}
@@ -98,10 +99,12 @@ TellsPerson words heard status kept old new =
     ⊎ ((IsQuiet words → ⊥) × (status ≡ Refused)
     × ((bytes : List ℕ) × (kept ≡ Some bytes) × Explains heard bytes old new))
 
--- what a call writes as JSON lines: those of what it would write to memory, if there is enough, with its status
+-- what a call writes as JSON lines: those of what it would write to memory, if there is enough, in the forms of its
+-- command, with its status
 abbrev pub WritesJson : (words : List (Bor Text)) → (rest old new : Option (List ℕ)) → Status → Type 0
 WritesJson words rest old new status =
-    (bytes : List ℕ) × (given : Status) × CallWrites words rest (Some []) (Some bytes) given × TellsInJson bytes given old new status
+    (bytes : List ℕ) × (given : Status) × CallWrites words rest (Some []) (Some bytes) given
+    × TellsInJson (dialect_of (map (λ word. word.now) words) given) bytes given old new status
 
 -- the answer of a call, as it is or in JSON lines
 abbrev pub Answers : (json : Bool) → (words : List (Bor Text)) → (rest left : Option (List ℕ)) → Devices → Devices → Status → Type 0
