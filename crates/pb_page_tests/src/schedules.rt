@@ -110,23 +110,30 @@ fn a_limit_is_told(rt: HostRuntime) {
     assert!(rt; !is_over(rt.alloc(), &TINY, 4));
 }
 
-/// What is written of `TINY` if at most three configurations are allowed.
-const TINY_LIMIT: &[u8] = b"{\"parbegin\":1,\"kind\":\"schedules\",\"text\":\"process p begin print 1 end\\n\",\"object\":\"PBO 2\\nresources 0\\nprocesses 1\\nprocess p\\nvars 0\\narms 1\\nclaims\\narm 0\\ncode 3\\n1 push 1\\n1 print\\n0 end\\n\",\"lend\":\"banker\",\"more_than\":3}\n";
+/// The process of `TINY`, if at most three configurations are allowed.
+const TINY_LIMIT: Case = Case {
+    text: b"process p begin print 1 end\n",
+    lending: Lending::ByBanker,
+    said: b"{\"parbegin\":1,\"kind\":\"schedules\",\"text\":\"process p begin print 1 end\\n\",\"object\":\"PBO 2\\nresources 0\\nprocesses 1\\nprocess p\\nvars 0\\narms 1\\nclaims\\narm 0\\ncode 3\\n1 push 1\\n1 print\\n0 end\\n\",\"lend\":\"banker\",\"more_than\":3}\n",
+};
+
+/// A text that is none.
+const REFUSED: Case = Case {
+    text: b"process p begin print 1 end process",
+    lending: Lending::ByBanker,
+    said: b"refused P1 at 35\n",
+};
 
 /// Returns whether this is written of a text, with this status.
-fn tells(alloc: Global, text: &[u8], states: u32, said: &[u8], status: Status) -> Option<bool> {
+fn tells(alloc: Global, case: &Case, states: u32, status: Status) -> Option<bool> {
     let mut output = MemoryOutput::new(alloc, 4_096).ok()?;
-    let told = tell_schedules(alloc, Lending::ByBanker, states, text, &mut output);
-    Some(told == status && output.as_slice() == said)
+    let told = tell_schedules(alloc, case.lending, states, case.text, &mut output);
+    Some(told == status && output.as_slice() == case.said)
 }
 
 #[test]
 fn the_document_is_written(rt: HostRuntime) {
-    assert!(rt; tells(rt.alloc(), TINY.text, 4, TINY.said, Status::Done) == Some(true));
-}
-
-#[test]
-fn a_limit_and_a_refusal_are_written(rt: HostRuntime) {
-    assert!(rt; tells(rt.alloc(), TINY.text, 3, TINY_LIMIT, Status::Limit) == Some(true));
-    assert!(rt; tells(rt.alloc(), b"process p begin print 1 end process", 9, b"refused P1 at 35\n", Status::Refused) == Some(true));
+    assert!(rt; tells(rt.alloc(), &TINY, 4, Status::Done) == Some(true));
+    assert!(rt; tells(rt.alloc(), &TINY_LIMIT, 3, Status::Limit) == Some(true));
+    assert!(rt; tells(rt.alloc(), &REFUSED, 3, Status::Refused) == Some(true));
 }
