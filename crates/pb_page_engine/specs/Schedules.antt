@@ -11,16 +11,20 @@ use Rattle.pb_object.specs.declared.format.Format.TheVariants.{Two}
 use Rattle.pb_page_graph.specs.Documents.{IsGraphDocument, excess_text}
 use Rattle.pb_search.specs.Outcomes.{IsExcess}
 
--- what is said of an accepted text under this lending, by its code: the document of all its schedules; or that more
--- than this number of configurations are reached, which is so
-pub data SaysOfCodeSchedules (lending : Lending) (states : ℕ) (source : List ℕ) (code : Code) (labels : List ProcessLabels)
-    : List ℕ → Status → Type 0 where
-  all : (object document : List ℕ) → SpellsCode Two code labels object
-      → IsGraphDocument (record { lending = lending; prints = false }) code source object document
-      → SaysOfCodeSchedules lending states source code labels document Done
-  too_many : (object : List ℕ) → SpellsCode Two code labels object
-      → IsExcess (record { lending = lending; prints = false }) code states
-      → SaysOfCodeSchedules lending states source code labels (excess_text source object lending states) Limit
+-- the document of all schedules of a code under this lending; or that more than this number of configurations are
+-- reached, which is so
+pub data AreSchedules (lending : Lending) (states : ℕ) (source object : List ℕ) (code : Code) : List ℕ → Status → Type 0 where
+  all : (document : List ℕ) → IsGraphDocument (record { lending = lending; prints = false }) code source object document
+      → AreSchedules lending states source object code document Done
+  too_many : IsExcess (record { lending = lending; prints = false }) code states
+      → AreSchedules lending states source object code (excess_text source object lending states) Limit
+
+-- what is said of an accepted text by its code: that, with the object of the code
+pub record SaysOfCodeSchedules (lending : Lending) (states : ℕ) (source : List ℕ) (code : Code) (labels : List ProcessLabels)
+    (text : List ℕ) (status : Status) : Type 0 where
+  pub object : List ℕ
+  pub spelled : SpellsCode Two code labels object
+  pub are : AreSchedules lending states source object code text status
 
 -- what is said of a text: it is refused; or it is accepted
 pub data SaysOfSchedules (lending : Lending) (states : ℕ) (bytes : List ℕ) : List ℕ → Status → Type 0 where

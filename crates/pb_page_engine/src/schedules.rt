@@ -6,7 +6,7 @@ ghost use Rattle.pb_command_io.specs.Answers.{Tells};
 ghost use Rattle.pb_command_io.specs.Faults.{TellsWriteFaults};
 ghost use Rattle.pb_command_io.specs.Inputs.{SaysOfInput};
 ghost use Rattle.pb_page_graph.specs.Documents.{excess_text};
-ghost use Rattle.pb_page_engine.specs.Schedules.{SaysOfCodeSchedules, SaysOfSchedules};
+ghost use Rattle.pb_page_engine.specs.Schedules.{AreSchedules, SaysOfCodeSchedules, SaysOfSchedules};
 
 use crate::object::object_of;
 use pb_accept::accept::{compile_text, refuse};
@@ -18,6 +18,7 @@ use pb_command_io::Status;
 use pb_command_io::reply::{Reply, tell};
 use pb_page_graph::{excess_document, schedules_document};
 use pb_search::KeepFault;
+use pb_verifier::Verified;
 use std::alloc::Global;
 
 /// Writes the document of all schedules of a text under this lending: a line of JSON with the text, its object, and
@@ -55,13 +56,26 @@ fn reply(
         compiled.now.labels r.text.items r.status) }
 {
     let object = object_of(alloc, compiled)?;
-    let verified = compiled.verified();
-    match schedules_document(alloc, verified, lending, states, source, &object) {
+    schedules(alloc, lending, states, source, &object, compiled.verified())
+}
+
+/// Returns the document of all schedules of a code, or the one that says that there are too many.
+fn schedules(
+    alloc: Global,
+    lending: Lending,
+    states: u32,
+    source: &[u8],
+    object: &[u8],
+    verified: &Verified,
+) -> Result<Reply, NoMemory>
+    ensures { IfOk result (λ r. AreSchedules lending states source.now object.now verified.now.code r.text.items r.status) }
+{
+    match schedules_document(alloc, verified, lending, states, source, object) {
         Ok(text) => Ok(Reply {
             text,
             status: Status::Done,
         }),
-        Err(KeepFault::TooMany) => excess_reply(alloc, lending, states, source, &object),
+        Err(KeepFault::TooMany) => excess_reply(alloc, lending, states, source, object),
         Err(KeepFault::NoMemory) => Err(NoMemory),
     }
 }
