@@ -16,7 +16,7 @@ pub has_first_text : (verified : VerifiedCode) (code : Code) → code ≡ verifi
     → FitsFirst code → HasTextOne code
 has_first_text verified code same is fits =
     subst HasTextOne (sym same)
-    (first_text verified.code (is.annotated OutOfLimits) is.pushes (subst FitsFirst same fits))
+    (first_text verified.code (is.faultless OutOfLimits) is.pushes (subst FitsFirst same fits))
 
 pub has_second_text : (verified : VerifiedCode) (code : Code) (labels given : List ProcessLabels)
     → code ≡ verified.code → given ≡ labels → IsVerified verified → AreLabels verified.code labels
@@ -25,7 +25,7 @@ has_second_text verified code labels given same same_labels is fit =
     subst (λ (c : Code). HasText Two c given) (sym same)
     (subst (λ (l : List ProcessLabels). HasText Two verified.code l) (sym same_labels)
     (ranges_text verified.code labels
-    (record { limits = is.annotated OutOfLimits; pushes = is.pushes; fit = fit })))
+    (record { limits = is.faultless OutOfLimits; pushes = is.pushes; fit = fit })))
 
 -- ---- what is said of it
 

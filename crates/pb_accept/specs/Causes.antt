@@ -5,8 +5,8 @@ use Rattle.pb_options.specs.Codes.{code_name}
 use Rattle.pb_options.specs.declared.code.Code.{Code}
 use Rattle.pb_options.specs.declared.code.Code.TheVariants.{L1, L2, L3, L4, P1, P2, P3, N1, N2, N3, N4, N6, C1, O1, O2}
 use Rattle.pb_options.specs.declared.code.Code.TheVariants.{V1, V2, V3, V4, V5, V6, V7, V8, V9, K1, K2, H1}
-use Rattle.pb_lexer.specs.declared.error.LexFault.{LexFault}
-use Rattle.pb_lexer.specs.declared.error.LexFault.TheVariants as lex
+use Rattle.pb_lexer.specs.declared.fault.LexFault.{LexFault}
+use Rattle.pb_lexer.specs.declared.fault.LexFault.TheVariants as lex
 use Rattle.pb_grammar.specs.declared.fault.ParseFault.{ParseFault}
 use Rattle.pb_grammar.specs.declared.fault.ParseFault.TheVariants as parse
 use Rattle.pb_names.specs.declared.fault.NameFault.{NameFault}

@@ -3,7 +3,7 @@ use Rattle.std.specs.Prelude.{◌≡◌, ℕ, List, Option, Some, option_map}
 use Rattle.pb_object.specs.Answers.{SpellsCode, IsFaultOf}
 use Rattle.pb_code.specs.Whole.{Code, ProcessLabels}
 use Rattle.pb_object.specs.declared.format.Format.{Format}
-use Rattle.pb_verifier.specs.Verified.{IsAnnotated, IsRefusedFor}
+use Rattle.pb_verifier.specs.Verified.{IsFaultless, IsRefusedFor}
 use Rattle.pb_base.specs.Lines.{line}
 use Rattle.pb_accept.specs.Causes.{cause_line, object_cause, verify_cause}
 use Rattle.pb_accept.specs.declared.cause.Cause.{Cause}
@@ -16,7 +16,7 @@ use Rattle.pb_command_io.specs.declared.status.Status.TheVariants.{Refused}
 pub record IsLoaded (bytes : List ℕ) (code : Code) (labels : List ProcessLabels) : Type 0 where
   pub format : Format
   pub spelled : SpellsCode format code labels bytes
-  pub safe : IsAnnotated code
+  pub safe : IsFaultless code
 
 -- the bytes are not an object, by this fault; or they spell code that is refused for it
 abbrev pub IsLoadFault : List ℕ → LoadFault → Type 0

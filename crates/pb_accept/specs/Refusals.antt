@@ -2,7 +2,7 @@
 use Rattle.std.specs.Prelude.{◌≡◌, ℕ, List, [], ◌∷◌, ◌++◌, Option, None, Some, codes, option_map, ⊤}
 use Rattle.std.specs.Fmt.{decimal}
 use Rattle.pb_base.specs.Steppers.{Table}
-use Rattle.pb_lexer.specs.declared.error.LexFault.{LexFault}
+use Rattle.pb_lexer.specs.declared.fault.LexFault.{LexFault}
 use Rattle.pb_grammar.specs.declared.fault.ParseFault.{ParseFault}
 use Rattle.pb_names.specs.Program.{Program, capital_of}
 use Rattle.pb_names.specs.declared.fault.Kind.{Kind}

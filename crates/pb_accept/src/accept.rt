@@ -11,12 +11,10 @@ ghost use Rattle.pb_command_io.specs.Faults.{TellsWriteFaults};
 use crate::cause::{lex_cause, parse_cause};
 use crate::refusal::{claims_text, names_text, refusal_text};
 use bumpalo::Bump;
-use pb_base::NoMemory;
-use pb_base::device::Output;
 use pb_base::limits::MAX_INPUT;
+use pb_base::{NoMemory, Output};
 use pb_codegen::{Analysis, CompileFault, Compiled, analyze, compile};
-use pb_command_io::Status;
-use pb_command_io::reply::{Reply, refused, tell};
+use pb_command_io::{Reply, Status, refused, tell};
 use std::alloc::{Allocator, Global};
 
 /// Why a text is not accepted.

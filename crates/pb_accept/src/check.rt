@@ -10,10 +10,8 @@ ghost use Rattle.pb_command_io.specs.Faults.{TellsFaults, TellsWriteFaults};
 use crate::accept::{Refusal, compile_within};
 use bumpalo::Bump;
 use linked_list_allocator::LocalHeap;
-use pb_base::device::{Input, Output};
-use pb_command_io::input::read_input;
-use pb_command_io::parts::first_part;
-use pb_command_io::{Page, Status};
+use pb_base::{Input, Output};
+use pb_command_io::{Page, Status, first_part, read_input};
 use pb_options::CheckOptions;
 use std::alloc::{Allocator, Global};
 
@@ -144,7 +142,7 @@ fn check_parts<O: Output>(alloc: Global, heap: Option<u64>, bytes: &[u8], output
 /// and its refusal line for one that is not.
 ///
 /// The trees of a text are in an arena that is reset after it, or in a new heap of the size that is given.
-/// After a read that failed nothing is written; after a write that failed, a first part of the reply.
+/// After a read that failed nothing is written; after a write that failed, a prefix of the reply.
 pub fn check_engine<I: Input, O: Output>(
     alloc: Global,
     options: CheckOptions,

@@ -10,13 +10,10 @@ ghost use Rattle.pb_command_io.specs.Faults.{TellsFaults, TellsWriteFaults};
 
 use crate::accept::{Refusal, analyze_text};
 use bumpalo::Bump;
-use pb_base::device::{Input, Output};
 use pb_base::limits::MAX_INPUT;
 use pb_base::writing::put_number;
-use pb_base::{Claims, NoMemory};
-use pb_command_io::Status;
-use pb_command_io::input::read_input;
-use pb_command_io::reply::{Reply, refused, tell};
+use pb_base::{Claims, Input, NoMemory, Output};
+use pb_command_io::{Reply, Status, read_input, refused, tell};
 use pb_names::{Resolved, Resource};
 use std::alloc::{Allocator, Global};
 
@@ -101,8 +98,8 @@ fn tell_claims<O: Output>(alloc: Global, text: &[u8], output: &mut O) -> Status
 /// declared, the line of its claim, whether or not the capital is enough; or the refusal line of a text that
 /// is not a program.
 ///
-/// After a read that failed nothing is written; after a write that failed, a first part of what was being
-/// said.
+/// After a read that failed nothing is written; after a write that failed, a prefix of the
+/// output.
 pub fn claims_engine<I: Input, O: Output>(alloc: Global, input: &mut I, output: &mut O) -> Status
     ensures text { IfSome (I.rest input.old) (λ bytes.
         Tells (SaysOfInput SaysOfClaims bytes) (O.written output.old) (O.written output.new) result) }

@@ -9,13 +9,10 @@ ghost use Rattle.pb_command_io.specs.Inputs.{SaysOfInput};
 ghost use Rattle.pb_command_io.specs.Faults.{TellsFaults, TellsWriteFaults};
 
 use crate::accept::{compile_text, refuse};
-use pb_base::NoMemory;
-use pb_base::device::{Input, Output};
 use pb_base::limits::MAX_INPUT;
+use pb_base::{Input, NoMemory, Output};
 use pb_codegen::Compiled;
-use pb_command_io::Status;
-use pb_command_io::input::read_input;
-use pb_command_io::reply::{Reply, refused, tell};
+use pb_command_io::{Reply, Status, read_input, refused, tell};
 use pb_object::{Format, fits_first_format, write_object, write_object2};
 use pb_options::EmitOptions;
 use pb_verifier::Verified;
@@ -84,8 +81,8 @@ fn emit_text<O: Output>(alloc: Global, format: Format, text: &[u8], output: &mut
 /// refused it writes the refusal line; for one whose code has more than 32 processes, or takes several
 /// resources at once, the line `refused E1` if the first format was asked for.
 ///
-/// After a read that failed nothing is written; after a write that failed, a first part of what was being
-/// said.
+/// After a read that failed nothing is written; after a write that failed, a prefix of the
+/// output.
 pub fn emit_engine<I: Input, O: Output>(
     alloc: Global,
     options: EmitOptions,

@@ -7,8 +7,7 @@ ghost use Rattle.pb_command_io.specs.Faults.{TellsWriteFaults};
 ghost use Rattle.pb_accept.specs.ToldEvents.{event_lines};
 ghost use Rattle.pb_history.specs.Entries.{events_of};
 
-use pb_base::device::Output;
-use pb_base::{Names, event_line};
+use pb_base::{Names, Output, event_line};
 use pb_command_io::{Page, Status};
 use pb_history::Trace;
 use std::alloc::Global;

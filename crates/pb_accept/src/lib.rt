@@ -2,25 +2,28 @@
 //! what `check`, `claims`, `emit`, `migrate` and `replay` do.
 #![tactic(auto)]
 
-pub mod accept;
+mod accept;
 mod cause;
-pub mod check;
-pub mod claims;
-pub mod emit;
-pub mod ending;
-pub mod events;
+mod check;
+mod claims;
+mod emit;
+mod ending;
+mod events;
 mod faults;
 pub mod load;
-pub mod migrate;
+mod migrate;
 mod refusal;
-pub mod replay;
+mod replay;
 pub mod run_text;
 
+pub use accept::{Refusal, analyze_text, compile_text, refuse};
 pub use cause::{Cause, object_cause, picks_cause, text_cause, verify_cause};
 pub use check::check_engine;
 pub use claims::claims_engine;
 pub use emit::emit_engine;
+pub use ending::{Ending, ending_of};
+pub use events::tell_events;
 pub use migrate::migrate_engine;
 pub use pb_options::{CheckOptions, EmitOptions};
 pub use refusal::cause_text;
-pub use replay::replay_engine;
+pub use replay::{LinesFault, end_status, lines_refusal, make_lines_by, replay_engine, status_at};

@@ -11,7 +11,7 @@ use crate::refusal::refusal_text;
 use pb_base::NoMemory;
 use pb_base::limits::MAX_INPUT;
 use pb_code::Labels;
-use pb_command_io::reply::{Reply, refused};
+use pb_command_io::{Reply, refused};
 use pb_object::{ObjectFault, read_any};
 use pb_verifier::{Verified, VerifyFault, verify};
 use std::alloc::Global;

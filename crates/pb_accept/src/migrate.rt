@@ -9,13 +9,10 @@ ghost use Rattle.pb_object.specs.Answers.{HasText, SpellsCode};
 ghost use Rattle.pb_object.specs.declared.format.Format.TheVariants.{Two};
 
 use crate::load::{load, load_refusal};
-use pb_base::NoMemory;
-use pb_base::device::{Input, Output};
 use pb_base::limits::MAX_INPUT;
+use pb_base::{Input, NoMemory, Output};
 use pb_code::{Code, Labels};
-use pb_command_io::Status;
-use pb_command_io::input::read_input;
-use pb_command_io::reply::{Reply, tell};
+use pb_command_io::{Reply, Status, read_input, tell};
 use pb_object::write_object2;
 use std::alloc::Global;
 
@@ -59,8 +56,8 @@ fn tell_migration<O: Output>(alloc: Global, bytes: &[u8], output: &mut O) -> Sta
 /// or by the first fault of its code. From the first format integers get the names `v0`, `v1` and so on, and
 /// no place a line.
 ///
-/// After a read that failed nothing is written; after a write that failed, a first part of what was being
-/// said.
+/// After a read that failed nothing is written; after a write that failed, a prefix of the
+/// output.
 pub fn migrate_engine<I: Input, O: Output>(alloc: Global, input: &mut I, output: &mut O) -> Status
     ensures text { IfSome (I.rest input.old) (λ bytes.
         Tells (SaysOfInput SaysOfMigration bytes) (O.written output.old) (O.written output.new) result) }

@@ -6,8 +6,7 @@ ghost use Rattle.pb_accept.specs.RunTexts.{EndsLine, IsEnded, SaysOfRunText};
 
 use pb_base::limits::MAX_INPUT;
 use pb_base::{Names, NoMemory};
-use pb_command_io::Status;
-use pb_command_io::reply::{Reply, refused};
+use pb_command_io::{Reply, Status, refused};
 use pb_history::CountedPick;
 use pb_picks::write_picks;
 use std::alloc::Global;

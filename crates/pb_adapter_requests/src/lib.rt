@@ -1,11 +1,12 @@
 //! The requests of a client of the Debug Adapter Protocol, and the responses and events that answer them.
 #![tactic(auto)]
 
-pub mod breakpoints;
-pub mod kind;
-pub mod request;
-pub mod response;
+mod breakpoints;
+mod kind;
+mod request;
+mod response;
 
-pub use kind::Kind;
-pub use request::{Place, Request};
-pub use response::Reply;
+pub use breakpoints::{asked_lines, asks_events};
+pub use kind::{Kind, kind_of};
+pub use request::{Place, Request, number_of, place_of, request_of, text_of};
+pub use response::{Reply, alone, failed};

@@ -1,6 +1,6 @@
 //! Messages with their headers.
 
-use pb_base::device::MemoryInput;
+use pb_base::MemoryInput;
 use pb_conversations::Said;
 use pb_frames::{FrameFault, read_frame, write_frame};
 use std::alloc::Global;

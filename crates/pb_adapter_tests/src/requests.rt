@@ -1,9 +1,8 @@
 //! Requests of a client.
 
-use pb_adapter_requests::Kind;
-use pb_adapter_requests::breakpoints::{asked_lines, asks_events};
-use pb_adapter_requests::kind::kind_of;
-use pb_adapter_requests::request::{number_of, place_of, request_of, text_of};
+use pb_adapter_requests::{
+    Kind, asked_lines, asks_events, kind_of, number_of, place_of, request_of, text_of,
+};
 use serde_json::Value;
 
 #[test]

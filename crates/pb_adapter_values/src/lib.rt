@@ -1,10 +1,10 @@
 //! What an adapter tells of a state: arms, frames, integers, operands, loans and cash, as values of the protocol.
 #![tactic(auto)]
 
-pub mod arms;
-pub mod names;
-pub mod told;
-pub mod variables;
+mod arms;
+mod names;
+mod told;
+mod variables;
 
 pub use arms::{frame, frames_body, list_arms, threads_body};
 pub use names::{arm_name, name_at, thread_number};

@@ -7,7 +7,7 @@ ghost use Rattle.pb_options.specs.Lends.{lending_for};
 ghost use Rattle.pb_command_io.specs.Faults.{TellsWriteFaults};
 
 use pb_bank_engine::bank_engine;
-use pb_base::device::{Input, Output};
+use pb_base::{Input, Output};
 use pb_command_io::{Page, Status};
 use pb_debug_engine::{debug_engine, debug_live_engine};
 use pb_draw_engine::draw_engine;

@@ -4,12 +4,12 @@
 mod answer;
 mod ask;
 mod come;
-pub mod desk;
-pub mod kind;
+mod desk;
+mod kind;
 mod order;
 mod queue;
-pub mod refusal;
-pub mod request;
+mod refusal;
+mod request;
 mod serve;
 mod texts;
 mod want;

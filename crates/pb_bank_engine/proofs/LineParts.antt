@@ -322,4 +322,3 @@ bytes_end bytes k none le =
     take_all k bytes short ∙ sym (take_all 18446744073709551615 bytes (omega (arith, short, le)))
 
 -- ---- results
-

@@ -6,7 +6,7 @@ ghost use Rattle.pb_command_io.specs.Answers.{Tells};
 
 use crate::session::{Stop, session};
 use pb_bank::Desk;
-use pb_base::device::{Input, Output};
+use pb_base::{Input, Output};
 use pb_command_io::{Page, Status};
 use std::alloc::Global;
 

@@ -1,7 +1,7 @@
 //! The command `bank`, over any input and output.
 #![tactic(auto)]
 
-pub mod bank;
+mod bank;
 mod line;
 mod session;
 

@@ -8,8 +8,7 @@ ghost use Rattle.pb_bank_engine.specs.Sessions.{session_bytes, CountsBoth, Count
 
 use crate::line::Line;
 use pb_bank::Desk;
-use pb_base::NoMemory;
-use pb_base::device::{Input, Output, write_all};
+use pb_base::{Input, NoMemory, Output, write_all};
 use std::alloc::Global;
 
 const BLOCK: usize = 4_096;

@@ -2,8 +2,7 @@
 
 use pb_bank::Desk;
 use pb_bank_engine::bank_engine;
-use pb_base::NoMemory;
-use pb_base::device::{MemoryInput, MemoryOutput};
+use pb_base::{MemoryInput, MemoryOutput, NoMemory};
 use pb_command_io::Status;
 use std::alloc::Global;
 

@@ -2,22 +2,22 @@
 //! output, and the definitions of the banker and of runs.
 #![tactic(auto)]
 
-pub mod arithmetic;
-pub mod bundle;
-pub mod capital;
-pub mod claims;
-pub mod device;
-pub mod event;
+mod arithmetic;
+mod bundle;
+mod capital;
+mod claims;
+mod device;
+mod event;
 pub mod laws;
-pub mod lending;
+mod lending;
 pub mod limits;
-pub mod lines;
-pub mod memory;
-pub mod names;
-pub mod operators;
-pub mod pair;
-pub mod pick;
-pub mod step;
+mod lines;
+mod memory;
+mod names;
+mod operators;
+mod pair;
+mod pick;
+mod step;
 pub mod writing;
 
 pub use arithmetic::{apply, apply_unary};

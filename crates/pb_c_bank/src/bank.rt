@@ -6,7 +6,7 @@ ghost use Rattle.pb_banker.specs.Accounts.{IsSound};
 ghost use Rattle.pb_banker.specs.Jobs.{HasJob};
 ghost use Rattle.pb_c_bank.specs.Banks.{Holds, IsBank, IsRequest, pairs_from, state, value};
 
-use pb_banker::accounts::Accounts;
+use pb_banker::Accounts;
 use pb_base::limits::{MAX_PROCESSES, MAX_RESOURCES};
 use pb_base::{Bundle, Pair};
 

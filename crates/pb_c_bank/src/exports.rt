@@ -16,8 +16,7 @@ use crate::said::{
 use crate::seated::are_seated;
 use crate::sound::is_sound;
 use pb_banker::decide::decide;
-use pb_banker::jobs::{admit, vacate};
-use pb_banker::{Joined, Reason};
+use pb_banker::{Joined, Reason, admit, vacate};
 use pb_base::limits::MAX_PROCESSES;
 
 /// Opens a bank with this capital, of 1 to 16 resources, and no jobs.

@@ -4,7 +4,7 @@
 //! are: nothing of it is on a heap, and the library keeps nothing between calls.
 #![tactic(auto)]
 
-pub mod bank;
+mod bank;
 mod exports;
 mod flags;
 mod open;

@@ -5,8 +5,7 @@ ghost use Rattle.pb_banker.specs.Accounts.{state_of, IsSound};
 ghost use Rattle.pb_banker.specs.Value.{start_state};
 ghost use Rattle.pb_c_bank.specs.Banks.{IsCapital};
 
-use pb_banker::accounts::Accounts;
-use pb_banker::jobs::row_with;
+use pb_banker::{Accounts, row_with};
 use pb_base::limits::{MAX_AMOUNT, MAX_PROCESSES, MAX_RESOURCES};
 
 /// Returns whether each amount is within the limit.

@@ -4,7 +4,7 @@ ghost use Rattle.std.specs.Prelude.{◌≡◌, ◌<◌, ◌≤◌, ◌↔◌, �
 ghost use Rattle.pb_banker.specs.Accounts.{IsSound};
 ghost use Rattle.pb_c_bank.specs.Tables.{AreSeated, IsEmptyRow};
 
-use pb_banker::accounts::{Accounts, Row};
+use pb_banker::{Accounts, Row};
 use pb_base::limits::{MAX_PROCESSES, MAX_RESOURCES};
 
 /// Returns whether the first amounts of a row are 0.

@@ -12,7 +12,7 @@ use crate::drawn::record_drawn_engine;
 use pb_accept::{check_engine, claims_engine, emit_engine, migrate_engine, replay_engine};
 use pb_answer::answer::{debug, refuse, shown};
 use pb_bank_engine::bank_engine;
-use pb_base::device::{Input, Output};
+use pb_base::{Input, Output};
 use pb_command_io::Status;
 use pb_draw_engine::draw_engine;
 use pb_explain::explain_engine;

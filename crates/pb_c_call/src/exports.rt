@@ -10,7 +10,7 @@ use crate::alone::answer_alone;
 use crate::reply::{Kept, put_front};
 use crate::word::{NoWords, Word, texts_of};
 use pb_accept::{check_engine, claims_engine};
-use pb_base::device::MemoryInput;
+use pb_base::MemoryInput;
 use pb_command_io::Status;
 use pb_options::CheckOptions;
 use std::alloc::Global;

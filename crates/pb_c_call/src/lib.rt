@@ -2,10 +2,10 @@
 //! starts no threads, so `run`, `exec`, and `record` without a seed are not here.
 #![tactic(auto)]
 
-pub mod alone;
+mod alone;
 mod drawn;
 mod exports;
-pub mod reply;
-pub mod word;
+mod reply;
+mod word;
 
 pub use word::Word;

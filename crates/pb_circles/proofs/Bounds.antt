@@ -37,7 +37,7 @@ held_there s good p r some = ⊎_elim (λ lt. lt) none (cases_lt r (resources s)
 pub link_names : (lending : Lending) (v : VerifiedCode) → IsVerified v → (s : State CodeProcess) → CodeReachesBy lending v.code s
     → (link : Link) → IsLink v.code s link → HasNamesOf v.code.names link
 link_names lending v verified s reached link is =
-    let limits = verified.annotated OutOfLimits in
+    let limits = verified.faultless OutOfLimits in
     let good = (code_is_sound lending v verified s reached).well_formed in
     let rows = limits.rows in
     let processes = limits.process_names.all in

@@ -134,8 +134,8 @@ asking v s p Finishes refused = absurd (refused tt)
 
 module _ (v : VerifiedCode) (verified : IsVerified v) (s : State CodeProcess) (reached : CodeReachesBy ByCash v.code s)
     (dead : IsDeadlockBy ByCash v.code s) where
-  good : Good v.code verified.annotated s
-  good = good_reached v.code verified.annotated ByCash s reached
+  good : Good v.code verified.faultless s
+  good = good_reached v.code verified.faultless ByCash s reached
 
   well : IsWellFormed (bank_at v.code s)
   well = (code_is_sound ByCash v verified s reached).well_formed
@@ -150,11 +150,11 @@ module _ (v : VerifiedCode) (verified : IsVerified v) (s : State CodeProcess) (r
   holder_goes : (q r : ℕ) → 0 < loan (bank_at v.code s) q r → Going q
   holder_goes q r some =
       let n = good.count in
-      let rows = (verified.annotated OutOfLimits).rows in
+      let rows = (verified.faultless OutOfLimits).rows in
       let lt = holder_there (bank_at v.code s) well q r some in
       let code = get_some v.code.processes q (omega (arith, lt, rows)) in
       let state = get_some s.processes q (omega (arith, lt, rows, n)) in
-      let ok = checked v.code verified.annotated q code.0 code.1 in
+      let ok = checked v.code verified.faultless q code.0 code.1 in
       record {
         process = state.0;
         there = state.1;
@@ -182,10 +182,10 @@ module _ (v : VerifiedCode) (verified : IsVerified v) (s : State CodeProcess) (r
   waits : (p : ℕ) → Going p → (link : Link) × IsLink v.code s link × (link.process ≡ p) × Going link.holder
   waits p g =
       let n = good.count in
-      let rows = (verified.annotated OutOfLimits).rows in
+      let rows = (verified.faultless OutOfLimits).rows in
       let u = slice_get_within s.processes p g.process g.there in
       let code = get_some v.code.processes p (omega (arith, u, n)) in
-      let ok = checked v.code verified.annotated p code.0 code.1 in
+      let ok = checked v.code verified.faultless p code.0 code.1 in
       let fit = good.fit p code.0 g.process code.1 g.there in
       let w = can_step code.0 ok g.process fit g.going in
       let pick : Pick = record { process = p; arm = w.0 } in

@@ -36,7 +36,7 @@ pub names_bundles : (v : VerifiedCode) → IsVerified v → (p : ℕ) (code : Gi
 names_bundles v verified p code there = record { takes = go }
   where
     limits : (place : ℕ) (i : Instr) → slice_get (process_view code).instrs place ≡ Some i → HasSmallNumbers i
-    limits = ((verified.annotated OutOfLimits).each p (process_view code) there).numbers
+    limits = ((verified.faultless OutOfLimits).each p (process_view code) there).numbers
 
     go : (place k : ℕ) → slice_get code.instrs.items place ≡ Some (given.Take k) → k < length code.bundles.items
     go place k at = elim (cases_lt k (length code.bundles.items)) [
@@ -101,10 +101,10 @@ asks_once code s arm one two a b =
 -- a machine has the processes of its code, and what its lender knows is what the state says
 module _ (lending : Lending) (v : VerifiedCode) (m : Machine) (is : IsMachineBy lending v m) where
   pub machine_count : length (machine_view m).processes ≡ length v.code.processes
-  machine_count = (good_reached v.code is.verified.annotated lending (machine_view m) is.reached).count
+  machine_count = (good_reached v.code is.verified.faultless lending (machine_view m) is.reached).count
 
   pub rows_count : processes (bank_at v.code (machine_view m)) ≡ length (machine_view m).processes
-  rows_count = let rows = (is.verified.annotated OutOfLimits).rows in let n = machine_count in omega (arith, rows, n)
+  rows_count = let rows = (is.verified.faultless OutOfLimits).rows in let n = machine_count in omega (arith, rows, n)
 
   pub lender_is : (bank : Lender) → bank ≡ m.bank → lender_state bank ≡ bank_at v.code (machine_view m)
   lender_is bank same = ap lender_state same ∙ is.bank

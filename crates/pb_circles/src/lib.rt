@@ -1,10 +1,10 @@
 //! Circular waits: processes each of which waits for a resource that the next one holds.
 #![tactic(auto)]
 
-pub mod asking;
-pub mod circle;
+mod asking;
+mod circle;
 pub mod laws;
-pub mod link;
+mod link;
 
 pub use asking::{amount_in, asked};
 pub use circle::find_circle;

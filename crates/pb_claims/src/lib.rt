@@ -2,9 +2,9 @@
 //! body, and whether the capital is enough for every claim.
 #![tactic(auto)]
 
-pub mod inference;
+mod inference;
 pub mod laws;
-pub mod over_capital;
+mod over_capital;
 mod peaks;
 
 pub use inference::infer;

@@ -1,7 +1,7 @@
 //! The program `parbegin`.
 #![tactic(auto)]
 
-use pb_base::device::{StandardInput, StandardOutput};
+use pb_base::{StandardInput, StandardOutput};
 use pb_command_io::{Page, Status};
 use pb_explained::answer_and_explain;
 use pb_messages::{KeptInput, StandardError};

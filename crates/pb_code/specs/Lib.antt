@@ -5,5 +5,6 @@ pub mod Names
 pub mod Numerals
 pub mod Reached
 pub mod Same
+pub mod Shadows
 pub mod View
 pub mod Whole

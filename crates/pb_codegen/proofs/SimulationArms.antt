@@ -13,7 +13,8 @@ use Rattle.pb_names.specs.Source.{step_expr, Item, GiveBack}
 use Rattle.pb_names.specs.Source.{item_of, items_of, Doing, Waiting, begin, ArmStep, Goes, Breaks, Ends}
 use Rattle.pb_names.specs.Source.{evaluate, step_items}
 use Rattle.pb_code.specs.Code.{Instr, Push, Store, Jump, JumpIfZero, PrintTop, Take, Give, Fork, Join, End}
-use Rattle.pb_code.specs.Code.{Live, Runs, Traps, Forks, Stops, act, is_skip}
+use Rattle.pb_code.specs.Code.{Live, Runs, Traps, Forks, Stops, act}
+use Rattle.pb_code.specs.Shadows.{is_skip}
 use Rattle.pb_generator.specs.Generate.{expr_code, stmt_code, block_code, arm_code}
 use Rattle.pb_names.specs.HeadLines.{item_line, first_line}
 use Rattle.pb_generator.specs.Lines.{block_line, stmt_lines, block_lines}

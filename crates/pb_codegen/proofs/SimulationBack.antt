@@ -9,7 +9,8 @@ use Rattle.pb_base.specs.declared.pick.Pick.{Pick}
 use Rattle.pb_base.specs.declared.event.Event.{Event}
 use Rattle.pb_names.specs.Program.{AllWellNumbered, Process}
 use Rattle.pb_names.specs.Source.{SourceProcess, source_step, SourceCanUnder}
-use Rattle.pb_code.specs.Code.{ProcessCode, CodeProcess, code_step, is_skipped, CodeCanUnder, longest}
+use Rattle.pb_code.specs.Code.{ProcessCode, CodeProcess, code_step, CodeCanUnder, longest}
+use Rattle.pb_code.specs.Shadows.{is_skipped}
 use Rattle.pb_codegen.specs.Correct.{generated, ImplementsUnder}
 use Rattle.pb_generator.specs.Generate.{process_code}
 use Rattle.pb_codegen.proofs.SimulationPlaces.{listing_of}

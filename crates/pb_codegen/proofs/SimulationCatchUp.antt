@@ -4,7 +4,8 @@ use Rattle.pb_base.specs.declared.pick.Pick.{Pick}
 use Rattle.pb_base.specs.Steppers.{Effect, State, Move, move_of}
 use Rattle.pb_names.specs.Program.{Process}
 use Rattle.pb_names.specs.Source.{SourceProcess, source_step}
-use Rattle.pb_code.specs.Code.{CodeProcess, code_step, is_skipped}
+use Rattle.pb_code.specs.Code.{CodeProcess, code_step}
+use Rattle.pb_code.specs.Shadows.{is_skipped}
 use Rattle.pb_code.proofs.Chains.{chain_skips, chain_stops}
 use Rattle.pb_codegen.specs.Correct.{generated}
 use Rattle.pb_codegen.proofs.SimulationBack.{chain_at}

@@ -12,7 +12,7 @@ use Rattle.pb_names.specs.Source.{Becomes, Fails, from_result, step_expr}
 use Rattle.pb_names.proofs.ExpressionSteps.{unary_becomes, unary_fails, left_becomes, left_fails, right_becomes}
 use Rattle.pb_names.proofs.ExpressionSteps.{right_fails}
 use Rattle.pb_code.specs.Code.{Instr, Push, Load, Compute1, Compute2, Live, Runs, Traps, with_result, act}
-use Rattle.pb_code.specs.Code.{is_skip}
+use Rattle.pb_code.specs.Shadows.{is_skip}
 use Rattle.pb_generator.specs.Generate.{expr_code}
 
 -- the instructions are in the code at this place

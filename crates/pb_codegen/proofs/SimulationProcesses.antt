@@ -14,7 +14,7 @@ use Rattle.pb_names.specs.Source.{SourceProcess, settle, step_run}
 use Rattle.pb_names.proofs.ArmNumbers.{Mine, running_begin}
 use Rattle.pb_code.specs.Code.{Instr, End, Join, Thread, Idle, Live, CodeProcess, thread, ThreadStep}
 use Rattle.pb_code.specs.Code.{act, is_over, all_over, launch, dismiss, apply_step, step_thread, step_process}
-use Rattle.pb_code.specs.Code.{is_skip, instr_skips, skips_at, is_at_skip}
+use Rattle.pb_code.specs.Shadows.{is_skip, instr_skips, skips_at, is_at_skip}
 use Rattle.pb_verifier.proofs.Threads.{thread_past, length-launch, launch_out, launch_in, length-dismiss, dismiss_out}
 use Rattle.pb_verifier.proofs.Threads.{dismiss_in}
 use Rattle.pb_generator.specs.Generate.{block_code, arm_code}

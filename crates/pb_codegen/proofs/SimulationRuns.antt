@@ -10,8 +10,9 @@ use Rattle.pb_base.specs.declared.pick.Pick.{Pick}
 use Rattle.pb_base.specs.declared.event.Event.{Event}
 use Rattle.pb_names.specs.Program.{AllWellNumbered, Process}
 use Rattle.pb_names.specs.Source.{SourceProcess, source_step, source_process, SourceCanUnder}
-use Rattle.pb_code.specs.Code.{ProcessCode, CodeProcess, step_process, code_step, code_process, is_at_skip}
-use Rattle.pb_code.specs.Code.{is_skipped, shadow, CodeCanUnder}
+use Rattle.pb_code.specs.Code.{ProcessCode, CodeProcess, step_process, code_step, code_process}
+use Rattle.pb_code.specs.Code.{CodeCanUnder}
+use Rattle.pb_code.specs.Shadows.{is_at_skip, is_skipped, shadow}
 use Rattle.pb_verifier.proofs.Requests.{slice_set_here}
 use Rattle.pb_generator.specs.Generate.{process_code}
 use Rattle.pb_codegen.specs.Correct.{generated}

@@ -31,7 +31,7 @@ use Rattle.pb_verifier.specs.Faults.{ClaimsFitCapital, IsInRange, HasArms, HasFo
 use Rattle.pb_verifier.specs.Faults.{EndsClear, PeakFits}
 use Rattle.pb_verifier.specs.Limits.{IsName, IsSmallProcess, KeepsLimits}
 use Rattle.pb_verifier.specs.Behaviour.{IsWellBehaved}
-use Rattle.pb_verifier.specs.Verified.{IsAnnotated, IsRefusedFor}
+use Rattle.pb_verifier.specs.Verified.{IsFaultless, IsRefusedFor}
 use Rattle.pb_verifier.proofs.SoundBehaviour.{behaved}
 use Rattle.pb_verifier.proofs.LimitTests.{all_from, all_at}
 use Rattle.pb_codegen.specs.Accepted.{CanBeCompiled, HasSoundCode}
@@ -151,7 +151,7 @@ module _ (tree : ProgramSyntax) (program : Program) (claims : Table) (h : CanBeC
       peak_fits process fine.tree.resolves.numbered (omega (arith, l)) r (cell claims q r)
       (omega (arith, same))) p c at
 
-  pub annotated_code : IsAnnotated (program_code program claims)
+  pub annotated_code : IsFaultless (program_code program claims)
   annotated_code OutOfLimits = keeps_limits
   annotated_code OverCapital = fit_capital
   annotated_code OutOfRange =
@@ -186,24 +186,24 @@ code_behaves tree program claims h =
 
 -- ---- a refusal
 
-wrong_fault : (c : Code) (fault : VerifyFault) → IsAnnotated c → IsRefusedFor c fault
+wrong_fault : (c : Code) (fault : VerifyFault) → IsFaultless c → IsRefusedFor c fault
     → (fault ≡ NoMemory → ⊥) → ⊥
-wrong_fault c fault annotated refused other = (refused other).0 (annotated fault)
+wrong_fault c fault faultless refused other = (refused other).0 (faultless fault)
 
--- annotated code is refused only if out of memory
-pub memory_alone : (c : Code) (fault : VerifyFault) → IsAnnotated c → IsRefusedFor c fault → fault ≡ NoMemory
-memory_alone c OutOfLimits annotated refused =
-    elim (wrong_fault c OutOfLimits annotated refused (λ e. cc)) [ ]
-memory_alone c OverCapital annotated refused =
-    elim (wrong_fault c OverCapital annotated refused (λ e. cc)) [ ]
-memory_alone c OutOfRange annotated refused = elim (wrong_fault c OutOfRange annotated refused (λ e. cc)) [ ]
-memory_alone c WrongArms annotated refused = elim (wrong_fault c WrongArms annotated refused (λ e. cc)) [ ]
-memory_alone c WrongForks annotated refused = elim (wrong_fault c WrongForks annotated refused (λ e. cc)) [ ]
-memory_alone c NoDepths annotated refused = elim (wrong_fault c NoDepths annotated refused (λ e. cc)) [ ]
-memory_alone c NoHoldings annotated refused = elim (wrong_fault c NoHoldings annotated refused (λ e. cc)) [ ]
-memory_alone c LeftAtEnd annotated refused = elim (wrong_fault c LeftAtEnd annotated refused (λ e. cc)) [ ]
-memory_alone c OverClaim annotated refused = elim (wrong_fault c OverClaim annotated refused (λ e. cc)) [ ]
-memory_alone c NoMemory annotated refused = refl
+-- faultless code is refused only if out of memory
+pub memory_alone : (c : Code) (fault : VerifyFault) → IsFaultless c → IsRefusedFor c fault → fault ≡ NoMemory
+memory_alone c OutOfLimits faultless refused =
+    elim (wrong_fault c OutOfLimits faultless refused (λ e. cc)) [ ]
+memory_alone c OverCapital faultless refused =
+    elim (wrong_fault c OverCapital faultless refused (λ e. cc)) [ ]
+memory_alone c OutOfRange faultless refused = elim (wrong_fault c OutOfRange faultless refused (λ e. cc)) [ ]
+memory_alone c WrongArms faultless refused = elim (wrong_fault c WrongArms faultless refused (λ e. cc)) [ ]
+memory_alone c WrongForks faultless refused = elim (wrong_fault c WrongForks faultless refused (λ e. cc)) [ ]
+memory_alone c NoDepths faultless refused = elim (wrong_fault c NoDepths faultless refused (λ e. cc)) [ ]
+memory_alone c NoHoldings faultless refused = elim (wrong_fault c NoHoldings faultless refused (λ e. cc)) [ ]
+memory_alone c LeftAtEnd faultless refused = elim (wrong_fault c LeftAtEnd faultless refused (λ e. cc)) [ ]
+memory_alone c OverClaim faultless refused = elim (wrong_fault c OverClaim faultless refused (λ e. cc)) [ ]
+memory_alone c NoMemory faultless refused = refl
 
 -- ---- an accepted text
 
@@ -219,11 +219,11 @@ sound_code text tokens tree program claims cut read limits numbered are_claims e
       claimed = are_claims;
       enough = enough;
     } in
-    let annotated = annotated_code tree program claims accepted in
+    let faultless = annotated_code tree program claims accepted in
     record {
       generatable = generatable tree program limits numbered;
-      annotated = annotated;
-      memory_alone = λ fault. memory_alone (program_code program claims) fault annotated;
+      faultless = faultless;
+      memory_alone = λ fault. memory_alone (program_code program claims) fault faultless;
       behaves = code_behaves tree program claims accepted;
       keeps = record {
         asks_within = source_asks tree program claims numbered are_claims;

@@ -10,7 +10,7 @@ use Rattle.pb_claims.specs.Fits.{FitCapital}
 use Rattle.pb_verifier.specs.declared.fault.VerifyFault.{VerifyFault}
 use Rattle.pb_verifier.specs.declared.fault.VerifyFault.TheVariants.{NoMemory}
 use Rattle.pb_verifier.specs.Behaviour.{IsWellBehaved}
-use Rattle.pb_verifier.specs.Verified.{IsAnnotated, IsRefusedFor}
+use Rattle.pb_verifier.specs.Verified.{IsFaultless, IsRefusedFor}
 use Rattle.pb_codegen.specs.Form.{IsFormed}
 use Rattle.pb_generator.specs.Generate.{program_code}
 use Rattle.pb_generator.specs.Sizes.{IsGeneratable}
@@ -30,7 +30,7 @@ pub record CanBeCompiled (tree : ProgramSyntax) (program : Program) (claims : Ta
 -- its claims
 pub record HasSoundCode (program : Program) (claims : Table) : Type 0 where
   pub generatable : IsGeneratable program
-  pub annotated : IsAnnotated (program_code program claims)
+  pub faultless : IsFaultless (program_code program claims)
   pub memory_alone : (fault : VerifyFault) → IsRefusedFor (program_code program claims) fault
       → fault ≡ NoMemory
   pub behaves : IsWellBehaved (program_code program claims)

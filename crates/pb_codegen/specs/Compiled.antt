@@ -1,8 +1,8 @@
 -- What it means that a text was compiled, or refused.
 use Rattle.std.specs.Prelude.{◌≡◌, ℕ, List, [], slice_index_or, ◌⊎◌, ⊤}
 use Rattle.pb_base.specs.Steppers.{Table}
-use Rattle.pb_lexer.specs.declared.error.LexFault.{LexFault}
-use Rattle.pb_lexer.specs.declared.error.LexFault.TheVariants as lex
+use Rattle.pb_lexer.specs.declared.fault.LexFault.{LexFault}
+use Rattle.pb_lexer.specs.declared.fault.LexFault.TheVariants as lex
 use Rattle.pb_lexer.specs.Cutting.{AreTokensOf, Refuses}
 use Rattle.pb_lexer.specs.Tokens.{Token}
 use Rattle.pb_tree.specs.Syntax.{ProgramSyntax}

@@ -10,7 +10,8 @@ use Rattle.pb_names.specs.HeadLines.{head_line}
 use Rattle.pb_names.specs.Source.{Arm, find, SourceProcess}
 use Rattle.pb_names.specs.Source.{source_step, source_process, source_over, SourceCanUnder}
 use Rattle.pb_code.specs.Code.{ProcessCode, Live, CodeProcess, thread, code_step, code_process, code_over}
-use Rattle.pb_code.specs.Code.{CodeCanUnder, longest, shadow}
+use Rattle.pb_code.specs.Code.{CodeCanUnder, longest}
+use Rattle.pb_code.specs.Shadows.{shadow}
 use Rattle.pb_code.specs.Whole.{Code, CodeCanBy}
 use Rattle.pb_generator.specs.Generate.{process_code}
 use Rattle.pb_generator.specs.Lines.{process_lines}

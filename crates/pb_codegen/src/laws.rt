@@ -22,7 +22,7 @@ ghost use Rattle.pb_parser.specs.Limits.{IsSmallTree};
 ghost use Rattle.pb_grammar.specs.Programs.{ReadsProgram};
 ghost use Rattle.pb_tree.specs.Syntax.{ProgramSyntax};
 ghost use Rattle.pb_verifier.specs.Behaviour.{IsWellBehaved};
-ghost use Rattle.pb_verifier.specs.Verified.{IsAnnotated};
+ghost use Rattle.pb_verifier.specs.Verified.{IsFaultless};
 
 /// The code of well numbered processes can make the events that the processes can make.
 pub fn same_events()
@@ -53,7 +53,7 @@ pub fn resolved_programs_can_be_generated()
 /// The code of an accepted program, under its claims, has none of the faults that the verifier looks for.
 pub fn generated_code_is_verified()
     ensures { (tree : ProgramSyntax) (program : Program) (claims : Table)
-        → CanBeCompiled tree program claims → IsAnnotated (program_code program claims) }
+        → CanBeCompiled tree program claims → IsFaultless (program_code program claims) }
 {}
 
 /// Once a text is cut, read within the limits and resolved, and the capital is enough for its claims, its

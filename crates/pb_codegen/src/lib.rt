@@ -2,9 +2,9 @@
 //! events.
 #![tactic(auto)]
 
-pub mod compiled;
-pub mod compiler;
-pub mod fault;
+mod compiled;
+mod compiler;
+mod fault;
 pub mod laws;
 
 pub use compiled::Compiled;

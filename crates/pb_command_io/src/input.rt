@@ -7,8 +7,8 @@ ghost use Rattle.pb_command_io.specs.Inputs.{SaysOfReading};
 
 use crate::page::Page;
 use crate::status::Status;
-use pb_base::device::{Input, Output, ReadFault, read_whole};
 use pb_base::limits::MAX_INPUT;
+use pb_base::{Input, Output, ReadFault, read_whole};
 use std::alloc::Global;
 
 /// Returns the whole input. If it cannot be read, writes the line that says so, and the status of the call is

@@ -6,7 +6,7 @@ ghost use Rattle.pb_command_io.specs.Answers.{Leaves, Says};
 ghost use Rattle.pb_command_io.specs.Faults.{TellsWriteFaults};
 
 use crate::status::Status;
-use pb_base::device::{DeviceFault, Output, write_all};
+use pb_base::{DeviceFault, Output, write_all};
 use std::alloc::Global;
 use std::marker::Model;
 

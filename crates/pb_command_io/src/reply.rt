@@ -7,8 +7,7 @@ ghost use Rattle.pb_command_io.specs.Faults.{TellsWriteFaults};
 
 use crate::page::Page;
 use crate::status::Status;
-use pb_base::NoMemory;
-use pb_base::device::{Output, write_all};
+use pb_base::{NoMemory, Output, write_all};
 use std::alloc::Global;
 
 /// All that a command says, and its status.

@@ -8,11 +8,8 @@ ghost use Rattle.pb_conversations.specs.Conversations.{AnswersContent, AreFloatF
 ghost use Rattle.pb_conversations.specs.Conversations.{broken_data, fault_words};
 
 use crate::writer::{messages_in, write_reply};
-use pb_adapter_requests::request::request_of;
-use pb_adapter_requests::response::{alone, failed};
-use pb_adapter_requests::{Reply, Request};
-use pb_base::NoMemory;
-use pb_base::device::{Input, Output};
+use pb_adapter_requests::{Reply, Request, alone, failed, request_of};
+use pb_base::{Input, NoMemory, Output};
 use pb_frames::{FrameFault, read_frame};
 use serde_json::Value;
 use std::alloc::{AllocError, Global};

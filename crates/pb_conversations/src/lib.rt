@@ -4,9 +4,9 @@
 //! answer a content is what the implementation of `Adapter` says.
 #![tactic(auto)]
 
-pub mod conversation;
-pub mod said;
-pub mod writer;
+mod conversation;
+mod said;
+mod writer;
 
 pub use conversation::{Adapter, MAX_MESSAGES, Stop, answer_content, converse};
 pub use said::Said;

@@ -2,7 +2,7 @@
 
 ghost use Rattle.std.specs.Prelude.{◌≡◌, [], Some};
 
-use pb_base::device::{DeviceFault, Output};
+use pb_base::{DeviceFault, Output};
 use std::alloc::Global;
 use std::marker::Model;
 

@@ -10,8 +10,7 @@ ghost use Rattle.pb_conversations.specs.Conversations.{AreFloatFree, CountsWrite
 use crate::conversation::Stop;
 use crate::said::Said;
 use pb_adapter_requests::Reply;
-use pb_base::NoMemory;
-use pb_base::device::{Output, write_all};
+use pb_base::{NoMemory, Output, write_all};
 use pb_frames::write_frame;
 use serde_json::Value;
 use std::alloc::Global;

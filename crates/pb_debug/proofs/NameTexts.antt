@@ -32,11 +32,11 @@ missing_arm d p a Device lt h = elim h [ ]
 module _ (d : Debugging) (h : IsPosition d) where
   -- each process has a name, and each resource
   pub names_many : length d.verified.code.names.processes ≡ length (state_of d).processes
-  names_many = (h.verified.annotated OutOfLimits).process_names.all ∙ sym (as_many d h)
+  names_many = (h.verified.faultless OutOfLimits).process_names.all ∙ sym (as_many d h)
 
   everyone_named : (s : BankerState) → s.claims ≡ d.verified.code.claims → All (λ p. p < length d.verified.code.names.processes) (everyone s)
   everyone_named s same k e lt =
-      let limits = h.verified.annotated OutOfLimits in
+      let limits = h.verified.faultless OutOfLimits in
       let n = length-range_with_len 0 (processes s) in
       let within : k < processes s = omega (arith, lt, n) in
       let at = get_or-range_with_len 0 (processes s) k e within in
@@ -49,7 +49,7 @@ module _ (d : Debugging) (h : IsPosition d) where
   why_named p a NotAsking why = tt
   why_named p a (Cash resource amount) (bundle, asking, reason) =
       let first = over_cash d.lending (bank_state d) p bundle resource amount reason in
-      let limits = h.verified.annotated OutOfLimits in
+      let limits = h.verified.faultless OutOfLimits in
       let all = below d.lending d.verified h.verified (state_of d) (reached d h) p a asking.of asking.process asking.code_there asking.there bundle asking.stands in
       let lt = slice_get_within bundle first.place first.pair first.there in
       let one = all first.place first.pair lt in

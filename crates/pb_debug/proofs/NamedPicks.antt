@@ -30,5 +30,5 @@ pick_named {lending = lending} v picks k pick verified all there =
     let e = enabled_at (bank_by lending v.code) (code_step v.code.processes) (code_opening v.code) all.end picks all.events k pick all.makes there in
     let m = code_move v.code.processes (state_after v.code picks k) pick e.move e.moves in
     let within = slice_get_within v.code.processes pick.process m.code m.at in
-    let many = (verified.annotated OutOfLimits).process_names.all in
+    let many = (verified.faultless OutOfLimits).process_names.all in
     omega (arith, within, many)

@@ -20,7 +20,7 @@ module _ (d : Debugging) (h : IsPosition d) where
   reached = position_reached d.verified.code d.picks d.position h.enabled
 
   pub as_many : length (state_of d).processes ≡ length d.verified.code.processes
-  as_many = (good_reached d.verified.code h.verified.annotated d.lending (state_of d) reached).count
+  as_many = (good_reached d.verified.code h.verified.faultless d.lending (state_of d) reached).count
 
   module _ (p : ℕ) (process : CodeProcess) (there : slice_get (state_of d).processes p ≡ Some process) where
     pub in_code : p < length d.verified.code.processes
@@ -33,8 +33,8 @@ module _ (d : Debugging) (h : IsPosition d) where
     pub few_arms : length process.threads ≤ 64
     few_arms =
         let of = get_some d.verified.code.processes p in_code in
-        let threads = ((good_reached d.verified.code h.verified.annotated d.lending (state_of d) reached).fit p of.0 process of.1 there).threads in
-        let small = ((h.verified.annotated OutOfLimits).each p of.0 of.1).some_arms.1 in
+        let threads = ((good_reached d.verified.code h.verified.faultless d.lending (state_of d) reached).fit p of.0 process of.1 there).threads in
+        let small = ((h.verified.faultless OutOfLimits).each p of.0 of.1).some_arms.1 in
         omega (arith, threads, small)
 
     -- as many names as integers
@@ -42,7 +42,7 @@ module _ (d : Debugging) (h : IsPosition d) where
     named_vars l labels_there =
         let of = get_some d.verified.code.processes p in_code in
         let fit : FitLabels of.0 (process_labels_view l) = h.fit.each p of.0 (process_labels_view l) of.1 labels_there in
-        let vars = ((good_reached d.verified.code h.verified.annotated d.lending (state_of d) reached).fit p of.0 process of.1 there).vars in
+        let vars = ((good_reached d.verified.code h.verified.faultless d.lending (state_of d) reached).fit p of.0 process of.1 there).vars in
         let names : length (map (λ (name : Vec ℕ Global). name.items) l.integers.items) ≡ length l.integers.items =
         length-map l.integers.items (λ name. name.items) in
         sym names ∙ (fit.integers.all ∙ sym vars)

@@ -4,7 +4,8 @@ use Rattle.std.specs.Prelude.{◌≡◌, ℕ, ℤ, List, length, map, take, Some
 use Rattle.pb_base.specs.declared.event.Event.{Event}
 use Rattle.pb_base.specs.declared.pick.Pick.{Pick}
 use Rattle.pb_base.specs.Steppers.{State, Makes, opening}
-use Rattle.pb_code.specs.Code.{Live, CodeProcess, thread, shadow}
+use Rattle.pb_code.specs.Code.{Live, CodeProcess, thread}
+use Rattle.pb_code.specs.Shadows.{shadow}
 use Rattle.pb_code.specs.Whole.{Code, ProcessLabels, bank_of, code_opening}
 use Rattle.pb_codegen.specs.Compiled.{IsCompiled}
 use Rattle.pb_names.specs.HeadLines.{head_line}

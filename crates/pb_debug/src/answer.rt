@@ -14,12 +14,11 @@ use crate::fault::DebugFault;
 use crate::refusal::put_refusal;
 use pb_base::NoMemory;
 use pb_debug_commands::{ArmWord, Command, IntegerWord, StopWord, read_command};
-use pb_debug_positions::search::{Watch, line_of_arm};
-use pb_debug_texts::text::{
-    put_at, put_event, put_help, put_loans, put_never, put_no_event, put_not_reached,
-    put_source_line, put_threads, put_vars, put_why, put_wrote,
+use pb_debug_positions::{Watch, line_of_arm};
+use pb_debug_texts::{
+    put_at, put_circle, put_event, put_help, put_loans, put_never, put_no_event, put_not_reached,
+    put_source, put_source_line, put_threads, put_vars, put_who, put_why, put_wrote,
 };
-use pb_debug_texts::{put_circle, put_source, put_who};
 
 /// Returns the number of a name among others.
 fn find_name(names: &[Vec<u8>], word: &[u8]) -> Option<usize>

@@ -16,9 +16,8 @@ use crate::fault::DebugFault;
 use crate::refusal::put_refusal;
 use pb_base::limits::MAX_PICKS;
 use pb_base::{Event, NoMemory, Pick, Step};
-use pb_debug_positions::Walker;
-use pb_debug_positions::checkpoints::keep;
-use pb_debug_texts::text::{put_at, put_event};
+use pb_debug_positions::{Walker, keep};
+use pb_debug_texts::{put_at, put_event};
 use pb_history::Trace;
 use pb_machine::Machine;
 

@@ -3,8 +3,8 @@
 
 mod answer;
 mod append;
-pub mod debugger;
-pub mod fault;
+mod debugger;
+mod fault;
 pub mod laws;
 mod refusal;
 mod search;

@@ -5,7 +5,7 @@ ghost use Rattle.pb_debug_positions.specs.Searches.{Does, IsFirst, IsLast, Shows
 
 use crate::debugger::Debugger;
 use pb_base::{Event, NoMemory, Step};
-use pb_debug_positions::search::{Watch, first_in, last_in};
+use pb_debug_positions::{Watch, first_in, last_in};
 
 impl<'c> Debugger<'c> {
     /// Returns the number of the first pick from the position on that does what is looked for.

@@ -9,8 +9,8 @@ ghost use Rattle.pb_debug.specs.Sessions.{BreaksOff, CountsWrites, CountsBoth, S
 
 use crate::debugger::Debugger;
 use crate::fault::DebugFault;
-use pb_base::device::{Input, Output, write_all};
 use pb_base::limits::MAX_INPUT;
+use pb_base::{Input, Output, write_all};
 use pb_debug_commands::LineBuffer;
 
 const BLOCK: usize = 4_096;

@@ -11,7 +11,7 @@ ghost use Rattle.pb_machine.specs.Views.{proc_view};
 use crate::debugger::Debugger;
 use crate::fault::DebugFault;
 use pb_banker::Lender;
-use pb_debug_positions::search::line_of_arm;
+use pb_debug_positions::line_of_arm;
 use pb_machine::Proc;
 
 impl<'c> Debugger<'c> {

@@ -7,8 +7,7 @@ ghost use Rattle.pb_debug.specs.Whys.{IsWhy};
 
 use crate::debugger::Debugger;
 use crate::fault::DebugFault;
-use pb_debug_texts::Why;
-use pb_debug_texts::why::{asked, reason};
+use pb_debug_texts::{Why, asked, reason};
 
 impl<'c> Debugger<'c> {
     /// Returns why an arm of a process does not go on at the position, or may. `NoProcess` or `NoArm` if

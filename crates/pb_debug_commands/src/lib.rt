@@ -1,11 +1,11 @@
 //! The commands of a debugging session: their words, the lines of bytes, and the buffer of the line being read.
 #![tactic(auto)]
 
-pub mod buffer;
-pub mod command;
+mod buffer;
+mod command;
 pub mod laws;
-pub mod lines;
-pub mod words;
+mod lines;
+mod words;
 
 pub use buffer::LineBuffer;
 pub use command::{Command, read_command};

@@ -7,8 +7,7 @@ ghost use Rattle.std.specs.Str.Parse.{digits_value};
 ghost use Rattle.pb_debug_commands.specs.Commands as spec;
 ghost use Rattle.pb_debug_commands.specs.View.{arm_view, integer_view};
 
-use pb_code::is_numeral;
-use pb_code::names::are_name_bytes;
+use pb_code::{are_name_bytes, is_numeral};
 
 /// An arm, by the name of its process and its number.
 #[derive(Clone, Copy)]

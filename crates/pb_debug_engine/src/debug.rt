@@ -7,12 +7,9 @@ ghost use Rattle.pb_command_io.specs.Faults.{TellsFaults, TellsWriteFaults};
 ghost use Rattle.pb_command_io.specs.Inputs.{SaysOfInput};
 
 use crate::parts::debug_parts;
-use pb_base::Lending;
-use pb_base::device::{Input, MemoryInput, Output};
 use pb_base::limits::MAX_INPUT;
-use pb_command_io::Status;
-use pb_command_io::input::read_input;
-use pb_command_io::parts::two_parts;
+use pb_base::{Input, Lending, MemoryInput, Output};
+use pb_command_io::{Status, read_input, two_parts};
 use std::alloc::Global;
 
 /// Debugs the text or the object that the input begins with under a lending: makes the picks of the pick lines

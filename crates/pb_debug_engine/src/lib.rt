@@ -1,8 +1,8 @@
 //! The engines behind the command `debug`: sessions of commands over the picks of a text or of an object.
 #![tactic(auto)]
 
-pub mod debug;
-pub mod live;
+mod debug;
+mod live;
 mod part;
 mod parts;
 mod session;

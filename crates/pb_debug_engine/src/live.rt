@@ -10,9 +10,8 @@ ghost use Rattle.pb_command_io.specs.Faults.{TellsWriteFaults};
 
 use crate::part::read_first_parts;
 use crate::parts::debug_parts;
-use pb_base::Lending;
-use pb_base::device::{Input, Output, ReadFault};
 use pb_base::limits::MAX_INPUT;
+use pb_base::{Input, Lending, Output, ReadFault};
 use pb_command_io::{Page, Status};
 use std::alloc::Global;
 

@@ -7,9 +7,9 @@ ghost use Rattle.pb_debug_engine.specs.Debugs.{AreThreeParts};
 ghost use Rattle.pb_debug_engine.specs.Live.{EndsInMark, HasLongPart, IsEarly, IsLong, IsUnmarked};
 ghost use Rattle.pb_command_io.specs.Parts.{AreTwoParts};
 
-use pb_base::device::{Input, ReadFault};
 use pb_base::limits::MAX_INPUT;
-use pb_command_io::parts::{is_mark_at, two_parts};
+use pb_base::{Input, ReadFault};
+use pb_command_io::{is_mark_at, two_parts};
 use std::alloc::Global;
 
 /// Returns whether a text ends with a line `%%` and its line feed.

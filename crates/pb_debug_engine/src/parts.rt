@@ -11,15 +11,12 @@ ghost use Rattle.pb_debug_engine.specs.Live.{AnswersOfCode, AnswersOfParts};
 ghost use Rattle.pb_command_io.specs.Answers.{Tells};
 
 use crate::session::tell_session;
-use pb_accept::accept::{compile_text, refuse};
 use pb_accept::load::{load, load_refusal};
-use pb_accept::replay::{LinesFault, lines_refusal};
-use pb_base::Lending;
-use pb_base::device::{Input, Output};
+use pb_accept::{LinesFault, compile_text, lines_refusal, refuse};
 use pb_base::limits::MAX_INPUT;
+use pb_base::{Input, Lending, Output};
 use pb_code::Labels;
-use pb_command_io::Status;
-use pb_command_io::reply::tell;
+use pb_command_io::{Status, tell};
 use pb_debug::Debugger;
 use pb_picks::read_picks;
 use pb_verifier::Verified;

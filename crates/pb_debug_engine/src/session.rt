@@ -8,8 +8,8 @@ ghost use Rattle.pb_debug_engine.specs.Faults.{TellsAnyFault};
 ghost use Rattle.pb_debug_engine.specs.Live.{AnswersLines};
 ghost use Rattle.pb_command_io.specs.Answers.{Tells};
 
-use pb_base::device::{Input, Output};
 use pb_base::limits::MAX_INPUT;
+use pb_base::{Input, Output};
 use pb_command_io::{Page, Status};
 use pb_debug::{DebugFault, Debugger};
 use std::alloc::Global;

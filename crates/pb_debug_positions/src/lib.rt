@@ -1,10 +1,10 @@
 //! Positions along the picks of a run: machines that walk from one to another, checkpoints, and searches.
 #![tactic(auto)]
 
-pub mod checkpoints;
-pub mod search;
-pub mod walker;
+mod checkpoints;
+mod search;
+mod walker;
 
-pub use checkpoints::{Replaying, replay_counted_picks, replay_picks};
-pub use search::Watch;
+pub use checkpoints::{Replaying, keep, replay_counted_picks, replay_picks};
+pub use search::{Watch, first_in, last_in, line_of_arm};
 pub use walker::Walker;

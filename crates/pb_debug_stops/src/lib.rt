@@ -2,6 +2,6 @@
 //! one to a line with a breakpoint.
 #![tactic(auto)]
 
-pub mod stops;
+mod stops;
 
 pub use stops::{first_arrival, first_move, last_arrival, last_move};

@@ -10,8 +10,7 @@ ghost use Rattle.pb_debug_stops.specs.Stops.{Arrives, ComesTo, Moves};
 
 use pb_base::limits::MAX_PICKS;
 use pb_code::Labels;
-use pb_debug_positions::Walker;
-use pb_debug_positions::search::line_of_arm;
+use pb_debug_positions::{Walker, line_of_arm};
 use pb_history::Trace;
 use pb_machine::Machine;
 use pb_verifier::Verified;

@@ -1,14 +1,18 @@
 //! What a debugging session says of the state of a run: its lines of text, and why an arm does not go on.
 #![tactic(auto)]
 
-pub mod circle;
+mod circle;
 pub mod laws;
-pub mod source;
-pub mod text;
-pub mod who;
-pub mod why;
+mod source;
+mod text;
+mod who;
+mod why;
 
 pub use circle::put_circle;
 pub use source::put_source;
+pub use text::{
+    put_at, put_event, put_help, put_loans, put_never, put_no_event, put_not_reached,
+    put_source_line, put_threads, put_vars, put_why, put_wrote,
+};
 pub use who::put_who;
-pub use why::Why;
+pub use why::{Why, asked, reason};

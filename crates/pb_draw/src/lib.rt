@@ -3,9 +3,9 @@
 
 mod bars;
 mod cash;
-pub mod drawing;
+mod drawing;
 mod lanes;
 mod marks;
 mod walk;
 
-pub use drawing::{Drawing, draw};
+pub use drawing::{Bar, CashCurve, CashStep, Drawing, Lane, LaneStep, Mark, Standing, draw};

@@ -10,16 +10,12 @@ ghost use Rattle.pb_history.specs.Positions.{AreEnabledBy};
 ghost use Rattle.pb_machine.specs.Views.{IsMachineBy, machine_view};
 ghost use Rattle.pb_options.specs.Lends.{lending_for};
 
-use pb_accept::accept::{compile_text, refuse};
-use pb_accept::ending::{Ending, ending_of};
-use pb_accept::replay::{end_status, lines_refusal, make_lines_by, status_at};
-use pb_base::device::{Input, Output};
+use pb_accept::{
+    Ending, compile_text, end_status, ending_of, lines_refusal, make_lines_by, refuse, status_at,
+};
 use pb_base::limits::{MAX_INPUT, MAX_PICKS};
-use pb_base::{Lending, NoMemory};
-use pb_command_io::Status;
-use pb_command_io::input::read_input;
-use pb_command_io::parts::two_parts;
-use pb_command_io::reply::{Reply, tell};
+use pb_base::{Input, Lending, NoMemory, Output};
+use pb_command_io::{Reply, Status, read_input, tell, two_parts};
 use pb_draw::draw;
 use pb_draw_picture::{lay_out, write_svg};
 use pb_history::Trace;

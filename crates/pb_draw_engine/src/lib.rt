@@ -1,6 +1,6 @@
 //! The engine behind the command `draw`: a picture of the run that pick lines make.
 #![tactic(auto)]
 
-pub mod draw;
+mod draw;
 
 pub use draw::draw_engine;

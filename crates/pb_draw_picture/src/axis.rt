@@ -7,7 +7,7 @@ use crate::captions::{caption, number_text};
 use crate::knot::{Knot, Start};
 use crate::sizes::{CHARACTER, MAX_CHARACTERS, MAX_SILENT, SIDE, SILENT, START};
 use pb_base::{Names, NoMemory};
-use pb_draw::drawing::Mark;
+use pb_draw::Mark;
 use std::alloc::Global;
 
 /// Returns how wide the first of some silent picks are.

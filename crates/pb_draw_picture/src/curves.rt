@@ -13,7 +13,7 @@ use crate::picture::{Label, LabelKind, Rect, RectKind};
 use crate::shapes::rect_to;
 use crate::sizes::{AMOUNT_RIGHT, AMOUNT_UP, CURVE, CURVE_ROW, LEVEL, LEVEL_UP, LOWEST, MARGIN};
 use pb_base::{Capital, Names, NoMemory};
-use pb_draw::drawing::{CashCurve, CashStep};
+use pb_draw::{CashCurve, CashStep};
 use std::alloc::Global;
 
 /// Returns how high an amount is drawn.

@@ -12,7 +12,7 @@ use crate::row::Row;
 use crate::rows::{rows_of, track_of};
 use crate::sizes::{BETWEEN, CHARACTER, HOLD, LOWEST, MAX_NAME, MAX_ROWS, NAME_SIDE, TOP, TRACK};
 use pb_base::{Names, NoMemory, Pick};
-use pb_draw::drawing::Drawing;
+use pb_draw::Drawing;
 use std::alloc::Global;
 
 /// The axis, the position at which it ends, the rows of the arms, the depth of each hold by its number, and

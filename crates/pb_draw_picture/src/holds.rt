@@ -13,7 +13,7 @@ use crate::picture::{Label, LabelKind, Rect, RectKind};
 use crate::shapes::rect_to;
 use crate::sizes::{BAR, BUNDLE_DOWN, BUNDLE_RIGHT};
 use pb_base::{Bundle, Names, NoMemory};
-use pb_draw::drawing::Bar;
+use pb_draw::Bar;
 use std::alloc::Global;
 
 /// Returns the position behind a pick, if there is one.

@@ -14,7 +14,7 @@ use crate::rows::is_ever_live;
 use crate::shapes::{add_if_wide, rect_to};
 use crate::sizes::{MARGIN, TRACK};
 use pb_base::{Names, NoMemory};
-use pb_draw::drawing::{Lane, LaneStep, Standing};
+use pb_draw::{Lane, LaneStep, Standing};
 use std::alloc::Global;
 
 /// Adds the line of an arm in a state; it has none unless it is live.

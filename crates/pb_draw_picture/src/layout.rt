@@ -16,7 +16,7 @@ use crate::marks::{add_numbers, marks_of};
 use crate::picture::{Label, Picture, Rect};
 use crate::sizes::{BOTTOM, CURVE_ROW, LOWEST, MIN_WIDTH, RIGHT};
 use pb_base::{Capital, Names, NoMemory};
-use pb_draw::drawing::Drawing;
+use pb_draw::Drawing;
 use std::alloc::Global;
 
 /// Returns where the rows of the arms and of the resources end.

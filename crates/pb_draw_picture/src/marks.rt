@@ -13,7 +13,7 @@ use crate::grid::Grid;
 use crate::picture::{Label, LabelKind, Tick, TickKind};
 use crate::sizes::{LABEL_LEFT, LABEL_UP, MIDDLE, NUMBER_Y};
 use pb_base::{Event, Names, NoMemory, event_line};
-use pb_draw::drawing::Mark;
+use pb_draw::Mark;
 use std::alloc::Global;
 
 /// Returns what an event is.

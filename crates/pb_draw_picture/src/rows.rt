@@ -8,7 +8,7 @@ ghost use Rattle.pb_draw_picture.specs.Places as places;
 use crate::row::Row;
 use crate::sizes::{ABOVE, BELOW, BETWEEN, HOLD, LOWEST, ROW_MOST, TOP, TRACK};
 use pb_base::{Event, NoMemory, Pick};
-use pb_draw::drawing::{Bar, Drawing, Lane, LaneStep, Mark, Standing};
+use pb_draw::{Bar, Drawing, Lane, LaneStep, Mark, Standing};
 use std::alloc::Global;
 
 impl Row {

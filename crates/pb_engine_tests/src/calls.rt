@@ -1,7 +1,7 @@
 //! Calls of the whole program, each with its words and its input, and what it writes, with its status.
 
 use pb_answer::answer::answer;
-use pb_base::device::{FaultyInput, MemoryInput, MemoryOutput};
+use pb_base::{FaultyInput, MemoryInput, MemoryOutput};
 use pb_command_io::Status;
 use pb_explain::{Example, ExampleInput, entry_for};
 use pb_options::Code;

@@ -1,7 +1,6 @@
 //! Whole inputs, and what is said of them.
 
-use pb_base::Lending;
-use pb_base::device::{MemoryInput, MemoryOutput};
+use pb_base::{Lending, MemoryInput, MemoryOutput};
 use pb_command_io::Status;
 use pb_debug_engine::{debug_engine, debug_live_engine};
 use pb_example_texts::deadlock::CIRCLE_RUN;

@@ -1,6 +1,6 @@
 //! Whole inputs, and the pictures or the refusals that are written of them.
 
-use pb_base::device::{FaultyInput, MemoryInput, MemoryOutput};
+use pb_base::{FaultyInput, MemoryInput, MemoryOutput};
 use pb_command_io::Status;
 use pb_draw_engine::draw_engine;
 use pb_engines::replay_engine;

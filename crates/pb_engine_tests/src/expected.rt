@@ -1,6 +1,6 @@
 //! Whether all runs of a program are as expected, and what is said if not.
 
-use pb_base::device::{FaultyInput, MemoryInput, MemoryOutput};
+use pb_base::{FaultyInput, MemoryInput, MemoryOutput};
 use pb_command_io::Status;
 use pb_options::{Lend, OutcomesOptions};
 use pb_search_engine::outcomes_engine;

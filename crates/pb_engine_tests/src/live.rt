@@ -1,7 +1,6 @@
 //! Live sessions of which a read or a write fails, and inputs that are too long.
 
-use pb_base::Lending;
-use pb_base::device::{FaultyInput, FaultyOutput, MemoryInput, MemoryOutput};
+use pb_base::{FaultyInput, FaultyOutput, Lending, MemoryInput, MemoryOutput};
 use pb_command_io::Status;
 use pb_debug_engine::{debug_engine, debug_live_engine};
 use std::alloc::Global;

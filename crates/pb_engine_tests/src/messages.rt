@@ -1,7 +1,6 @@
 //! What is said of refused inputs, by how they are read.
 
-use pb_base::Lending;
-use pb_base::device::{FaultyInput, Input};
+use pb_base::{FaultyInput, Input, Lending};
 use pb_messages::{KeptInput, Reading, live_message, message_of};
 use std::alloc::Global;
 

@@ -1,6 +1,6 @@
 //! A run to one outcome or to one deadlock, and what is said if there is none.
 
-use pb_base::device::{MemoryInput, MemoryOutput};
+use pb_base::{MemoryInput, MemoryOutput};
 use pb_command_io::Status;
 use pb_options::{Lend, OutcomesOptions};
 use pb_search_engine::outcomes_engine;

@@ -1,6 +1,6 @@
 //! Whole inputs, and what is said of them.
 
-use pb_base::device::{FaultyInput, MemoryInput, MemoryOutput};
+use pb_base::{FaultyInput, MemoryInput, MemoryOutput};
 use pb_command_io::Status;
 use pb_engines::{ReplayOptions, replay_engine};
 use pb_options::{Lend, OutcomesOptions};

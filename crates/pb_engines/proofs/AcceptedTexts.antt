@@ -10,8 +10,8 @@ use Rattle.pb_codegen.specs.declared.fault.CompileFault.TheVariants.{Lex, Names}
 use Rattle.pb_lexer.proofs.Cuttings.{one_cutting}
 use Rattle.pb_lexer.proofs.Faults.{no_fault as no_lex_fault}
 use Rattle.pb_lexer.specs.Tokens.{Token}
-use Rattle.pb_lexer.specs.declared.error.LexFault.{LexFault}
-use Rattle.pb_lexer.specs.declared.error.LexFault.TheVariants as lex
+use Rattle.pb_lexer.specs.declared.fault.LexFault.{LexFault}
+use Rattle.pb_lexer.specs.declared.fault.LexFault.TheVariants as lex
 use Rattle.pb_names.proofs.ResolvedLimits.{no_fault as no_name_fault}
 use Rattle.pb_names.specs.Faults.{IsFault}
 use Rattle.pb_names.specs.Program.{Program, capital_of}

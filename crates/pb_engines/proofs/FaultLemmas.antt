@@ -53,8 +53,8 @@ module _ (v : VerifiedCode) (verified : IsVerified v) where
       → HasFault next → HasFault s ⊎ ((kind : FaultKind) × (event ≡ Some (Faulted pick kind)))
   now_faulted s next pick event reached made (p, process, there, faulted) =
       let m = code_move v.code.processes s pick _ made.1 in
-      let kept = kept_reached v.code verified.annotated s reached in
-      let turn = turned m.code (checked v.code verified.annotated pick.process m.code m.at) m.before m.after pick.arm m.effect
+      let kept = kept_reached v.code verified.faultless s reached in
+      let turn = turned m.code (checked v.code verified.faultless pick.process m.code m.at) m.before m.after pick.arm m.effect
       (kept.good.fit pick.process m.code m.before m.at m.here) m.steps in
       let same : m.effect ≡ made.0 = ap (λ x. x.effect) m.is in
       let processes : slice_set s.processes pick.process m.after ≡ next.processes = ap (λ x. x.next.processes) m.is in
@@ -77,8 +77,8 @@ module _ (v : VerifiedCode) (verified : IsVerified v) where
       → HasFault s → HasFault next
   still_faulted s next pick event reached made (p, process, there, faulted) =
       let m = code_move v.code.processes s pick _ made.1 in
-      let kept = kept_reached v.code verified.annotated s reached in
-      let turn = turned m.code (checked v.code verified.annotated pick.process m.code m.at) m.before m.after pick.arm m.effect
+      let kept = kept_reached v.code verified.faultless s reached in
+      let turn = turned m.code (checked v.code verified.faultless pick.process m.code m.at) m.before m.after pick.arm m.effect
       (kept.good.fit pick.process m.code m.before m.at m.here) m.steps in
       let processes : slice_set s.processes pick.process m.after ≡ next.processes = ap (λ x. x.next.processes) m.is in
       let at : (q : CodeProcess) (i : ℕ) → slice_get (slice_set s.processes pick.process m.after) i ≡ Some q → slice_get next.processes i ≡ Some q =
@@ -112,8 +112,8 @@ module _ (v : VerifiedCode) (verified : IsVerified v) where
       → CodeMoves v.code s pick (Some (Faulted other kind)) next → HasFault next
   has_faulted s next pick other kind reached made =
       let m = code_move v.code.processes s pick _ made.1 in
-      let kept = kept_reached v.code verified.annotated s reached in
-      let turn = turned m.code (checked v.code verified.annotated pick.process m.code m.at) m.before m.after pick.arm m.effect
+      let kept = kept_reached v.code verified.faultless s reached in
+      let turn = turned m.code (checked v.code verified.faultless pick.process m.code m.at) m.before m.after pick.arm m.effect
       (kept.good.fit pick.process m.code m.before m.at m.here) m.steps in
       let same : m.effect ≡ made.0 = ap (λ x. x.effect) m.is in
       let fault = shown_fault pick other kind made.0 made.3 in

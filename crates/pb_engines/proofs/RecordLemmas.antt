@@ -13,7 +13,7 @@ use Rattle.pb_code.specs.Code.{CodeProcess}
 use Rattle.pb_code.specs.Whole.{Code}
 use Rattle.pb_history.specs.declared.counted.CountedPick.{CountedPick}
 use Rattle.pb_picks.specs.PickLines.{pick_lines}
-use Rattle.pb_verifier.specs.Verified.{VerifiedCode, IsAnnotated, IsVerified}
+use Rattle.pb_verifier.specs.Verified.{VerifiedCode, IsFaultless, IsVerified}
 use Rattle.pb_verifier.specs.declared.fault.VerifyFault.TheVariants.{OutOfLimits}
 use Rattle.pb_workers.specs.declared.fault.RunFault.{RunFault}
 use Rattle.pb_workers.specs.declared.fault.RunFault.TheVariants.{NoMemory as OutOfMemory}
@@ -38,14 +38,14 @@ use Rattle.pb_record.proofs.RecordedPicks.{recorded_can_be_said}
 
 -- the process of each recorded pick has a name
 pub have_processes : (lending : Lending) (code : Code) (steps : ℕ) (seed : Option ℕ) (picks given : List CountedPick) (status : Status) (names : NameTable)
-    → IsAnnotated code → steps ≤ 10000000 → IsRecordedWith lending code steps seed picks status → given ≡ picks → names ≡ code.names
+    → IsFaultless code → steps ≤ 10000000 → IsRecordedWith lending code steps seed picks status → given ≡ picks → names ≡ code.names
     → All (λ c. HasProcess names c.pick.process) given
-have_processes lending code steps seed picks given status names annotated most is same of =
-    let said = recorded_can_be_said lending code annotated steps seed picks is.end most is.recorded in
+have_processes lending code steps seed picks given status names faultless most is same of =
+    let said = recorded_can_be_said lending code faultless steps seed picks is.end most is.recorded in
     let all : All (λ c. HasProcess code.names c.pick.process) picks = λ k d lt.
     let says = said k d lt in
     let within = slice_get_within code.processes (slice_index_or picks k d).pick.process says.process says.there in
-    let many = (annotated OutOfLimits).process_names.all in
+    let many = (faultless OutOfLimits).process_names.all in
     omega (arith, within, many) in
     subst (λ (cs : List CountedPick). All (λ c. HasProcess names c.pick.process) cs) (sym same)
     (subst (λ (n : NameTable). All (λ c. HasProcess n c.pick.process) picks) (sym of) all)
@@ -157,7 +157,7 @@ banker_is_never_stuck v verified steps picks end recorded = elim (goes_on v veri
     end = end;
     recorded = recorded;
     ending = Open;
-    ends = (λ done. done_stays ByBanker v.code verified.annotated end reached done on, on);
+    ends = (λ done. done_stays ByBanker v.code verified.faultless end reached done on, on);
     told = refl;
   }
 ]

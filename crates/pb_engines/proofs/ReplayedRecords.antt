@@ -24,7 +24,7 @@ use Rattle.pb_history.specs.declared.fault.ReplayFault.TheVariants.{NotEnabled, 
 use Rattle.pb_names.specs.Program.{capital_of}
 use Rattle.pb_picks.proofs.PickSpellings.{lines_spell, spelled_is_not_faulty, spells_at_most_one}
 use Rattle.pb_picks.specs.PickLines.{SpellsPicks, pick_lines}
-use Rattle.pb_verifier.specs.Verified.{IsAnnotated}
+use Rattle.pb_verifier.specs.Verified.{IsFaultless}
 use Rattle.pb_verifier.specs.declared.fault.VerifyFault.TheVariants.{OutOfLimits}
 use Rattle.pb_engines.specs.RecordLaws.{HoldsRun, IsOfRun, RecordsCanBeReplayed}
 use Rattle.pb_command_io.specs.Parts.{AreTwoParts}
@@ -83,10 +83,10 @@ recorded_never_stops lending code steps seed picks end recorded NoMemory stops =
 
 -- ---- lines of recorded picks
 
-module _ (lending : Lending) (code : Code) (annotated : IsAnnotated code) (steps : ℕ) (most : steps ≤ 10000000) (seed : Option ℕ)
+module _ (lending : Lending) (code : Code) (faultless : IsFaultless code) (steps : ℕ) (most : steps ≤ 10000000) (seed : Option ℕ)
     (picks : List CountedPick) (end : State CodeProcess) (recorded : IsRecorded lending code steps seed picks end) where
   limits : KeepsLimits code
-  limits = annotated OutOfLimits
+  limits = faultless OutOfLimits
 
   abbrev lines : List ℕ
   lines = pick_lines code.names.processes picks
@@ -94,7 +94,7 @@ module _ (lending : Lending) (code : Code) (annotated : IsAnnotated code) (steps
   pub said_lines : SpellsPicks code lines picks
   said_lines =
       let few = recorded.few in
-      lines_spell code picks limits (recorded_can_be_said lending code annotated steps seed picks end most recorded) (omega (arith, few, most))
+      lines_spell code picks limits (recorded_can_be_said lending code faultless steps seed picks end most recorded) (omega (arith, few, most))
 
   pub no_line_is_refused : (fault : LinesFault) → IsLinesFaultBy lending code lines fault → lines_line fault ≡ None
   no_line_is_refused (NotRead fault) faulty =
@@ -131,12 +131,12 @@ no_refusal_told lending code events end _ _ (all_told ending is status its_statu
 no_refusal_told lending code events end _ _ (out_of_memory n) same = absurd cc
 
 -- compiled code has no fault
-pub is_annotated : (text : List ℕ) (code : Code) (labels : List ProcessLabels) → IsCompiled text code labels → IsAnnotated code
+pub is_annotated : (text : List ℕ) (code : Code) (labels : List ProcessLabels) → IsCompiled text code labels → IsFaultless code
 is_annotated text code labels compiled =
     let capital : code.capital ≡ capital_of compiled.program = ap (λ (c : Code). c.capital) compiled.generated in
     let enough : FitCapital code.claims (capital_of compiled.program) =
     subst (λ (c : List ℕ). FitCapital code.claims c) capital compiled.enough in
-    subst IsAnnotated (sym compiled.generated) (sound text compiled.program code.claims compiled.numbered enough).annotated
+    subst IsFaultless (sym compiled.generated) (sound text compiled.program code.claims compiled.numbered enough).faultless
 
 module _ (lending : Lending) (steps : ℕ) (seed : Option ℕ) (bytes : List ℕ) where
   -- the code of a text, and what was written of it
@@ -208,8 +208,8 @@ module _ (lending : Lending) (steps : ℕ) (seed : Option ℕ) (bytes : List ℕ
   module _ (code : Code) (labels : List ProcessLabels) (compiled : IsCompiled bytes code labels) (ended : List ℕ)
       (picks : List CountedPick) (status : Status) (is : IsEnded bytes ended)
       (recorded : IsRecordedWith lending code steps seed picks status) where
-    annotated : IsAnnotated code
-    annotated = is_annotated bytes code labels compiled
+    faultless : IsFaultless code
+    faultless = is_annotated bytes code labels compiled
 
     abbrev lines_of : List ℕ
     lines_of = pick_lines code.names.processes picks
@@ -218,7 +218,7 @@ module _ (lending : Lending) (steps : ℕ) (seed : Option ℕ) (bytes : List ℕ
     cut_of = cut_as_written bytes ended lines_of compiled.numbered.spelled.tokens is compiled.numbered.spelled.cut.cuts
 
     said_of : SpellsPicks code lines_of picks
-    said_of = said_lines lending code annotated steps most seed picks recorded.end recorded.recorded
+    said_of = said_lines lending code faultless steps most seed picks recorded.end recorded.recorded
 
     holds : (text lines : List ℕ) → AreTwoParts (with_picks ended code.names picks) text lines → HoldsRun lending steps seed bytes text lines
     holds text lines cut =
@@ -253,7 +253,7 @@ module _ (lending : Lending) (steps : ℕ) (seed : Option ℕ) (bytes : List ℕ
           let its_fault : IsLinesFaultBy lending code lines_of fault =
           subst (λ (c : Code). IsLinesFaultBy lending c lines_of fault) (one_of text other others same.0 is_other)
           (subst (λ (ls : List ℕ). IsLinesFaultBy lending other ls fault) same.1 faulty) in
-          let none = no_line_is_refused lending code annotated steps most seed picks recorded.end recorded.recorded fault its_fault in
+          let none = no_line_is_refused lending code faultless steps most seed picks recorded.end recorded.recorded fault its_fault in
           let both : Some refusal ≡ None = sym its_line ∙ none in
           absurd cc
       never_refused whole _ _ e (made_again text lines cut other others is_other entries end are said answered says can) refuses =
@@ -262,7 +262,7 @@ module _ (lending : Lending) (steps : ℕ) (seed : Option ℕ) (bytes : List ℕ
       -- the picks of its lines lead to the state of the record
       same_end : (entries : List Entry) (end : State CodeProcess) → AreReplayedBy lending code lines_of entries end → end ≡ recorded.end
       same_end entries end are =
-          let counted : are.counted ≡ picks = spells_at_most_one code lines_of are.counted picks (annotated OutOfLimits) are.spelled said_of in
+          let counted : are.counted ≡ picks = spells_at_most_one code lines_of are.counted picks (faultless OutOfLimits) are.spelled said_of in
           let made : picks_of entries ≡ spread picks = are.replay.made ∙ ap spread counted in
           let makes = traces_make lending code (code_opening code) end entries are.replay.leads in
           makes_once lending code (code_opening code) (spread picks) (events_of entries) recorded.recorded.events end recorded.end

@@ -7,11 +7,9 @@ ghost use Rattle.pb_command_io.specs.Faults.{TellsFaults, TellsWriteFaults};
 
 use crate::report::tell_run;
 use pb_accept::load::{load, load_refusal};
-use pb_base::device::{Input, Output};
 use pb_base::limits::MAX_INPUT;
-use pb_command_io::Status;
-use pb_command_io::input::read_input;
-use pb_command_io::reply::tell;
+use pb_base::{Input, Output};
+use pb_command_io::{Status, read_input, tell};
 use pb_options::RunOptions;
 use std::alloc::Global;
 use std::sync::Wait;
@@ -45,8 +43,8 @@ fn run_object<O: Output, R: Threads + Wait + Sync>(
 /// an object, or whose code is not safe, are refused with their refusal line. If a thread could not be
 /// started the line is `threads`.
 ///
-/// After a read that failed nothing is written; after a write that failed, a first part of what was being
-/// said.
+/// After a read that failed nothing is written; after a write that failed, a prefix of the
+/// output.
 pub fn exec_engine<I: Input, O: Output, R: Threads + Wait + Sync>(
     rt: &R,
     alloc: Global,

@@ -10,15 +10,11 @@ ghost use Rattle.pb_options.specs.Lends.{lending_for};
 ghost use Rattle.pb_record.specs.Recorded.{IsTooLong};
 ghost use Rattle.pb_verifier.specs.Verified.{IsVerified};
 
-use pb_accept::accept::{compile_text, refuse};
-use pb_accept::ending::{Ending, ending_of};
 use pb_accept::run_text::{ended, too_long};
-use pb_base::device::{Input, Output};
+use pb_accept::{Ending, compile_text, ending_of, refuse};
 use pb_base::limits::{MAX_INPUT, MAX_PICKS};
-use pb_base::{Lending, NoMemory};
-use pb_command_io::Status;
-use pb_command_io::input::read_input;
-use pb_command_io::reply::{Reply, tell};
+use pb_base::{Input, Lending, NoMemory, Output};
+use pb_command_io::{Reply, Status, read_input, tell};
 use pb_history::CountedPick;
 use pb_options::{RecordOptions, RunOptions};
 use pb_picks::write_picks;

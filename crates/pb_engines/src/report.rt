@@ -10,8 +10,8 @@ ghost use Rattle.pb_history.specs.Entries.{events_of};
 ghost use Rattle.pb_workers.specs.Reports.{IsReport};
 
 use crate::faults::shows_fault;
-use pb_accept::events::tell_events;
-use pb_base::device::Output;
+use pb_accept::tell_events;
+use pb_base::Output;
 use pb_command_io::{Page, Status};
 use pb_options::RunOptions;
 use pb_record::Open;

@@ -6,11 +6,10 @@ ghost use Rattle.pb_engines.specs.Runs.{SaysOfTextRun};
 ghost use Rattle.pb_command_io.specs.Faults.{TellsFaults, TellsWriteFaults};
 
 use crate::report::tell_run;
-use pb_accept::accept::{compile_text, refuse};
-use pb_base::device::{Input, Output};
+use pb_accept::{compile_text, refuse};
 use pb_base::limits::MAX_INPUT;
-use pb_command_io::Status;
-use pb_command_io::input::read_input;
+use pb_base::{Input, Output};
+use pb_command_io::{Status, read_input};
 use pb_options::RunOptions;
 use std::alloc::Global;
 use std::sync::Wait;
@@ -20,8 +19,8 @@ use std::thread::Threads;
 /// `done`, or `limit` with the number of steps if they were used up before. For a text that is
 /// refused it writes the refusal line. If a thread could not be started the line is `threads`.
 ///
-/// After a read that failed nothing is written; after a write that failed, a first part of what was being
-/// said.
+/// After a read that failed nothing is written; after a write that failed, a prefix of the
+/// output.
 pub fn run_engine<I: Input, O: Output, R: Threads + Wait + Sync>(
     rt: &R,
     alloc: Global,

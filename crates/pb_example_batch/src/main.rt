@@ -8,8 +8,7 @@ ghost use Rattle.pb_example_batch.specs.Results.{AreResults, last_print, last_pr
 ghost use Rattle.pb_history.specs.Entries.{events_of};
 
 use anyhow::Result;
-use pb_base::device::{Output, StandardInput, StandardOutput, read_whole, write_all};
-use pb_base::{Event, NoMemory};
+use pb_base::{Event, NoMemory, Output, StandardInput, StandardOutput, read_whole, write_all};
 use pb_codegen::compile;
 use pb_history::Trace;
 use pb_shared::Outcome;

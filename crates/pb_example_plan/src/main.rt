@@ -11,9 +11,10 @@ ghost use Rattle.pb_machine.specs.Views.{IsMachineOf, machine_view};
 ghost use Rattle.pb_verifier.specs.Verified.{IsVerified};
 
 use anyhow::Result;
-use pb_base::device::{Output, StandardInput, StandardOutput, read_whole, write_all};
 use pb_base::limits::MAX_INPUT;
-use pb_base::{Pick, Step, event_line};
+use pb_base::{
+    Output, Pick, StandardInput, StandardOutput, Step, event_line, read_whole, write_all,
+};
 use pb_machine::Machine;
 use pb_object::read_any;
 use pb_verifier::{Verified, verify};

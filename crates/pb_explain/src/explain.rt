@@ -9,10 +9,8 @@ ghost use Rattle.pb_explain.specs.Pages.{meaning_text, page_of, page_of_entry, r
 ghost use Rattle.pb_explain.specs.Pages.{SaysOfExplain};
 
 use crate::entries::{Entry, Example, ExampleInput, entry_for};
-use pb_base::NoMemory;
-use pb_base::device::Output;
-use pb_command_io::Status;
-use pb_command_io::reply::{Reply, tell};
+use pb_base::{NoMemory, Output};
+use pb_command_io::{Reply, Status, tell};
 use pb_options::Code;
 use std::alloc::Global;
 
@@ -167,7 +165,7 @@ fn explanation(alloc: Global, asked: Option<Code>) -> Result<Reply, NoMemory>
 /// Writes what refusals with a code mean, an example of one, and what to do about it; or, if no code is
 /// given, a line for each code, in the order of `Code::ALL`.
 ///
-/// After a write that failed a first part of it is written.
+/// After a write that failed, a prefix of it is written.
 pub fn explain_engine<O: Output>(alloc: Global, asked: Option<Code>, output: &mut O) -> Status
     ensures text { Tells (SaysOfExplain asked) (O.written output.old) (O.written output.new) result }
     ensures faults { TellsWriteFaults (O.failures output.old) (O.failures output.new) result }

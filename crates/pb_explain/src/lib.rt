@@ -1,8 +1,8 @@
 //! The command `explain`: for each code of a refusal what it means, an example and what to do.
 #![tactic(auto)]
 
-pub mod entries;
-pub mod explain;
+mod entries;
+mod explain;
 
 pub use entries::{Entry, Example, ExampleInput, entry_for};
 pub use explain::explain_engine;

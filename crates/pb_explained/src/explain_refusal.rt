@@ -3,8 +3,7 @@
 ghost use Rattle.std.specs.Prelude.{◌≡◌, ◌⊎◌, IfOk, IfSome};
 ghost use Rattle.pb_explained.specs.Explained.{Explains, TellsRefused, Untouched, format_reading, outcomes_reading};
 
-use pb_base::device::{Output, write_all};
-use pb_base::{Lending, NoMemory};
+use pb_base::{Lending, NoMemory, Output, write_all};
 use pb_messages::{Reading, live_message, message_of};
 use pb_object::Format;
 use pb_words::{Options, options};

@@ -6,7 +6,7 @@ ghost use Rattle.pb_explained.specs.Explained.{Answers, AnswersAndExplains, IsFi
 use crate::explain_refusal::explain_refusal;
 use crate::in_json::answer_in_json;
 use pb_answer::answer::answer;
-use pb_base::device::{Input, Output};
+use pb_base::{Input, Output};
 use pb_command_io::Status;
 use pb_messages::KeptInput;
 use std::alloc::Global;

@@ -4,7 +4,7 @@ ghost use Rattle.pb_command_io.specs.Faults.{TellsFaults};
 ghost use Rattle.pb_explained.specs.Explained.{WritesJson};
 
 use pb_answer::answer::answer;
-use pb_base::device::{Input, Output};
+use pb_base::{Input, Output};
 use pb_command_io::Status;
 use pb_json_lines::{Gathered, tell_json};
 use std::alloc::Global;

@@ -6,7 +6,7 @@ ghost use Rattle.pb_frames.specs.Frames.{framed};
 
 use crate::fault::FrameFault;
 use itoa::Buffer;
-use pb_base::device::{Output, write_all};
+use pb_base::{Output, write_all};
 use std::alloc::{AllocError, Global};
 
 /// Returns a content with its header.

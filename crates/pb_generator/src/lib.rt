@@ -3,7 +3,7 @@
 
 mod arms;
 mod expression;
-pub mod generator;
+mod generator;
 mod names;
 mod operators;
 mod process;

@@ -9,7 +9,7 @@ ghost use Rattle.pb_grammar.specs.ExpressionReader as reads;
 
 use crate::level::Level;
 use pb_base::BinaryOp;
-use pb_lexer::token::{Kind, Mark, Token};
+use pb_lexer::{Kind, Mark, Token};
 
 /// Returns the binary operator of a level that the mark is.
 #[inline]

@@ -16,7 +16,7 @@ use crate::fault::ParseFault;
 use crate::level::Level;
 use crate::operators::{is_mark, is_operator, operator};
 use pb_base::{BinaryOp, UnaryOp};
-use pb_lexer::token::{Kind, Mark, Token};
+use pb_lexer::{Kind, Mark, Token};
 use pb_tree::Number;
 
 /// What builds, the tokens that are left, and where the last one that was taken ends.

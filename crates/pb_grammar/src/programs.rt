@@ -9,7 +9,7 @@ ghost use Rattle.pb_grammar.specs.Making.{Adds, IsMadeOf};
 use crate::builder::{Builder, built};
 use crate::fault::ParseFault;
 use crate::parser::Parser;
-use pb_lexer::token::{Mark, Token};
+use pb_lexer::{Mark, Token};
 
 /// At most this many parts of a program are in one another if at most 256 brackets and statements are open.
 pub const DEPTH: usize = 257;

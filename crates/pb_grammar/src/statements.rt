@@ -9,7 +9,7 @@ ghost use Rattle.pb_grammar.specs.Making.{Adds, IsMadeOf};
 use crate::builder::{Builder, built};
 use crate::fault::ParseFault;
 use crate::parser::Parser;
-use pb_lexer::token::{Kind, Mark, Token};
+use pb_lexer::{Kind, Mark, Token};
 
 impl<'a, 't, B: Builder> Parser<'a, 't, B> {
     /// Reads an amount of a resource, and adds it to `out`.

@@ -2,14 +2,14 @@
 //! more.
 #![tactic(auto)]
 
-pub mod counted;
+mod counted;
 mod events;
-pub mod fault;
+mod fault;
 pub mod laws;
 pub mod replay;
-pub mod span;
+mod span;
 mod spans;
-pub mod trace;
+mod trace;
 
 pub use counted::CountedPick;
 pub use fault::ReplayFault;

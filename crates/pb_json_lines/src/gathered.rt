@@ -7,7 +7,7 @@ ghost use Rattle.pb_json_lines.specs.JsonLines.{json_lines};
 ghost use Rattle.pb_json_lines.specs.Replies.{ReadFailed, SaysInJson, memory_object};
 
 use crate::text::json_lines;
-use pb_base::device::{DeviceFault, Output, write_all};
+use pb_base::{DeviceFault, Output, write_all};
 use pb_command_io::{Page, Status};
 use std::alloc::Global;
 use std::marker::Model;

@@ -1,7 +1,6 @@
 //! Commands that wrote to memory, and what is told of them.
 
-use pb_base::NoMemory;
-use pb_base::device::{MemoryOutput, write_all};
+use pb_base::{MemoryOutput, NoMemory, write_all};
 use pb_command_io::Status;
 use pb_json_lines::{Gathered, tell_json};
 use std::alloc::Global;

@@ -4,8 +4,8 @@ use Rattle.std.proofs.Common.{length, get_or, refl, sym, ap, ◌∙◌, subst, a
 use Rattle.std.proofs.lemmas.Bool.{cases_order}
 use Rattle.std.proofs.lemmas.Int.{ints}
 use Rattle.pb_base.specs.declared.limits.TheConstants.{MAX_NAME, MAX_NUMBER, MAX_TEXT}
-use Rattle.pb_lexer.specs.declared.error.LexFault.{LexFault}
-use Rattle.pb_lexer.specs.declared.error.LexFault.TheVariants as fault
+use Rattle.pb_lexer.specs.declared.fault.LexFault.{LexFault}
+use Rattle.pb_lexer.specs.declared.fault.LexFault.TheVariants as fault
 use Rattle.pb_lexer.specs.Tokens.{Lexeme, Name, Number, Fixed, Token}
 use Rattle.pb_lexer.specs.Forms.{is_allowed}
 use Rattle.pb_lexer.specs.Cutting.{IsToken, Piece, token, Cut, Fits, AllFit, AreTokensOf, Cause}

@@ -6,8 +6,8 @@ use Rattle.std.proofs.lemmas.Bool.{cases_order}
 use Rattle.std.proofs.lemmas.Bool.Decides.{nat_tests}
 use Rattle.pb_base.specs.declared.limits.TheConstants.{MAX_TEXT}
 use Rattle.pb_lexer.specs.declared.token.Token.{Token as Given}
-use Rattle.pb_lexer.specs.declared.error.LexFault.{LexFault}
-use Rattle.pb_lexer.specs.declared.error.LexFault.TheVariants as fault
+use Rattle.pb_lexer.specs.declared.fault.LexFault.{LexFault}
+use Rattle.pb_lexer.specs.declared.fault.LexFault.TheVariants as fault
 use Rattle.pb_lexer.specs.Tokens.{Token, token as view, tokens}
 use Rattle.pb_lexer.specs.Forms.{is_allowed, is_blank}
 use Rattle.pb_lexer.specs.Cutting.{IsToken, IsComment, blank, comment, token, Cut, nothing, more, Fits}

@@ -5,7 +5,7 @@ use Rattle.std.proofs.Common.{drop-cons}
 use Rattle.std.proofs.lemmas.Bool.{cases_order}
 use Rattle.std.specs.Char.{is_ascii_alphabetic, is_ascii_digit}
 use Rattle.pb_lexer.specs.declared.token.Mark.{Mark}
-use Rattle.pb_lexer.specs.declared.error.LexFault.TheVariants as fault
+use Rattle.pb_lexer.specs.declared.fault.LexFault.TheVariants as fault
 use Rattle.pb_lexer.specs.Tokens.{Lexeme, Number, Token}
 use Rattle.pb_lexer.specs.Forms.{is_blank, is_word, spelling, value, IsWord, Form, number}
 use Rattle.pb_lexer.specs.Cutting.{IsToken, IsComment, Piece, blank, comment, token, Cut, Cause}

@@ -1,7 +1,7 @@
 -- A result that is right is the only right one.
 use Rattle.std.proofs.Common.{◌≡◌, ℕ, ◌⊎◌, inl, inr, List, Result, Ok, Err, IfOk, IfErr, refl}
-use Rattle.pb_lexer.specs.declared.error.LexFault.{LexFault}
-use Rattle.pb_lexer.specs.declared.error.LexFault.TheVariants as fault
+use Rattle.pb_lexer.specs.declared.fault.LexFault.{LexFault}
+use Rattle.pb_lexer.specs.declared.fault.LexFault.TheVariants as fault
 use Rattle.pb_lexer.specs.Tokens.{Token}
 use Rattle.pb_lexer.specs.Cutting.{AreTokensOf, Refuses, ReturnsTokens, ReturnsFault}
 use Rattle.pb_lexer.proofs.Cuttings.{one_cutting}

@@ -4,7 +4,7 @@ ghost use Rattle.std.specs.Prelude.{◌≡◌, ℕ, List};
 ghost use Rattle.pb_lexer.specs.Tokens as tokens;
 ghost use Rattle.pb_lexer.specs.Cutting.{Cuts, AreTokensOf, Refuses};
 
-use crate::error::LexFault;
+use crate::fault::LexFault;
 
 /// No text is cut in two ways.
 #[tactic(auto, using(crate::proofs::Cuttings::one_cutting))]

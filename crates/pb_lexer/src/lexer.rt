@@ -10,7 +10,7 @@ ghost use Rattle.pb_lexer.specs.Cutting.{line_at, IsComment, AreTokensOf, Refuse
 ghost use Rattle.pb_lexer.specs.Cutting.{ReturnsTokens, ReturnsFault};
 ghost use Rattle.pb_lexer.specs.Finding.{Finds};
 
-use crate::error::LexFault;
+use crate::fault::LexFault;
 use crate::scan::{bad_byte, digits_end, is_blank, line_end, value, word_end};
 use crate::token::{Kind, Mark, Token};
 use crate::words::{reserved, symbol, symbol_of_two};

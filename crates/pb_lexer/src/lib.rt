@@ -2,13 +2,13 @@
 //! begins at its offset, with blanks and comments between them.
 #![tactic(auto)]
 
-pub mod error;
+mod fault;
 pub mod laws;
-pub mod lexer;
+mod lexer;
 mod scan;
-pub mod token;
+mod token;
 mod words;
 
-pub use error::LexFault;
+pub use fault::LexFault;
 pub use lexer::lex;
 pub use token::{Kind, Mark, Token};

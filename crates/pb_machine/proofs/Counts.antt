@@ -13,18 +13,18 @@ use Rattle.pb_verifier.specs.Verified.{VerifiedCode, IsVerified}
 module _ {lending : Lending} (v : VerifiedCode) (verified : IsVerified v) (m : Machine) (of : IsMachineBy lending v m) where
   pub few_processes : length (machine_view m).processes ≤ 64
   few_processes =
-      let count = (good_reached v.code verified.annotated lending (machine_view m) of.reached).count in
-      let few = (verified.annotated OutOfLimits).some_processes.1 in
+      let count = (good_reached v.code verified.faultless lending (machine_view m) of.reached).count in
+      let few = (verified.faultless OutOfLimits).some_processes.1 in
       omega (arith, count, few)
 
   pub few_arms : (p : ℕ) (process : CodeProcess) → slice_get (machine_view m).processes p ≡ Some process → length process.threads ≤ 64
   few_arms p process there =
-      let good = good_reached v.code verified.annotated lending (machine_view m) of.reached in
+      let good = good_reached v.code verified.faultless lending (machine_view m) of.reached in
       let count = good.count in
       let within = slice_get_within (machine_view m).processes p process there in
       let none : ProcessCode = record { integers = 0; entries = []; instrs = [] } in
       let code : ProcessCode = get_or v.code.processes p none in
       let at : slice_get v.code.processes p ≡ Some code = slice_get-get_or v.code.processes p none (omega (arith, count, within)) in
       let threads = (good.fit p code process at there).threads in
-      let few = ((verified.annotated OutOfLimits).each p code at).some_arms.1 in
+      let few = ((verified.faultless OutOfLimits).each p code at).some_arms.1 in
       omega (arith, threads, few)

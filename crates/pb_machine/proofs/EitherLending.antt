@@ -26,7 +26,7 @@ use Rattle.pb_code.specs.Code.{CodeProcess, code_process, code_step, thread}
 use Rattle.pb_code.specs.Reached.{CodeReaches, CodeReachesBy}
 use Rattle.pb_code.specs.Whole.{Code, bank_by, bank_of, code_opening}
 use Rattle.pb_verifier.specs.Limits.{IsSmallBundle}
-use Rattle.pb_verifier.specs.Verified.{IsAnnotated}
+use Rattle.pb_verifier.specs.Verified.{IsFaultless}
 use Rattle.pb_verifier.specs.declared.fault.VerifyFault.TheVariants.{OutOfLimits}
 use Rattle.pb_verifier.proofs.LoansWithinClaims.{Kept, asks_within_claims, kept_reached, well_formed, zero_loans}
 use Rattle.pb_verifier.proofs.SoundBehaviour.{behaved}
@@ -63,26 +63,26 @@ cut p (q ∷ order) = at (cases_eq q p) (cut p order)
     })
     at (inr ne) (inr all) = inr (All-cons (λ q. q ≡ p → ⊥) q order ne all)
 
-module _ (code : Code) (annotated : IsAnnotated code) where
+module _ (code : Code) (faultless : IsFaultless code) where
   abbrev bank_at : Table → BankerState
   bank_at loans = banker_state (bank_of code) loans
 
   -- what a move asks for or gives back is a small bundle of resources that are there
-  small : (s : State CodeProcess) (pick : Pick) (move : Move CodeProcess) → Good code annotated s
+  small : (s : State CodeProcess) (pick : Pick) (move : Move CodeProcess) → Good code faultless s
       → (m : CodeMove code.processes s pick move) → (bundle : Bundle) → (m.effect ≡ Takes bundle) ⊎ (m.effect ≡ Returns bundle)
       → IsSmallBundle bundle × All (λ pair. pair.resource < length code.capital) bundle
   small s pick move good m =
       let fit = good.fit pick.process m.code m.before m.at m.here in
-      let turn = turned m.code (checked code annotated pick.process m.code m.at) m.before m.after pick.arm m.effect fit m.steps in
-      bundles_small code annotated pick.process m.code m.at (thread m.before.threads) (thread m.after.threads) pick.arm m.effect turn.turn
+      let turn = turned m.code (checked code faultless pick.process m.code m.at) m.before m.after pick.arm m.effect fit m.steps in
+      bundles_small code faultless pick.process m.code m.at (thread m.before.threads) (thread m.after.threads) pick.arm m.effect turn.turn
 
-  module _ (s : State CodeProcess) (kept : Kept code annotated s) (p : ℕ) (alone : HoldsAlone p s.loans) (within : p < length code.processes) where
+  module _ (s : State CodeProcess) (kept : Kept code faultless s) (p : ℕ) (alone : HoldsAlone p s.loans) (within : p < length code.processes) where
     order_cut : Cut p kept.safe.0
     order_cut = ⊎_elim (λ c. c) (λ none. absurd (nowhere none)) (cut p kept.safe.0)
       where
         nowhere : All (λ q. q ≡ p → ⊥) kept.safe.0 → ⊥
         nowhere none =
-            let rows = (annotated OutOfLimits).rows in
+            let rows = (faultless OutOfLimits).rows in
             let w : p < length code.claims = omega (arith, within, rows) in
             let everywhere =
             All-permutation (λ q. q ≡ p → ⊥) kept.safe.0 (everyone (bank_at s.loans))
@@ -100,9 +100,9 @@ module _ (code : Code) (annotated : IsAnnotated code) where
         let few = small s pick move kept.good m bundle (inl effect) in
         let c = order_cut in
         let finishes : Finishes (bank_at s.loans) (c.before ++ p ∷ c.after) = subst (Finishes (bank_at s.loans)) c.split kept.safe.1 in
-        let asks = asks_within_claims code annotated s kept.good pick move bundle enabled takes in
+        let asks = asks_within_claims code faultless s kept.good pick move bundle enabled takes in
         subst (λ (q : ℕ). IsAllowed (bank_at s.loans) q bundle) (sym same)
-        (first_borrower_may_ask (bank_at s.loans) (well_formed code annotated s kept) c.before p c.after finishes
+        (first_borrower_may_ask (bank_at s.loans) (well_formed code faultless s kept) c.before p c.after finishes
         (λ k d u r v. alone (get_or c.before k d) r (c.others k d u))
         bundle few.0.distinct few.1 (subst (λ (q : ℕ). All (λ pair. cell s.loans q pair.resource + pair.amount ≤ cell code.claims q pair.resource)
         bundle) same asks))
@@ -143,7 +143,7 @@ module _ (code : Code) (annotated : IsAnnotated code) where
           let made : Move CodeProcess = moved lone.all pick (m.after, m.effect) in
           let enabled : move_of (code_step code.processes) lone.all pick ≡ Some made =
           move_is code.processes lone.all pick m.before m.code (Some (m.after, m.effect)) there m.at m.steps in
-          let kept = kept_reached code annotated lone.all lone.reached in
+          let kept = kept_reached code faultless lone.all lone.reached in
           let n = kept.good.count in
           let u = slice_get_within lone.all.processes pick.process m.before there in
           let leave = lone_leave lone.all kept p lone.alone (omega (arith, n, u, e)) pick made m.effect refl e enabled in
@@ -176,7 +176,7 @@ module _ (code : Code) (annotated : IsAnnotated code) where
   -- ---- the processes fit their code, and the loans are within the capital
 
   record Sound (s : State CodeProcess) : Type 0 where
-    good : Good code annotated s
+    good : Good code faultless s
     bank : IsWellFormed (bank_at s.loans)
 
   -- either lender has the cash
@@ -187,7 +187,7 @@ module _ (code : Code) (annotated : IsAnnotated code) where
 
   module _ (s : State CodeProcess) (sound : Sound s) (p : ℕ) (there : p < length code.processes) where
     within : p < length code.claims
-    within = let rows = (annotated OutOfLimits).rows in omega (arith, there, rows)
+    within = let rows = (faultless OutOfLimits).rows in omega (arith, there, rows)
 
     wide : length (row_of s.loans p) ≡ length code.capital
     wide = sound.good.rows p there
@@ -246,11 +246,11 @@ module _ (code : Code) (annotated : IsAnnotated code) where
       let m = code_move code.processes s pick move enabled in
       let effect : m.effect ≡ move.effect = ap (λ (x : Move CodeProcess). x.effect) m.is in
       record {
-        good = good_next code annotated s pick move sound.good m;
+        good = good_next code faultless s pick move sound.good m;
         bank = subst (λ (x : Move CodeProcess). IsWellFormed (bank_at x.next.loans)) m.is
             (banked s sound pick.process (slice_get_within code.processes pick.process m.code m.at) lending m.effect
             (subst (IsGranted (bank_by lending code) s.loans pick.process) (sym effect) granted)
-            (λ bundle takes. asks_within_claims code annotated s sound.good pick move bundle enabled (sym effect ∙ takes))
+            (λ bundle takes. asks_within_claims code faultless s sound.good pick move bundle enabled (sym effect ∙ takes))
             (small s pick move sound.good m));
       }
 
@@ -263,25 +263,25 @@ module _ (code : Code) (annotated : IsAnnotated code) where
   sound_reached : (lending : Lending) (s : State CodeProcess) → CodeReachesBy lending code s → Sound s
   sound_reached lending s reached =
       sound_makes lending reached.0 (code_opening code) s reached.1 (record {
-        good = good_start code annotated;
-        bank = (behaved code annotated).well_formed (code_opening code) ([], [], (refl, refl));
+        good = good_start code faultless;
+        bank = (behaved code faultless).well_formed (code_opening code) ([], [], (refl, refl));
       }) reached.2
 
   -- the processes of a state that is reached fit their code
-  pub good_reached : (lending : Lending) (s : State CodeProcess) → CodeReachesBy lending code s → Good code annotated s
+  pub good_reached : (lending : Lending) (s : State CodeProcess) → CodeReachesBy lending code s → Good code faultless s
   good_reached lending s reached = (sound_reached lending s reached).good
 
 pub code_is_sound : VerifiedCodeIsSound
 code_is_sound lending v verified s reached =
-    let sound = sound_reached v.code verified.annotated lending s reached in
+    let sound = sound_reached v.code verified.faultless lending s reached in
     record {
-      passes_tests = passes_tests v.code verified.annotated s sound.good;
-      asks_within = asks_within_claims v.code verified.annotated s sound.good;
+      passes_tests = passes_tests v.code verified.faultless s sound.good;
+      asks_within = asks_within_claims v.code verified.faultless s sound.good;
       well_formed = sound.bank;
     }
 
 pub as_under_banker : ProcessesAreAsUnderBanker
 as_under_banker lending v verified s reached p process there =
-    let lone = lone_makes v.code verified.annotated lending p reached.0 (code_opening v.code) s reached.1
-    (lone_start v.code verified.annotated p) reached.2 in
+    let lone = lone_makes v.code verified.faultless lending p reached.0 (code_opening v.code) s reached.1
+    (lone_start v.code verified.faultless p) reached.2 in
     (lone.all, lone.reached, lone.same ∙ there)

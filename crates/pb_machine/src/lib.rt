@@ -8,12 +8,12 @@ mod alone;
 mod arms;
 mod execute;
 pub mod laws;
-pub mod look;
-pub mod machine;
-pub mod process;
+mod look;
+mod machine;
+mod process;
 mod set_to;
 mod stack;
-pub mod thread;
+mod thread;
 mod turn;
 mod visible;
 

@@ -4,8 +4,8 @@ ghost use Rattle.std.specs.Prelude.{◌≡◌, option_map, ◌≤◌, ◌⊎◌,
 ghost use Rattle.pb_base.specs.Device.{dropped, one_more_failure, GivesNext};
 ghost use Rattle.pb_messages.specs.Kept.{IsAdded, KeepsMore};
 
-use pb_base::device::{DeviceFault, Input};
 use pb_base::limits::MAX_INPUT;
+use pb_base::{DeviceFault, Input};
 use std::alloc::Global;
 use std::marker::Model;
 

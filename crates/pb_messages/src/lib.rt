@@ -2,14 +2,14 @@
 #![tactic(auto)]
 
 mod first_format;
-pub mod kept;
-pub mod live;
-pub mod message;
+mod kept;
+mod live;
+mod message;
 mod objects;
 mod picks;
 mod prints;
-pub mod standard_error;
-pub mod texts;
+mod standard_error;
+mod texts;
 mod worded;
 
 pub use kept::KeptInput;

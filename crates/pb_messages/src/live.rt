@@ -6,7 +6,7 @@ ghost use Rattle.pb_messages.specs.LiveInputs.{IsLongBefore, SaysOfLiveInput, lo
 use crate::message::debugged_message;
 use pb_base::limits::MAX_INPUT;
 use pb_base::{Lending, NoMemory};
-use pb_command_io::parts::two_parts;
+use pb_command_io::two_parts;
 use std::alloc::Global;
 
 /// What is said if one of the two parts before the commands is too long.

@@ -14,9 +14,9 @@ use crate::prints::prints_message;
 use crate::texts::{early_message, text_message};
 use pb_base::limits::MAX_INPUT;
 use pb_base::{Lending, NoMemory};
-use pb_command_io::parts::{first_part, two_parts};
+use pb_command_io::{first_part, two_parts};
 use pb_message_excerpts::place_of;
-use pb_message_stops::lines::Lines;
+use pb_message_stops::Lines;
 use std::alloc::{AllocError, Global};
 
 /// What is said of an input that is too long.

@@ -2,7 +2,7 @@
 
 ghost use Rattle.std.specs.Prelude.{◌≡◌, ◌≤◌, ◌<◌, None, length, IfSome};
 
-use pb_base::device::{DeviceFault, Output};
+use pb_base::{DeviceFault, Output};
 use std::io::{ErrorKind, Stderr, Write};
 
 /// Standard error. What it was given is not known to any contract.

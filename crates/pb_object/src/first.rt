@@ -8,8 +8,7 @@ ghost use Rattle.pb_code.specs.Limits.{KeepsLimits, PushesFit};
 ghost use Rattle.pb_code.specs.View.{code_view, instr_view, process_view};
 
 use pb_base::limits::MAX_FIRST_PROCESSES;
-use pb_code::bundles::pairs;
-use pb_code::{Code, Instr, ProcessCode};
+use pb_code::{Code, Instr, ProcessCode, pairs};
 
 /// Returns whether an instruction takes or gives no more than one resource.
 fn is_single(code: &ProcessCode, instr: Instr) -> bool

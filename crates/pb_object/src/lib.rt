@@ -2,14 +2,14 @@
 #![tactic(auto)]
 
 mod assemble;
-pub mod fault;
-pub mod first;
+mod fault;
+mod first;
 mod format;
 mod instr_reader;
 mod instr_writer;
 pub mod laws;
 mod line_reader;
-pub mod object;
+mod object;
 mod place_reader;
 mod reader;
 mod rows;

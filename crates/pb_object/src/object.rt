@@ -47,7 +47,7 @@ fn rows_of(alloc: Global, text: &[u8]) -> Result<Rows, ObjectFault>
 /// Returns the code and the labels that the text spells, in either format. From the first format the integers
 /// of each process are named `v0`, `v1` and so on, and no place has a source line.
 ///
-/// Else the first line that is not as it must be: `NotObject` if it is not of its form, is not ended by a
+/// Otherwise the fault of the first line that does not follow the format: `NotObject` if it is not of its form, is not ended by a
 /// line feed, is missing, or comes after the end; `Limit` if it is of its form and a number is out of range.
 /// The offset is that of the start of the line, or the length of the text if a line is missing. A text of
 /// more than `MAX_INPUT` bytes is `Limit` at 0, and never `NoMemory`, which comes if `alloc` is out of memory.

@@ -3,11 +3,11 @@
 //! other.
 #![tactic(auto)]
 
-pub mod code;
-pub mod options;
+mod code;
+mod options;
 
 pub use code::{Code, UnknownCode};
 pub use options::{
-    CheckOptions, DebugOptions, DrawOptions, EmitOptions, Lend, OutcomesOptions, RecordOptions,
-    ReplayOptions, RunOptions, StatesOptions, UnknownLend,
+    CheckOptions, DebugOptions, DrawOptions, EmitOptions, Lend, MAX_HEAP, MAX_ROWS, MIN_HEAP,
+    OutcomesOptions, RecordOptions, ReplayOptions, RunOptions, StatesOptions, UnknownLend,
 };

@@ -10,8 +10,7 @@ ghost use Rattle.pb_page.specs.Texts.{texts};
 
 use pb_base::NoMemory;
 use pb_base::writing::{put, put_digits, put_number};
-use pb_debug_texts::Why;
-use pb_debug_texts::why::{asked, reason};
+use pb_debug_texts::{Why, asked, reason};
 use pb_json::put_integers;
 use pb_machine::{Machine, Proc, Thread, ThreadState};
 use pb_verifier::Verified;

@@ -4,7 +4,7 @@
 
 mod arms;
 mod row;
-pub mod run;
+mod run;
 mod state;
 
 pub use row::{put_changes, put_shown};

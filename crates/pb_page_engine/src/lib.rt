@@ -2,8 +2,8 @@
 #![tactic(auto)]
 
 mod object;
-pub mod schedules;
-pub mod states;
+mod schedules;
+mod states;
 
 pub use schedules::tell_schedules;
 pub use states::states_engine;

@@ -9,13 +9,11 @@ ghost use Rattle.pb_page_graph.specs.Documents.{excess_text};
 ghost use Rattle.pb_page_engine.specs.Schedules.{AreSchedules, SaysOfCodeSchedules, SaysOfSchedules};
 
 use crate::object::object_of;
-use pb_accept::accept::{compile_text, refuse};
-use pb_base::device::Output;
+use pb_accept::{compile_text, refuse};
 use pb_base::limits::MAX_INPUT;
-use pb_base::{Lending, NoMemory};
+use pb_base::{Lending, NoMemory, Output};
 use pb_codegen::Compiled;
-use pb_command_io::Status;
-use pb_command_io::reply::{Reply, tell};
+use pb_command_io::{Reply, Status, tell};
 use pb_page_graph::{excess_document, schedules_document};
 use pb_search::KeepFault;
 use pb_verifier::Verified;

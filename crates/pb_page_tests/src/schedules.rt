@@ -1,8 +1,7 @@
 //! Texts, and the documents of all their schedules.
 
-use pb_accept::accept::compile_text;
-use pb_base::Lending;
-use pb_base::device::MemoryOutput;
+use pb_accept::compile_text;
+use pb_base::{Lending, MemoryOutput};
 use pb_command_io::Status;
 use pb_object::write_object2;
 use pb_page_engine::tell_schedules;

@@ -6,7 +6,7 @@ ghost use Rattle.pb_parser.specs.Nesting as nesting;
 ghost use Rattle.pb_parser.specs.Nesting.{OpensTooMany, SignsTooMany, NestsTooDeep};
 
 use pb_base::limits::{MAX_OPEN, MAX_SIGNS};
-use pb_lexer::token::{Kind, Mark, Token};
+use pb_lexer::{Kind, Mark, Token};
 
 /// Returns how many are open after a token of the kind, if `count` were open before it.
 fn open_after(count: usize, kind: Kind) -> usize

@@ -12,9 +12,8 @@ use crate::measures::Measures;
 use crate::nesting::nests_too_deep;
 use crate::trees::Trees;
 use pb_base::limits::{MAX_HEIGHT, MAX_NODES};
-use pb_grammar::ParseFault;
-use pb_grammar::programs::read;
-use pb_lexer::token::Token;
+use pb_grammar::{ParseFault, read};
+use pb_lexer::Token;
 use pb_tree::Program;
 use std::alloc::Allocator;
 

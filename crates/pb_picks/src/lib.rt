@@ -1,11 +1,11 @@
 //! Pick lines, which say the picks of a run.
 #![tactic(auto)]
 
-pub mod count;
-pub mod fault;
+mod count;
+mod fault;
 pub mod laws;
-pub mod reader;
-pub mod write;
+mod reader;
+mod write;
 
 pub use count::count_pick;
 pub use fault::PickFault;

@@ -8,7 +8,7 @@ ghost use Rattle.pb_plan.specs.Needs.{LeastCapitalDecides};
 ghost use Rattle.pb_plan.specs.Orders.{OrdersPreventDeadlocks};
 ghost use Rattle.pb_plan.specs.Parts.{parts, weight};
 ghost use Rattle.pb_plan.specs.Waiting.{AllRequestsAreGranted, FreeRequestsAreAllowed, FreeRequestsAreGranted};
-ghost use Rattle.pb_verifier.specs.Verified.{IsAnnotated};
+ghost use Rattle.pb_verifier.specs.Verified.{IsFaultless};
 
 /// The parts of a claim take together what the process claims: the greatest amount that a free run holds.
 pub fn parts_make_up_the_claim()
@@ -29,8 +29,8 @@ pub fn free_requests_are_allowed()
 /// Whatever verified code comes to, a request is granted at once, if of each resource that it asks for there is
 /// enough for all claims at once; so is every request, if there is enough of each resource.
 pub fn free_requests_are_granted()
-    ensures free { (code : Code) → IsAnnotated code → FreeRequestsAreGranted code }
-    ensures all { (code : Code) → IsAnnotated code → AllRequestsAreGranted code }
+    ensures free { (code : Code) → IsFaultless code → FreeRequestsAreGranted code }
+    ensures all { (code : Code) → IsFaultless code → AllRequestsAreGranted code }
 {}
 
 /// If every process follows an order of the resources, the program comes to no deadlock by the cash alone.

@@ -3,6 +3,6 @@
 #![tactic(auto)]
 
 mod lines;
-pub mod plan;
+mod plan;
 
 pub use plan::plan_engine;

@@ -17,14 +17,11 @@ ghost use Rattle.pb_base.specs.Tables.{width_of};
 
 use crate::lines::{put_circle, put_last, put_order, put_process, put_resources};
 use bumpalo::Bump;
-use pb_accept::accept::{Refusal, analyze_text};
-use pb_base::device::{Input, Output};
+use pb_accept::{Refusal, analyze_text};
 use pb_base::limits::MAX_INPUT;
-use pb_base::{Capital, Claims, NoMemory};
+use pb_base::{Capital, Claims, Input, NoMemory, Output};
 use pb_claims::fits;
-use pb_command_io::Status;
-use pb_command_io::input::read_input;
-use pb_command_io::reply::{Reply, refused, tell};
+use pb_command_io::{Reply, Status, read_input, refused, tell};
 use pb_names::Resolved;
 use pb_plan::{bottleneck, find_circle, find_order};
 use std::alloc::{Allocator, Global};

@@ -9,11 +9,11 @@ use Rattle.pb_machine.proofs.EitherLending.{good_reached}
 use Rattle.pb_record.specs.CodeRuns.{IsDone}
 use Rattle.pb_verifier.proofs.LiveSteps.{none_live}
 use Rattle.pb_verifier.proofs.States.{CodeMove, checked, code_move}
-use Rattle.pb_verifier.specs.Verified.{IsAnnotated}
+use Rattle.pb_verifier.specs.Verified.{IsFaultless}
 
-pub done_stays : (lending : Lending) (code : Code) → IsAnnotated code → (s : State CodeProcess) → CodeReachesBy lending code s → IsDone s
+pub done_stays : (lending : Lending) (code : Code) → IsFaultless code → (s : State CodeProcess) → CodeReachesBy lending code s → IsDone s
     → ¬ CanGoOn (bank_by lending code) (code_step code.processes) s
-done_stays lending code annotated s reached done (pick, move, is, granted) = go (code_move code.processes s pick move is)
+done_stays lending code faultless s reached done (pick, move, is, granted) = go (code_move code.processes s pick move is)
   where
     go : CodeMove code.processes s pick move → ⊥
     go m = stands (thread m.before.threads pick.arm) refl m.steps
@@ -22,6 +22,6 @@ done_stays lending code annotated s reached done (pick, move, is, granted) = go 
         stands Idle at steps = cc
         stands Ended at steps = cc
         stands (Live place stack) at steps =
-            let ok = checked code annotated pick.process m.code m.at in
-            let fit = (good_reached code annotated lending s reached).fit pick.process m.code m.before m.at m.here in
+            let ok = checked code faultless pick.process m.code m.at in
+            let fit = (good_reached code faultless lending s reached).fit pick.process m.code m.before m.at m.here in
             none_live m.code ok m.before fit (done pick.process m.before m.here) pick.arm place stack at

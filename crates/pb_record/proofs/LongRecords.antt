@@ -25,7 +25,7 @@ use Rattle.pb_history.proofs.TraceSteps.{traces_make}
 use Rattle.pb_picks.specs.Counted.{AreApart}
 use Rattle.pb_picks.specs.Laws.{CanBeSaid}
 use Rattle.pb_picks.specs.PickLines.{SpellsPick, pick_line, pick_lines}
-use Rattle.pb_verifier.specs.Verified.{VerifiedCode, IsAnnotated, IsVerified}
+use Rattle.pb_verifier.specs.Verified.{VerifiedCode, IsFaultless, IsVerified}
 use Rattle.pb_verifier.specs.declared.fault.VerifyFault.TheVariants.{OutOfLimits}
 use Rattle.pb_record.specs.declared.picks.TheConstants.{MAX_LINES}
 use Rattle.pb_shared.specs.declared.outcome.Outcome.{Outcome}
@@ -181,8 +181,8 @@ pub too_many_picks : (lending : Lending) (v : VerifiedCode) → IsVerified v →
     → MAX_LINES < length picks → IsTooLong lending v.code steps (Some seed)
 too_many_picks lending v verified seed left steps picks state now most lead apart count drawn many =
     let (more, end, recorded, longer) = draws_to_its_end lending v.code seed left steps picks state now lead apart count drawn in
-    let limits = verified.annotated OutOfLimits in
-    let said = recorded_can_be_said lending v.code verified.annotated steps (Some seed) more end most recorded in
+    let limits = verified.faultless OutOfLimits in
+    let said = recorded_can_be_said lending v.code verified.faultless steps (Some seed) more end most recorded in
     let long = lines_are_long v.code limits more said in
     (more, end, recorded, omega (arith, many, longer, long))
 
@@ -226,10 +226,10 @@ counts_too_many entries n picks counted apart many =
 
 -- ---- the picks of a report
 
-pub report_is_recorded : (code : Code) → IsAnnotated code → (steps : ℕ) (report : Report) (picks : List CountedPick)
+pub report_is_recorded : (code : Code) → IsFaultless code → (steps : ℕ) (report : Report) (picks : List CountedPick)
     → (is : IsReport code steps report) → spread picks ≡ picks_of report.trace.entries → AreApart picks
     → IsRecorded ByBanker code steps None picks is.end
-report_is_recorded code annotated steps report picks is same apart =
+report_is_recorded code faultless steps report picks is same apart =
     let entries = report.trace.entries in
     let many : length (spread picks) ≡ length entries = ap (λ (ps : List Pick). length ps) same ∙ length-map entries (λ (e : Entry). e.pick) in
     let few = is.few in
@@ -237,7 +237,7 @@ report_is_recorded code annotated steps report picks is same apart =
     subst (λ (ps : List Pick). CodeMakes ByBanker code ps (events_of entries) is.end) (sym same)
     (traces_make ByBanker code (code_opening code) is.end entries is.leads) in
     let not_done : CanGoOn (bank_of code) (code_step code.processes) is.end → ¬ IsDone is.end =
-    λ on done. done_stays ByBanker code annotated is.end (spread picks, events_of entries, makes) done on in record {
+    λ on done. done_stays ByBanker code faultless is.end (spread picks, events_of entries, makes) done on in record {
       events = events_of entries;
       makes = makes;
       few = omega (arith, many, few);
@@ -257,10 +257,10 @@ pub report_is_counted : {V : Type 0} (v : VerifiedCode) → IsVerified v → (st
     → MatchOption picks (IsTooLong ByBanker v.code steps None)
     (λ x. (end : State CodeProcess) × IsRecorded ByBanker v.code steps None (items x) end)
 report_is_counted v verified steps report items (Some x) most is counts =
-    (is.end, report_is_recorded v.code verified.annotated steps report (items x) is counts.same counts.apart)
+    (is.end, report_is_recorded v.code verified.faultless steps report (items x) is counts.same counts.apart)
 report_is_counted v verified steps report items None most is (picks, counts, many) =
-    let recorded = report_is_recorded v.code verified.annotated steps report picks is counts.same counts.apart in
-    let limits = verified.annotated OutOfLimits in
-    let said = recorded_can_be_said ByBanker v.code verified.annotated steps None picks is.end most recorded in
+    let recorded = report_is_recorded v.code verified.faultless steps report picks is counts.same counts.apart in
+    let limits = verified.faultless OutOfLimits in
+    let said = recorded_can_be_said ByBanker v.code verified.faultless steps None picks is.end most recorded in
     let long = lines_are_long v.code limits picks said in
     (picks, is.end, recorded, omega (arith, many, long))

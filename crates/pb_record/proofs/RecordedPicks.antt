@@ -23,7 +23,7 @@ use Rattle.pb_machine.specs.Steps.{MovesSilentlyBy}
 use Rattle.pb_picks.specs.Counted.{AreApart}
 use Rattle.pb_picks.specs.Laws.{CanBeSaid}
 use Rattle.pb_picks.specs.PickLines.{SpellsPick, pick_line}
-use Rattle.pb_verifier.specs.Verified.{IsAnnotated}
+use Rattle.pb_verifier.specs.Verified.{IsFaultless}
 use Rattle.pb_record.specs.Draws.{IsDrawnRun}
 use Rattle.pb_record.specs.Schedule.{MakesAtMost, StepsSome}
 use Rattle.pb_record.specs.declared.schedule.Next.{Next}
@@ -147,13 +147,13 @@ stopped_is_recorded lending code steps left seed picks before after next same st
 abbrev IsThere : Code → Pick → Type 0
 IsThere code pick = (process : ProcessCode) × (slice_get code.processes pick.process ≡ Some process) × (pick.arm < length process.entries)
 
-module _ (lending : Lending) (code : Code) (annotated : IsAnnotated code) where
+module _ (lending : Lending) (code : Code) (faultless : IsFaultless code) where
   enabled_is_there : (s next : State CodeProcess) (pick : Pick) (event : Option Event) → CodeReachesBy lending code s →
       CodeMovesBy lending code s pick event next → IsThere code pick
   enabled_is_there s next pick event reached moves = elim (cases_lt pick.process (length s.processes)) [
     | inr le ↦ absurd (no_such_process lending code s pick le (record { next = next; effect = moves.0 }) moves.1 moves.2)
     | inl lt ↦
-        let good = (good_reached code annotated lending s reached) in
+        let good = (good_reached code faultless lending s reached) in
         let count = good.count in
         let state = get_some s.processes pick.process lt in
         let process = get_some code.processes pick.process (omega (arith, lt, count)) in

@@ -2,8 +2,8 @@
 #![tactic(auto)]
 
 mod choice;
-pub mod open;
-pub mod picks;
+mod open;
+mod picks;
 mod schedule;
 
 pub use open::Open;

@@ -1,6 +1,6 @@
 //! The resolver: how a syntax tree becomes a program in which names are numbers.
 #![tactic(auto)]
 
-pub mod resolver;
+mod resolver;
 
 pub use resolver::resolve;

@@ -26,10 +26,11 @@ ghost use Rattle.pb_names.specs.View.{resource_view as resource_of};
 
 use pb_base::limits::{MAX_AMOUNT, MAX_ARMS, MAX_FORK, MAX_INTEGERS, MAX_RESOURCES};
 use pb_base::{BinaryOp, Bundle, NoMemory, Pair, UnaryOp};
-use pb_names::causes::{amount_from, fault_of, first_cause};
-use pb_names::declared::Declared;
 use pb_names::limits::too_many;
-use pb_names::{Expr, Kind, NameFault, Process, Resolved, Resource, Stmt};
+use pb_names::{
+    Declared, Expr, Kind, NameFault, Process, Resolved, Resource, Stmt, amount_from, fault_of,
+    first_cause,
+};
 use pb_tree::{Demand, Name, Number};
 use std::alloc::Allocator;
 

@@ -1,7 +1,6 @@
 //! Sessions: commands and their answers.
 
-use pb_base::device::{FaultyInput, FaultyOutput, Input, MemoryInput, MemoryOutput, Output};
-use pb_base::{Lending, Pick};
+use pb_base::{FaultyInput, FaultyOutput, Input, Lending, MemoryInput, MemoryOutput, Output, Pick};
 use pb_codegen::compile;
 use pb_debug::{DebugFault, Debugger};
 use std::alloc::{AllocError, Global};

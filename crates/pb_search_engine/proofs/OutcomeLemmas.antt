@@ -11,7 +11,7 @@ use Rattle.pb_base.specs.Steppers.{Move}
 use Rattle.pb_code.specs.Code.{CodeProcess, code_process}
 use Rattle.pb_code.specs.Whole.{Code, ProcessLabels}
 use Rattle.pb_command_io.specs.declared.status.Status.{Status}
-use Rattle.pb_verifier.specs.Verified.{IsAnnotated, IsVerified, VerifiedCode}
+use Rattle.pb_verifier.specs.Verified.{IsFaultless, IsVerified, VerifiedCode}
 use Rattle.pb_verifier.specs.declared.fault.VerifyFault.TheVariants.{OutOfLimits}
 use Rattle.pb_verifier.proofs.States.{code_move}
 use Rattle.pb_search_stages.specs.Configurations.{Comes}
@@ -59,10 +59,10 @@ module _ (mode : Mode) (code : Code) where
       (All-weaker (λ (p : Pick). p.process < length h.0.state.processes) (λ (p : Pick). p.process < length s.state.processes)
       (λ p less. omega (arith, less, all)) picks (picks_are_there h.0 end picks h.2))
 
-  module _ (annotated : IsAnnotated code) where
+  module _ (faultless : IsFaultless code) where
     have_processes : (picks : List Pick) (s : Trace) → TraceReaches mode code picks s → HaveProcesses code.names picks
     have_processes picks s reaches =
-        let names = (annotated OutOfLimits).process_names.all in
+        let names = (faultless OutOfLimits).process_names.all in
         let size : length (trace_opening code).state.processes ≡ length code.processes = length-map code.processes code_process in
         All-weaker (λ (pick : Pick). pick.process < length (trace_opening code).state.processes) (λ (pick : Pick). HasProcess code.names pick.process)
         (λ pick less. omega (arith, less, names, size)) picks (picks_are_there (trace_opening code) s picks reaches)
@@ -121,13 +121,13 @@ module _ (mode : Mode) (v seen : VerifiedCode) (same : seen ≡ v) (code : Code)
       → All (λ f. HaveProcesses code.names f.picks.items) found
   found_here found outcomes verified =
       subst (λ (n : NameTable). All (λ f. HaveProcesses n f.picks.items) found) (ap (λ (c : Code). c.names) (sym of))
-      (found_shown mode seen.code verified.annotated found outcomes)
+      (found_shown mode seen.code verified.faultless found outcomes)
 
   pub deadlocks_here : (deadlocks : List GivenDeadlock) → AreSomeDeadlocks mode seen.code (map deadlock_view deadlocks) → IsVerified seen
       → All (λ d. HaveProcesses code.names d.picks.items) deadlocks
   deadlocks_here deadlocks are verified =
       subst (λ (n : NameTable). All (λ d. HaveProcesses n d.picks.items) deadlocks) (ap (λ (c : Code). c.names) (sym of))
-      (deadlocks_shown mode seen.code verified.annotated deadlocks are)
+      (deadlocks_shown mode seen.code verified.faultless deadlocks are)
 
   pub says_told : (until : Until) (result : Outcomes) (states : ℕ) (lines more text : List ℕ) (status : Status)
       → Tells mode seen.code until states result

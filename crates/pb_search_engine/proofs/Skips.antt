@@ -10,7 +10,7 @@ use Rattle.pb_base.specs.declared.pick.Pick.{Pick}
 use Rattle.pb_base.specs.Steppers.{Bank, Silent, IsGranted, Move, State, move_of}
 use Rattle.pb_code.specs.Code.{Instr, Push, Load, Store, Compute1, Compute2, Jump, JumpIfZero, PrintTop, Take, Give, Fork, Join, End}
 use Rattle.pb_code.specs.Code.{ProcessCode, CodeProcess, Thread, Idle, Live, thread, code_step, step_process, step_thread, act, apply_step}
-use Rattle.pb_code.specs.Code.{instr_skips, is_at_skip, is_skipped, skips_at}
+use Rattle.pb_code.specs.Shadows.{instr_skips, is_at_skip, is_skipped, skips_at}
 use Rattle.pb_code.proofs.Chains.{Chain, Skips, Stops, after_skip, chain_short, chain_stops, next_place}
 use Rattle.pb_generator.specs.Generate.{process_code}
 use Rattle.pb_names.specs.Program.{Process}

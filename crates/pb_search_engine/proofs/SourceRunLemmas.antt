@@ -4,7 +4,8 @@ use Rattle.std.proofs.Common.{Option, Some, None, refl, sym, ap, ◌∙◌, subs
 use Rattle.pb_base.specs.declared.lending.Lending.{Lending}
 use Rattle.pb_base.specs.declared.pick.Pick.{Pick}
 use Rattle.pb_base.specs.Steppers.{Bank, Silent, IsGranted, Move, State, Table, opening}
-use Rattle.pb_code.specs.Code.{CodeProcess, code_process, code_step, is_skipped}
+use Rattle.pb_code.specs.Code.{CodeProcess, code_process, code_step}
+use Rattle.pb_code.specs.Shadows.{is_skipped}
 use Rattle.pb_code.specs.Whole.{Code}
 use Rattle.pb_codegen.specs.Correct.{generated}
 use Rattle.pb_codegen.proofs.SimulationBack.{followed}

@@ -15,15 +15,12 @@ ghost use Rattle.pb_search_fair.specs.CodeRuns.{TellsFairRuns};
 use crate::expect::tell_expected;
 use crate::lines::outcomes_text;
 use crate::one_run::{Target, tell_one_run};
-use pb_accept::accept::{compile_text, refuse};
-use pb_base::NoMemory;
-use pb_base::device::{Input, Output};
+use pb_accept::{compile_text, refuse};
 use pb_base::limits::MAX_INPUT;
 use pb_base::writing::put_number;
+use pb_base::{Input, NoMemory, Output};
 use pb_codegen::Compiled;
-use pb_command_io::Status;
-use pb_command_io::input::read_input;
-use pb_command_io::reply::{Reply, tell};
+use pb_command_io::{Reply, Status, read_input, tell};
 use pb_options::{Lend, OutcomesOptions};
 use pb_page_engine::tell_schedules;
 use pb_search::explore::explore_by;
@@ -51,7 +48,7 @@ use std::alloc::Global;
 /// behind it, and it is written whether all runs of the text are as these lines say, as `tell_expected` does. With
 /// `options.graph` the document of all its schedules is written in place of all else, as `tell_schedules` does.
 ///
-/// After a read that failed nothing is written; after a write that failed, a first part of what was being said.
+/// After a read that failed nothing is written; after a write that failed, a prefix of the output.
 pub fn outcomes_engine<I: Input, O: Output>(
     alloc: Global,
     options: OutcomesOptions,

@@ -17,7 +17,7 @@ use Rattle.pb_machine.specs.declared.look.Look.TheVariants as look
 use Rattle.pb_verifier.proofs.LoansWithinClaims.{kept_reached}
 use Rattle.pb_verifier.proofs.States.{CodeMove, code_move}
 use Rattle.pb_verifier.specs.Requests.{IsDenied}
-use Rattle.pb_verifier.specs.Verified.{IsAnnotated}
+use Rattle.pb_verifier.specs.Verified.{IsFaultless}
 use Rattle.pb_verifier.specs.declared.fault.VerifyFault.TheVariants.{OutOfLimits}
 
 effect_steps : (e : Effect) → look_of_effect e ≡ look.Stays → ⊥
@@ -111,22 +111,22 @@ module _ (code : Code) (s : State CodeProcess) (pick : Pick) where
           at_code (Some c) = ap (λ (t : Thread). look_of (step_thread c process pick.arm t)) (get_or_past process.threads pick.arm Idle l)
 
 -- there are 64 processes at most, each with 64 arms at most
-module _ (code : Code) (annotated : IsAnnotated code) (s : State CodeProcess) (reached : CodeReaches code s) where
+module _ (code : Code) (faultless : IsFaultless code) (s : State CodeProcess) (reached : CodeReaches code s) where
   pub few_processes : length s.processes ≤ 64
   few_processes =
-      let count = (kept_reached code annotated s reached).good.count in
-      let few = (annotated OutOfLimits).some_processes.1 in
+      let count = (kept_reached code faultless s reached).good.count in
+      let few = (faultless OutOfLimits).some_processes.1 in
       omega (arith, count, few)
 
   pub few_arms : (p : ℕ) (process : CodeProcess) → slice_get s.processes p ≡ Some process → length process.threads ≤ 64
   few_arms p process there =
-      let good = (kept_reached code annotated s reached).good in
+      let good = (kept_reached code faultless s reached).good in
       let count = good.count in
       let lt = slice_get_within s.processes p process there in
       let of = get_some code.processes p (omega (arith, count, lt)) in
       let fit = good.fit p of.0 process of.1 there in
       let threads = fit.threads in
-      let few = ((annotated OutOfLimits).each p of.0 of.1).some_arms.1 in
+      let few = ((faultless OutOfLimits).each p of.0 of.1).some_arms.1 in
       omega (arith, threads, few)
 
   -- an arm that can be picked is one of these

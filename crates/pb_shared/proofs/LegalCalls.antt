@@ -27,7 +27,7 @@ use Rattle.pb_history.specs.Entries.{Entry, silent_picks}
 use Rattle.pb_history.specs.Leads.{Leads}
 use Rattle.pb_history.proofs.TraceSteps.{leads_append, leads_more, leads_reaches, replicate_more, silent_lead}
 use Rattle.pb_verifier.specs.Requests.{IsDenied, frees}
-use Rattle.pb_verifier.specs.Verified.{IsAnnotated, IsVerified, VerifiedCode}
+use Rattle.pb_verifier.specs.Verified.{IsFaultless, IsVerified, VerifiedCode}
 use Rattle.pb_verifier.proofs.States.{code_move}
 use Rattle.pb_verifier.proofs.Requests.{refused_stays, refused_stops, same_pick}
 use Rattle.pb_shared.specs.Ledgers.{Ledger, IsLegal, IsLentBy, Tries, after_pick, all_home, allowance_of, given_back}
@@ -47,8 +47,8 @@ use Rattle.pb_shared.proofs.ArmLooks.{moves_arm, moves_look}
 pub legal_reached : (code : VerifiedCode) (s : Ledger) → IsLegal code s → CodeReaches code.code s.machine
 legal_reached code s legal = leads_reaches ByBanker code.code s.machine s.entries legal.leads
 
-pub annotated_of : (code : VerifiedCode) (s : Ledger) → IsLegal code s → IsAnnotated code.code
-annotated_of code s legal = legal.verified.annotated
+pub annotated_of : (code : VerifiedCode) (s : Ledger) → IsLegal code s → IsFaultless code.code
+annotated_of code s legal = legal.verified.faultless
 
 -- the allowances that are out, once one slip is changed
 slips_change : (slips : List (Option Slip)) (p : ℕ) (a b : Option Slip) → slice_get slips p ≡ Some a
@@ -62,12 +62,12 @@ abbrev pub slip_of : Lent → Slip
 slip_of lent = record { arm = lent.pick.arm; allowance = lent.allowance }
 
 -- a request that was refused stays so over picks that free nothing
-refused_lasts : (code : Code) → IsAnnotated code → (a b : State CodeProcess) (es : List Entry) (mark : Pick) → CodeReaches code a → Leads code a es b
+refused_lasts : (code : Code) → IsFaultless code → (a b : State CodeProcess) (es : List Entry) (mark : Pick) → CodeReaches code a → Leads code a es b
     → All (λ e. frees e.event ≡ false) es → IsDenied code a mark → IsDenied code b mark
-refused_lasts code annotated a b [] mark reached h f r = subst (λ (s : State CodeProcess). IsDenied code s mark) (sym h) r
-refused_lasts code annotated a b (e ∷ es) mark reached h f r =
-    refused_lasts code annotated h.0 b es mark (reaches_on ByBanker code a h.0 e.pick e.event reached h.1) h.2 (λ k d lt. f (suc k) d (omega arith))
-    (refused_stays code annotated a h.0 e.pick mark e.event reached h.1 (f 0 e (omega arith)) r)
+refused_lasts code faultless a b [] mark reached h f r = subst (λ (s : State CodeProcess). IsDenied code s mark) (sym h) r
+refused_lasts code faultless a b (e ∷ es) mark reached h f r =
+    refused_lasts code faultless h.0 b es mark (reaches_on ByBanker code a h.0 e.pick e.event reached h.1) h.2 (λ k d lt. f (suc k) d (omega arith))
+    (refused_stays code faultless a h.0 e.pick mark e.event reached h.1 (f 0 e (omega arith)) r)
 
 silent_frees : (n : ℕ) (pick : Pick) → All (λ e. frees e.event ≡ false) (silent_picks pick n)
 silent_frees n pick = λ k d lt. at n k d lt
@@ -325,10 +325,10 @@ none_ready_out code s legal going none all = ⊎_elim (λ over. going over) (λ 
     let m = code_move code.code.processes s.machine w.0 w.1 w.2 in
     let there = slice_get_within s.machine.processes w.0.process m.before m.here in
     let slots = legal.slots in
-    let annotated = annotated_of code s legal in
+    let faultless = annotated_of code s legal in
     let reached = legal_reached code s legal in
     let unmarked : is_marked s.refused w.0 ≢ true = λ marked.
-    refused_stops code.code annotated s.machine w.1.next w.0 _ (legal.marks w.0 (moves_arm code.code annotated
+    refused_stops code.code faultless s.machine w.1.next w.0 _ (legal.marks w.0 (moves_arm code.code faultless
     s.machine reached w.0 w.1 w.2) marked) (w.1.effect, w.2, w.3, refl) in
     none w.0 (record {
       at_home = home_at s.slips w.0.process all (omega (arith, there, slots));

@@ -1,22 +1,22 @@
 //! The book of a machine that workers share, the stretches that it lends, and its lock.
 #![tactic(auto)]
 
-pub mod answer;
-pub mod book;
-pub mod brand;
+mod answer;
+mod book;
+mod brand;
 mod commit;
 mod desk;
-pub mod fault;
+mod fault;
 pub mod laws;
 mod marks;
-pub mod outcome;
+mod outcome;
 mod ready;
-pub mod shared;
+mod shared;
 mod slip;
 mod spare;
-pub mod stretch;
+mod stretch;
 mod take;
-pub mod taken;
+mod taken;
 mod turn;
 mod visible;
 

@@ -1,6 +1,6 @@
 //! Calls of the engines, and what each writes.
 
-use pb_base::device::{Input, MemoryInput, MemoryOutput, Output};
+use pb_base::{Input, MemoryInput, MemoryOutput, Output};
 use pb_command_io::Status;
 use pb_engines::{
     CheckOptions, EmitOptions, Lend, RecordOptions, ReplayOptions, RunOptions, check_engine,

@@ -4,8 +4,7 @@ ghost use Rattle.std.specs.Prelude.{◌≤◌, length};
 
 use crate::objects::{FIRST, MOVED, SECOND};
 use pb_base::Bundle;
-use pb_code::names::are_name_bytes;
-use pb_code::{Code, Instr, Labels, is_name, is_numeral};
+use pb_code::{Code, Instr, Labels, are_name_bytes, is_name, is_numeral};
 use pb_object::{
     ObjectFault, fits_first_format, read_any, read_object, write_object, write_object2,
 };

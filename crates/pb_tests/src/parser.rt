@@ -8,8 +8,7 @@ use crate::texts::repeated;
 use crate::trees::{Part, made_of, read};
 use linked_list_allocator::LocalHeap;
 use pb_base::{BinaryOp, UnaryOp};
-use pb_lexer::lexer::lex;
-use pb_lexer::token::Token;
+use pb_lexer::{Token, lex};
 use pb_parser::{ParseFault, parse};
 use std::alloc::Global;
 

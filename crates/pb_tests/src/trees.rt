@@ -1,7 +1,7 @@
 //! Trees that are read from texts, and trees that are put together from tables.
 
 use pb_base::{BinaryOp, UnaryOp};
-use pb_lexer::lexer::lex;
+use pb_lexer::lex;
 use pb_parser::parse;
 use pb_tree::{Demand, Expr, Name, Number, Process, Program, Resource, Stmt};
 use std::alloc::{Allocator, Global};

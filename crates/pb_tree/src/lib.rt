@@ -1,10 +1,10 @@
 //! The syntax tree of a program, in the memory of any allocator.
 #![tactic(auto)]
 
-pub mod expr;
+mod expr;
 pub mod laws;
-pub mod program;
-pub mod stmt;
+mod program;
+mod stmt;
 
 pub use expr::{Expr, Name, Number};
 pub use program::{Process, Program, Resource};

@@ -14,7 +14,7 @@ use Rattle.pb_verifier.specs.declared.fault.VerifyFault.TheVariants.{WrongArms, 
 use Rattle.pb_verifier.specs.Behaviour.{PeaksExist}
 use Rattle.pb_verifier.specs.Faults.{AreHoldings, ArePeaks, HasArms, HasForks, HasPeakOver, HasPeakWithin}
 use Rattle.pb_verifier.specs.Limits.{IsSmallProcess}
-use Rattle.pb_verifier.specs.Verified.{HasPeaksWithin, IsAnnotated, IsFreeOf, IsRefusedFor, SomePeakIsOver, turn_of}
+use Rattle.pb_verifier.specs.Verified.{HasPeaksWithin, IsFaultless, IsFreeOf, IsRefusedFor, SomePeakIsOver, turn_of}
 use Rattle.pb_verifier.proofs.SoundBehaviour.{peaks_decide}
 use Rattle.pb_verifier.proofs.ReachedPlaces.{peaks_of}
 use Rattle.pb_verifier.proofs.UniqueFacts.{least_of}
@@ -142,8 +142,8 @@ module _ (code : Code) (free : (fault : VerifyFault) → turn_of fault < turn_of
           let over = x.4 in
           absurd (omega (arith, least, over))
 
-pub annotated_within : (code : Code) → IsAnnotated code → HasPeaksWithin code
-annotated_within code annotated = all_within code (λ fault _. annotated fault) (annotated OverClaim)
+pub annotated_within : (code : Code) → IsFaultless code → HasPeaksWithin code
+annotated_within code faultless = all_within code (λ fault _. faultless fault) (faultless OverClaim)
 
 -- the refusal for a peak over its claim says that one is
 pub refused_over : (code : Code) (fault : VerifyFault) → IsRefusedFor code fault → fault ≡ OverClaim → SomePeakIsOver code

@@ -82,7 +82,7 @@ module _ {M : Type 0} (rules : Rules M) (entries : List ℕ) (instrs : List Inst
       Some m → slice_get instrs p ≡ Some i → ¬ rules.Fits i m → ¬ CanBeAnnotated rules entries instrs
   refuted_fit done notes h p m i e read wrong a = wrong (other_flows done notes a.0 h a.1 p m i e read).0
 
-  -- in code that can be annotated nothing else is noted where a place leads to
+  -- in faultless code nothing else is noted where a place leads to
   pub next_agrees : (done : ℕ) (notes : ℕ → Option M) → Spread done notes → (p : ℕ) (m : M) (i : Instr) → notes p ≡ Some m → slice_get instrs p ≡ Some i
       → CanBeAnnotated rules entries instrs → (q : ℕ) (x : M) → Contains (followers i p) q → notes q ≡ Some x → x ≡ rules.after i m
   next_agrees done notes h p m i e read a q x c n =

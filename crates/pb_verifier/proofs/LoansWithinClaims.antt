@@ -33,7 +33,7 @@ use Rattle.pb_code.specs.Whole.{Code, bank_of, code_opening}
 use Rattle.pb_verifier.specs.declared.fault.VerifyFault.TheVariants.{OutOfLimits, OverCapital, OverClaim}
 use Rattle.pb_verifier.specs.Behaviour.{AsksWithin, EndsOrGoesOn, IsDeadlocked}
 use Rattle.pb_verifier.specs.Limits.{KeepsLimits, IsSmallBundle}
-use Rattle.pb_verifier.specs.Verified.{IsAnnotated}
+use Rattle.pb_verifier.specs.Verified.{IsFaultless}
 use Rattle.pb_verifier.proofs.LiveSteps.{can_step, none_live}
 use Rattle.pb_verifier.proofs.ThreadHoldings.{holds_none, under_peak}
 use Rattle.pb_verifier.proofs.PeakTables.{replicate_read}
@@ -70,30 +70,30 @@ zero_loans n [] p r = refl
 zero_loans n (x ∷ xs) zero r = replicate_read n r 0
 zero_loans n (x ∷ xs) (suc p) r = zero_loans n xs p r
 
-module _ (whole : Code) (annotated : IsAnnotated whole) where
+module _ (whole : Code) (faultless : IsFaultless whole) where
   abbrev bank_at : Table → BankerState
   bank_at loans = banker_state (bank_of whole) loans
 
   limits : KeepsLimits whole
-  limits = annotated OutOfLimits
+  limits = faultless OutOfLimits
 
-  loan_fits : (s : State CodeProcess) → Good whole annotated s → (p r : ℕ) → p < length whole.processes → r < length
+  loan_fits : (s : State CodeProcess) → Good whole faultless s → (p r : ℕ) → p < length whole.processes → r < length
       whole.capital → cell s.loans p r ≤ cell whole.claims p r
   loan_fits s good p r u v =
       let code = get_some whole.processes p u in
       let n = good.count in
       let state = get_some s.processes p (omega (arith, u, n)) in
-      let ok = checked whole annotated p code.0 code.1 in
+      let ok = checked whole faultless p code.0 code.1 in
       let at_p = good.loans p code.0 state.0 code.1 state.1 r in
       let fit = good.fit p code.0 state.0 code.1 state.1 in
-      let w = annotated OverClaim p r code.0 code.1 v ok.held ok.holdings in
+      let w = faultless OverClaim p r code.0 code.1 v ok.held ok.holdings in
       let most = under_peak code.0 ok (thread state.0.threads) fit.order r w.0 w.1 in
       let c = w.2 in
       omega (arith, at_p, most, c)
 
   -- what is lent in all is within the capital, and a finishing order exists
   pub record Kept (s : State CodeProcess) : Type 0 where
-    pub good : Good whole annotated s
+    pub good : Good whole faultless s
     pub lent : (r : ℕ) → r < length whole.capital → held_by (bank_at s.loans) (everyone (bank_at s.loans)) r ≤ capital (bank_at s.loans) r
     pub safe : IsSafe (bank_at s.loans)
 
@@ -109,7 +109,7 @@ module _ (whole : Code) (annotated : IsAnnotated whole) where
         claim_width = λ p u. limits.width p [] u;
         loan_width = λ p u. kept.good.rows p (omega (arith, u, rows));
         small = λ r u. limits.capital r 0 u;
-        claims_fit = λ p r u v. annotated OverCapital p r (omega (arith, u, rows)) v;
+        claims_fit = λ p r u v. faultless OverCapital p r (omega (arith, u, rows)) v;
         loans_fit = λ p r u v. loan_fits s kept.good p r (omega (arith, u, rows)) v;
         lent = kept.lent;
       }
@@ -184,15 +184,15 @@ module _ (whole : Code) (annotated : IsAnnotated whole) where
   pub kept_next : (s : State CodeProcess) (pick : Pick) (move : Move CodeProcess) → Kept s → CodeMove whole.processes
       s pick move → IsGranted (bank_of whole) s.loans pick.process move.effect → Kept move.next
   kept_next s pick move kept m granted =
-      let good = good_next whole annotated s pick move kept.good m in
+      let good = good_next whole faultless s pick move kept.good m in
       let u = slice_get_within whole.processes pick.process m.code m.at in
       let loans : loans_after s.loans pick.process m.effect ≡ move.next.loans = ap (λ (x : Move CodeProcess). x.next.loans) m.is in
-      let turn = turned m.code (checked whole annotated pick.process m.code m.at) m.before m.after pick.arm m.effect
+      let turn = turned m.code (checked whole faultless pick.process m.code m.at) m.before m.after pick.arm m.effect
       (kept.good.fit pick.process m.code m.before m.at m.here) m.steps in
       let b =
       banked s pick.process m.effect kept u (subst (IsGranted (bank_of whole) s.loans pick.process) (sym (ap (λ (x :
       Move CodeProcess). x.effect) m.is)) granted)
-      (bundles_small whole annotated pick.process m.code m.at (thread m.before.threads) (thread m.after.threads) pick.arm m.effect turn.turn)
+      (bundles_small whole faultless pick.process m.code m.at (thread m.before.threads) (thread m.after.threads) pick.arm m.effect turn.turn)
       (λ r x. subst (λ (t : Table). cell t pick.process r ≤ cell whole.claims pick.process r) (sym loans) (loan_fits move.next good pick.process r u x))
       in
       record {
@@ -213,7 +213,7 @@ module _ (whole : Code) (annotated : IsAnnotated whole) where
       in
       let rows = limits.rows in
       record {
-        good = good_start whole annotated;
+        good = good_start whole faultless;
         lent = λ r u. let z = none r in omega (arith, z);
         safe = (
           everyone (bank_at s.loans),
@@ -223,7 +223,7 @@ module _ (whole : Code) (annotated : IsAnnotated whole) where
               each = λ r v.
                   let p : ℕ = get_or (everyone (bank_at s.loans)) k 0 in
                   let below : p < 0 + length whole.claims = range_below 0 (length whole.claims) k 0 u in
-                  let c : cell whole.claims p r ≤ get_or whole.capital r 0 = annotated OverCapital p r (omega (arith, below, rows)) v in
+                  let c : cell whole.claims p r ≤ get_or whole.capital r 0 = faultless OverCapital p r (omega (arith, below, rows)) v in
                   let z = none r in
                   omega (arith, c, z);
             };
@@ -242,9 +242,9 @@ module _ (whole : Code) (annotated : IsAnnotated whole) where
 
   -- ---- requests, and going on
 
-  pub asks_within_claims : (s : State CodeProcess) → Good whole annotated s → AsksWithin whole s
+  pub asks_within_claims : (s : State CodeProcess) → Good whole faultless s → AsksWithin whole s
   asks_within_claims s good pick move bundle enabled takes = λ k d u.
-      let a = asks_within whole annotated s good pick move bundle enabled takes (get_or bundle k d).resource in
+      let a = asks_within whole faultless s good pick move bundle enabled takes (get_or bundle k d).resource in
       let b = pair_in bundle k d u in
       omega (arith, a, b)
 
@@ -258,7 +258,7 @@ module _ (whole : Code) (annotated : IsAnnotated whole) where
         let n = kept.good.count in
         let code = get_some whole.processes p u in
         let state = get_some s.processes p (omega (arith, u, n)) in
-        let ok = checked whole annotated p code.0 code.1 in
+        let ok = checked whole faultless p code.0 code.1 in
         kept.good.loans p code.0 state.0 code.1 state.1 r ∙ holds_none code.0 ok (thread state.0.threads) r (none_live
         code.0 ok state.0 (kept.good.fit p code.0 state.0 code.1 state.1) (over state.0 state.1))
 
@@ -312,7 +312,7 @@ module _ (whole : Code) (annotated : IsAnnotated whole) where
         let n = kept.good.count in
         let u = slice_get_within s.processes next.p next.process next.here in
         let code = get_some whole.processes next.p (omega (arith, u, n)) in
-        let ok = checked whole annotated next.p code.0 code.1 in
+        let ok = checked whole faultless next.p code.0 code.1 in
         let fit = kept.good.fit next.p code.0 next.process code.1 next.here in
         let w = can_step code.0 ok next.process fit next.going in
         let pick : Pick = record { process = next.p; arm = w.0 } in
@@ -330,9 +330,9 @@ module _ (whole : Code) (annotated : IsAnnotated whole) where
             }) (after, effect)) → (bundle : Bundle) → effect ≡ Takes bundle
             → IsAllowed (bank_at s.loans) next.p bundle
         takes code at a after effect steps enabled bundle e =
-            let turn = turned code (checked whole annotated next.p code at) next.process after a effect (kept.good.fit
+            let turn = turned code (checked whole faultless next.p code at) next.process after a effect (kept.good.fit
             next.p code next.process at next.here) steps in
-            let b = bundles_small whole annotated next.p code at (thread next.process.threads) (thread after.threads) a effect turn.turn bundle (inl e) in
+            let b = bundles_small whole faultless next.p code at (thread next.process.threads) (thread after.threads) a effect turn.turn bundle (inl e) in
             let finishes : Finishes (bank_at s.loans) (next.before ++ next.p ∷ next.after) = subst (Finishes (bank_at s.loans)) next.split kept.safe.1 in
             let rows = limits.rows in
             first_borrower_may_ask (bank_at s.loans) (well_formed s kept) next.before next.p next.after finishes

@@ -18,7 +18,7 @@ use Rattle.pb_verifier.specs.Limits.{KeepsLimits}
 use Rattle.pb_verifier.specs.Faults.{ClaimsFitCapital, IsInRange, HasArms, HasForks, AreDepths, AreHoldings}
 use Rattle.pb_verifier.specs.Faults.{EndsClear, PeakFits}
 use Rattle.pb_verifier.specs.Process.{IsEarlier, IsFirstOfProcess, IsProcessFreeOf, IsSoundProcess}
-use Rattle.pb_verifier.specs.Verified.{AreArmDepths, IsAnnotated, IsFreeOf, IsRefusedFor, turn_of}
+use Rattle.pb_verifier.specs.Verified.{AreArmDepths, IsFaultless, IsFreeOf, IsRefusedFor, turn_of}
 use Rattle.pb_code.proofs.ListElements.{each_more}
 
 -- a process free of each fault whose turn is before n
@@ -189,7 +189,7 @@ module _ (code : Code) where
           subst (λ (k : ℕ). IsProcessFreeOf k (cell code.claims p) process other) wide (h.earlier p process (omega arith) at other v)),
     )
 
-    pub annotated_all : (n : ℕ) (rows : List (List ℕ)) → length code.processes ≤ n → AreSound code n rows → IsAnnotated code
+    pub annotated_all : (n : ℕ) (rows : List (List ℕ)) → length code.processes ≤ n → AreSound code n rows → IsFaultless code
     annotated_all n rows u h fault =
         free_of_all fault (λ p process at.
         let w : p < length code.processes = slice_get_within code.processes p process at in

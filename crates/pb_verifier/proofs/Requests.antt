@@ -22,7 +22,7 @@ use Rattle.pb_code.specs.Whole.{Code, bank_of}
 use Rattle.pb_verifier.specs.Limits.{IsSmallBundle}
 use Rattle.pb_verifier.specs.Places.{InstrAt}
 use Rattle.pb_verifier.specs.Requests.{IsDenied, frees, RefusedStays, RefusedStops}
-use Rattle.pb_verifier.specs.Verified.{IsAnnotated}
+use Rattle.pb_verifier.specs.Verified.{IsFaultless}
 use Rattle.pb_verifier.specs.declared.fault.VerifyFault.TheVariants.{OutOfLimits}
 use Rattle.pb_verifier.proofs.LoansWithinClaims.{Kept, kept_next, kept_reached, well_formed}
 use Rattle.pb_verifier.proofs.ArmPlaces.{Checked}
@@ -165,7 +165,7 @@ slice_set_here (z ∷ xs) (suc i) x y h = slice_set_here xs i x y h
 no_fault : (pick : Pick) (effect : Effect) → frees (event_of pick effect) ≡ false → (kind : FaultKind) → effect ≡ Faults kind → ⊥
 no_fault pick effect h kind e = let z : true ≡ false = ap (λ x. frees (event_of pick x)) (sym e) ∙ h in cc
 
-module _ (whole : Code) (annotated : IsAnnotated whole) where
+module _ (whole : Code) (faultless : IsFaultless whole) where
   pub refused_stops : RefusedStops whole
   refused_stops s next pick event refused moves =
       let both : Some refused.move ≡ Some (record { next = next; effect = moves.0 }) = sym refused.asks ∙ moves.1 in
@@ -174,7 +174,7 @@ module _ (whole : Code) (annotated : IsAnnotated whole) where
       refused.not_allowed (subst (IsGranted (bank_of whole) s.loans pick.process) effect moves.2)
 
   -- no loan falls in a step that frees nothing
-  loans_rise : (s : State CodeProcess) → Kept whole annotated s → (p : ℕ) → p < length whole.processes → (effect :
+  loans_rise : (s : State CodeProcess) → Kept whole faultless s → (p : ℕ) → p < length whole.processes → (effect :
       Effect) (pick : Pick) → frees (event_of pick effect) ≡ false
       → ((bundle : Bundle) → effect ≡ Takes bundle → All (λ pair. pair.resource < length whole.capital) bundle)
       → HasFewerLoans (banker_state (bank_of whole) s.loans) (banker_state (bank_of whole) (loans_after s.loans p effect))
@@ -186,9 +186,9 @@ module _ (whole : Code) (annotated : IsAnnotated whole) where
     less = λ q r lq lr. ⊎_elim
         (λ e.
         let bank : BankerState = banker_state (bank_of whole) s.loans in
-        let rows = (annotated OutOfLimits).rows in
+        let rows = (faultless OutOfLimits).rows in
         let here : loan bank p r ≤ loan (with_loan bank p bundle) p r =
-        (let x = loan-with_loan bank p bundle r (well_formed whole annotated s kept) (omega (arith, u, rows)) (below bundle refl) in omega (arith, x)) in
+        (let x = loan-with_loan bank p bundle r (well_formed whole faultless s kept) (omega (arith, u, rows)) (below bundle refl) in omega (arith, x)) in
         subst (λ (k : ℕ). loan bank k r ≤ loan (with_loan bank p bundle) k r) (sym e) here)
         (λ ne. let x = loan-with_loan_other (banker_state (bank_of whole) s.loans) p bundle q r ne in omega (arith, x))
         (same_or_not q p);
@@ -200,11 +200,11 @@ module _ (whole : Code) (annotated : IsAnnotated whole) where
   pub refused_stays : RefusedStays whole
   refused_stays s next pick refused event reached moves free r =
       let move : Move CodeProcess = record { next = next; effect = moves.0 } in
-      let kept = kept_reached whole annotated s reached in
+      let kept = kept_reached whole faultless s reached in
       let m = code_move whole.processes s pick move moves.1 in
       let w = code_move whole.processes s refused r.move r.asks in
-      let ok = checked whole annotated pick.process m.code m.at in
-      let ok' = checked whole annotated refused.process w.code w.at in
+      let ok = checked whole faultless pick.process m.code m.at in
+      let ok' = checked whole faultless refused.process w.code w.at in
       let fit = kept.good.fit pick.process m.code m.before m.at m.here in
       let fit' = kept.good.fit refused.process w.code w.before w.at w.here in
       let turn = turned m.code ok m.before m.after pick.arm m.effect fit m.steps in
@@ -217,13 +217,13 @@ module _ (whole : Code) (annotated : IsAnnotated whole) where
       let loans : loans_after s.loans pick.process m.effect ≡ next.loans = ap (λ (x : Move CodeProcess). x.next.loans) m.is in
       let there = slice_get_within whole.processes pick.process m.code m.at in
       let there' = slice_get_within whole.processes refused.process w.code w.at in
-      let rows = (annotated OutOfLimits).rows in
-      let bundle = bundles_small whole annotated refused.process w.code w.at (thread w.before.threads) (thread
+      let rows = (faultless OutOfLimits).rows in
+      let bundle = bundles_small whole faultless refused.process w.code w.at (thread w.before.threads) (thread
       w.after.threads) refused.arm w.effect turn'.turn r.bundle (inl asks) in
       let rise = subst (λ (t : Table). HasFewerLoans (banker_state (bank_of whole) s.loans) (banker_state (bank_of whole) t)) loans
       (loans_rise s kept pick.process there m.effect pick quiet (λ b e.
-      (bundles_small whole annotated pick.process m.code m.at (thread m.before.threads) (thread m.after.threads) pick.arm m.effect turn.turn b (inl e)).1)) in
-      let kept' = kept_next whole annotated s pick move kept m moves.2 in
+      (bundles_small whole faultless pick.process m.code m.at (thread m.before.threads) (thread m.after.threads) pick.arm m.effect turn.turn b (inl e)).1)) in
+      let kept' = kept_next whole faultless s pick move kept m moves.2 in
       let still : (move : Move CodeProcess) × (move_of (code_step whole.processes) next refused ≡ Some move) × (move.effect ≡ Takes r.bundle) = ⊎_elim
       (λ e. ⊎_elim
       (λ a. elim (refused_stops s next pick event (subst (IsDenied whole s) (same_pick refused pick e a) r) moves) [ ])
@@ -250,6 +250,6 @@ module _ (whole : Code) (annotated : IsAnnotated whole) where
         asks = still.1;
         takes = still.2;
         not_allowed = λ allowed. r.not_allowed (less_allowed (banker_state (bank_of whole) s.loans) (banker_state (bank_of whole) next.loans)
-            (well_formed whole annotated next kept') (well_formed whole annotated s kept) rise refused.process (omega
+            (well_formed whole faultless next kept') (well_formed whole faultless s kept) rise refused.process (omega
             (arith, there', rows)) r.bundle bundle.0 bundle.1 allowed);
       }

@@ -4,30 +4,30 @@ use Rattle.pb_code.specs.Whole.{Code}
 use Rattle.pb_verifier.specs.declared.fault.VerifyFault.TheVariants.{OutOfLimits, WrongArms, WrongForks}
 use Rattle.pb_verifier.specs.Behaviour.{IsWellBehaved, PeaksDecide}
 use Rattle.pb_verifier.specs.Faults.{HasArms, HasForks, TurnsDepth, TurnsHoldings, in_holdings}
-use Rattle.pb_verifier.specs.Verified.{IsAnnotated}
+use Rattle.pb_verifier.specs.Verified.{IsFaultless}
 use Rattle.pb_verifier.proofs.LoansWithinClaims.{asks_within_claims, ends_or_goes_on, kept_reached, not_deadlocked}
 use Rattle.pb_verifier.proofs.LoansWithinClaims.{well_formed}
 use Rattle.pb_verifier.proofs.LiveSteps.{can_step}
 use Rattle.pb_verifier.proofs.UniqueFacts.{least, one_depth, one_holdings, spread_once}
 use Rattle.pb_verifier.proofs.States.{checked, passes_tests}
 
-pub behaved : (code : Code) → IsAnnotated code → IsWellBehaved code
-behaved code annotated = record {
-  passes_tests = λ s reached. passes_tests code annotated s (kept_reached code annotated s reached).good;
+pub behaved : (code : Code) → IsFaultless code → IsWellBehaved code
+behaved code faultless = record {
+  passes_tests = λ s reached. passes_tests code faultless s (kept_reached code faultless s reached).good;
   stacks_have_their_depth = λ s reached p a place stack process state at here live.
-      let ok = checked code annotated p process at in
-      let stands = ((kept_reached code annotated s reached).good.fit p process state at here).order.stands a place stack live in (
+      let ok = checked code faultless p process at in
+      let stands = ((kept_reached code faultless s reached).good.fit p process state at here).order.stands a place stack live in (
         stands.0,
         stands.1,
         λ depth depths. stands.2 ∙ spread_once process TurnsDepth 0 ok.depth depth one_depth ok.depths depths place stands.1,
       );
-  asks_within = λ s reached. asks_within_claims code annotated s (kept_reached code annotated s reached).good;
-  well_formed = λ s reached. well_formed code annotated s (kept_reached code annotated s reached);
-  safe = λ s reached. (kept_reached code annotated s reached).safe;
+  asks_within = λ s reached. asks_within_claims code faultless s (kept_reached code faultless s reached).good;
+  well_formed = λ s reached. well_formed code faultless s (kept_reached code faultless s reached);
+  safe = λ s reached. (kept_reached code faultless s reached).safe;
   some_arm_steps = λ s reached p process state at here going.
-      can_step process (checked code annotated p process at) state ((kept_reached code annotated s reached).good.fit p process state at here) going;
-  ends_or_goes_on = λ s reached. ends_or_goes_on code annotated s (kept_reached code annotated s reached);
-  not_deadlocked = λ s reached. not_deadlocked code annotated s (kept_reached code annotated s reached);
+      can_step process (checked code faultless p process at) state ((kept_reached code faultless s reached).good.fit p process state at here) going;
+  ends_or_goes_on = λ s reached. ends_or_goes_on code faultless s (kept_reached code faultless s reached);
+  not_deadlocked = λ s reached. not_deadlocked code faultless s (kept_reached code faultless s reached);
 }
 
 pub peaks_decide : (code : Code) → PeaksDecide code

@@ -1,4 +1,4 @@
--- Whatever the picks, the processes of annotated code fit it, and their loans are what their arms hold.
+-- Whatever the picks, the processes of faultless code fit it, and their loans are what their arms hold.
 use Rattle.std.proofs.Common.{◌≡◌, ◌≢◌, ◌⊎◌, inl, inr, ⊎_elim, ℕ, zero, suc, ◌+◌, ◌<◌, ◌≤◌, List, [], ◌∷◌, length}
 use Rattle.std.proofs.Common.{get_or, set, map, replicate, Option, Some, None, option_map, option_and_then, refl, sym}
 use Rattle.std.proofs.Common.{ap, ◌∙◌, subst, arith, length-set, get_or-set_same, get_or-set_other}
@@ -25,7 +25,7 @@ use Rattle.pb_verifier.specs.Limits.{IsSmallBundle}
 use Rattle.pb_verifier.specs.Behaviour.{HasPlace, MeetsWhatItNeeds, PassesTests}
 use Rattle.pb_verifier.specs.Places.{InstrAt, IsInArm, Follows}
 use Rattle.pb_verifier.specs.Faults.{in_holdings}
-use Rattle.pb_verifier.specs.Verified.{IsAnnotated}
+use Rattle.pb_verifier.specs.Verified.{IsFaultless}
 use Rattle.pb_verifier.specs.declared.fault.VerifyFault.TheVariants.{OutOfLimits, OutOfRange, WrongArms, WrongForks}
 use Rattle.pb_verifier.specs.declared.fault.VerifyFault.TheVariants.{NoDepths, NoHoldings, LeftAtEnd, OverClaim}
 use Rattle.pb_verifier.proofs.Threads.{taken, given}
@@ -149,20 +149,20 @@ length-loans_after loans p (Returns bundle) = length-set loans p _
 length-loans_after loans p (Faults kind) = length-set loans p _
 length-loans_after loans p Finishes = refl
 
-module _ (whole : Code) (annotated : IsAnnotated whole) where
+module _ (whole : Code) (faultless : IsFaultless whole) where
   abbrev codes : List ProcessCode
   codes = whole.processes
 
   abbrev pub checked : (p : ℕ) (code : ProcessCode) → slice_get codes p ≡ Some code → Checked code
   checked p code at = record {
-    some = ((annotated OutOfLimits).each p code at).some_arms.0;
-    lie = annotated WrongArms p code at;
-    fork = annotated WrongForks p code at;
-    depth = (annotated NoDepths p code at).0;
-    depths = (annotated NoDepths p code at).1;
-    held = (annotated NoHoldings p code at).0;
-    holdings = (annotated NoHoldings p code at).1;
-    clear = annotated LeftAtEnd p code at;
+    some = ((faultless OutOfLimits).each p code at).some_arms.0;
+    lie = faultless WrongArms p code at;
+    fork = faultless WrongForks p code at;
+    depth = (faultless NoDepths p code at).0;
+    depths = (faultless NoDepths p code at).1;
+    held = (faultless NoHoldings p code at).0;
+    holdings = (faultless NoHoldings p code at).1;
+    clear = faultless LeftAtEnd p code at;
   }
 
   pub record Good (s : State CodeProcess) : Type 0 where
@@ -179,9 +179,9 @@ module _ (whole : Code) (annotated : IsAnnotated whole) where
       (effect : Effect) → Turn code (checked p code at) T T' a effect
       → (bundle : Bundle) → (effect ≡ Takes bundle) ⊎ (effect ≡ Returns bundle) → AllBelow (length whole.capital) bundle
   bundles_below p code at T T' a effect (runs q s i q' t live instr plain f now len others balance sound takes) bundle (inl e) =
-      (annotated OutOfRange p code at q (Take bundle) (instr ∙ ap Some ((takes bundle).0 e)))
+      (faultless OutOfRange p code at q (Take bundle) (instr ∙ ap Some ((takes bundle).0 e)))
   bundles_below p code at T T' a effect (runs q s i q' t live instr plain f now len others balance sound takes) bundle (inr e) =
-      (annotated OutOfRange p code at q (Give bundle) (instr ∙ ap Some ((takes bundle).1 e)))
+      (faultless OutOfRange p code at q (Give bundle) (instr ∙ ap Some ((takes bundle).1 e)))
   bundles_below p code at T T' a effect (traps kind e all) bundle (inl g) = let z : Faults kind ≡ Takes bundle = sym e ∙ g in cc
   bundles_below p code at T T' a effect (traps kind e all) bundle (inr g) = let z : Faults kind ≡ Returns bundle = sym e ∙ g in cc
   bundles_below p code at T T' a effect (forks q s first count live fork now len same launched others e l u) bundle
@@ -210,9 +210,9 @@ module _ (whole : Code) (annotated : IsAnnotated whole) where
   bundles_small p code at T T' a effect turn bundle e = (small turn bundle e, bundles_below p code at T T' a effect turn bundle e)
     where
       small : Turn code (checked p code at) T T' a effect → (bundle : Bundle) → (effect ≡ Takes bundle) ⊎ (effect ≡ Returns bundle) → IsSmallBundle bundle
-      small (runs q s i q' t live instr plain f now len others balance sound takes) bundle (inl e) = ((annotated
+      small (runs q s i q' t live instr plain f now len others balance sound takes) bundle (inl e) = ((faultless
           OutOfLimits).each p code at).numbers q (Take bundle) (instr ∙ ap Some ((takes bundle).0 e))
-      small (runs q s i q' t live instr plain f now len others balance sound takes) bundle (inr e) = ((annotated
+      small (runs q s i q' t live instr plain f now len others balance sound takes) bundle (inr e) = ((faultless
           OutOfLimits).each p code at).numbers q (Give bundle) (instr ∙ ap Some ((takes bundle).1 e))
       small (traps kind e all) bundle (inl g) = let z : Faults kind ≡ Takes bundle = sym e ∙ g in cc
       small (traps kind e all) bundle (inr g) = let z : Faults kind ≡ Returns bundle = sym e ∙ g in cc
@@ -344,7 +344,7 @@ module _ (whole : Code) (annotated : IsAnnotated whole) where
           let within = slice_get_within codes pick.process m.code m.at in
           ⊎_elim
           (λ l.
-          let w = annotated OverClaim pick.process r m.code m.at l ok.held ok.holdings in
+          let w = faultless OverClaim pick.process r m.code m.at l ok.held ok.holdings in
           let most = under_peak m.code ok (thread m.after.threads) order' r w.0 w.1 in
           let c = w.2 in
           omega (arith, here, g, t, loan, most, c))
@@ -381,17 +381,17 @@ module _ (whole : Code) (annotated : IsAnnotated whole) where
 
           go : (i : Instr) → InstrAt code place i → MeetsWhatItNeeds (length whole.capital) code s.loans p process place i
           go (Push v) instr = next (Push v) (place + 1) instr refl
-          go (Load x) instr = (next (Load x) (place + 1) instr refl, var (Load x) x instr (annotated OutOfRange p code at place (Load x) instr))
-          go (Store x) instr = (next (Store x) (place + 1) instr refl, var (Store x) x instr (annotated OutOfRange p code at place (Store x) instr))
+          go (Load x) instr = (next (Load x) (place + 1) instr refl, var (Load x) x instr (faultless OutOfRange p code at place (Load x) instr))
+          go (Store x) instr = (next (Store x) (place + 1) instr refl, var (Store x) x instr (faultless OutOfRange p code at place (Store x) instr))
           go (Compute1 op) instr = next (Compute1 op) (place + 1) instr refl
           go (Compute2 op) instr = next (Compute2 op) (place + 1) instr refl
           go (Jump t) instr = next (Jump t) t instr refl
           go (JumpIfZero t) instr = (next (JumpIfZero t) (place + 1) instr (inr refl), next (JumpIfZero t) t instr (inl refl))
           go PrintTop instr = next PrintTop (place + 1) instr refl
-          go (Take bundle) instr = (next (Take bundle) (place + 1) instr refl, annotated OutOfRange p code at place (Take bundle) instr)
+          go (Take bundle) instr = (next (Take bundle) (place + 1) instr refl, faultless OutOfRange p code at place (Take bundle) instr)
           go (Give bundle) instr = (
             next (Give bundle) (place + 1) instr refl,
-            annotated OutOfRange p code at place (Give bundle) instr,
+            faultless OutOfRange p code at place (Give bundle) instr,
             λ r.
                 let order = (good.fit p code process at here).order in
                 let h = held_next code (checked p code at) (Give bundle) place (place + 1) (order.stands a place stack live).1 instr refl in

@@ -42,8 +42,8 @@ turn_of OverClaim = 8
 turn_of NoMemory = 9
 
 -- none of the faults
-abbrev pub IsAnnotated : Code → Type 0
-IsAnnotated code = (fault : VerifyFault) → IsFreeOf fault code
+abbrev pub IsFaultless : Code → Type 0
+IsFaultless code = (fault : VerifyFault) → IsFreeOf fault code
 
 -- this fault is there, and none that is looked for before it
 abbrev pub IsFirstFault : Code → VerifyFault → Type 0
@@ -91,6 +91,6 @@ pub record AreArmDepths (processes : List ProcessCode) (depths : List (List ℕ)
       → IsDepthOf process a (slice_index (slice_index_or depths p []) a)
 
 pub record IsVerified (v : VerifiedCode) : Type 0 where
-  pub annotated : IsAnnotated v.code
+  pub faultless : IsFaultless v.code
   pub pushes : PushesFit v.code
   pub depths : AreArmDepths v.code.processes v.depths

@@ -12,8 +12,7 @@ ghost use Rattle.pb_verifier.specs.Spread.{IsTableOf, fact_at, notes_of};
 use crate::facts::{Fact, spread};
 use crate::places::{instr_at, places};
 use pb_base::{NoMemory, Pair};
-use pb_code::bundles::{pair_at, pairs};
-use pb_code::{Instr, ProcessCode};
+use pb_code::{Instr, ProcessCode, pair_at, pairs};
 use std::alloc::Global;
 
 /// The most of a resource that one arm holds: 256 bundles of 1,000,000 each.

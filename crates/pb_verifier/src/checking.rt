@@ -5,7 +5,7 @@ ghost use Rattle.pb_code.specs.View.{code_view};
 ghost use Rattle.pb_verifier.specs.Limits.{KeepsLimits, PushesFit};
 ghost use Rattle.pb_verifier.specs.Faults.{ClaimsFitCapital};
 ghost use Rattle.pb_verifier.specs.Process.{IsEarlier};
-ghost use Rattle.pb_verifier.specs.Verified.{AreArmDepths, HasPeaksWithin, IsAnnotated, IsRefusedFor, SomePeakIsOver, turn_of};
+ghost use Rattle.pb_verifier.specs.Verified.{AreArmDepths, HasPeaksWithin, IsFaultless, IsRefusedFor, SomePeakIsOver, turn_of};
 
 use crate::fault::VerifyFault;
 use crate::limits::keeps_limits;
@@ -42,7 +42,7 @@ fn is_memory(fault: VerifyFault) -> bool
 
 /// Returns the greatest depth of each arm of each process, or the first fault.
 fn check(alloc: Global, code: &Code) -> Result<Vec<Vec<u16>>, VerifyFault>
-    ensures annotated { IfOk result (λ _. IsAnnotated (code_view code.now)) }
+    ensures faultless { IfOk result (λ _. IsFaultless (code_view code.now)) }
     ensures pushes { IfOk result (λ _. PushesFit (code_view code.now)) }
     ensures depths { IfOk result (λ depths.
         AreArmDepths (code_view code.now).processes (map (λ row. row.items) depths.items)) }
@@ -88,7 +88,7 @@ fn check(alloc: Global, code: &Code) -> Result<Vec<Vec<u16>>, VerifyFault>
 /// size of the code is by construction, and not proved.)
 pub fn verify(alloc: Global, code: Code) -> Result<Verified, (Code, VerifyFault)>
     ensures code { IfOk result (λ verified. verified.code ≡ code_view code) }
-    ensures annotated { IfOk result (λ verified. IsAnnotated verified.code) }
+    ensures faultless { IfOk result (λ verified. IsFaultless verified.code) }
     ensures peaks { IfOk result (λ verified. HasPeaksWithin verified.code) }
     ensures depths { IfOk result (λ verified. AreArmDepths verified.code.processes verified.depths) }
     ensures handed_back { IfErr result (λ refusal. refusal.0 ≡ code) }

@@ -14,8 +14,7 @@ ghost use Rattle.pb_verifier.specs.Holdings.{CanBeRead, IsChain, held, held_bund
 use crate::facts::{Fact, spread};
 use pb_base::NoMemory;
 use pb_base::limits::MAX_HOLDS;
-use pb_code::bundles::{pair_at, pairs};
-use pb_code::{Instr, ProcessCode};
+use pb_code::{Instr, ProcessCode, pair_at, pairs};
 use std::alloc::Global;
 
 /// A list of bundles: how many there are, and where the last was taken.

@@ -4,7 +4,7 @@ ghost use Rattle.pb_code.specs.Limits.{KeepsLimits, PushesFit};
 ghost use Rattle.pb_code.specs.Whole.{Code};
 ghost use Rattle.pb_verifier.specs.Behaviour.{IsWellBehaved, PeaksDecide, PeaksExist};
 ghost use Rattle.pb_verifier.specs.Requests.{RefusedStays, RefusedStops};
-ghost use Rattle.pb_verifier.specs.Verified.{IsAnnotated, IsVerified, VerifiedCode};
+ghost use Rattle.pb_verifier.specs.Verified.{IsFaultless, IsVerified, VerifiedCode};
 
 /// Verified code, from wherever it comes, in every state that it reaches: no instruction meets a missing
 /// operand, a place, integer, resource or arm that is not there, a give of what is not held, or a fork of an
@@ -12,7 +12,7 @@ ghost use Rattle.pb_verifier.specs.Verified.{IsAnnotated, IsVerified, VerifiedCo
 /// each loan is within its claim and all loans together within the capital; the loans are safe; and if not
 /// all has ended, some pick is enabled.
 pub fn verified_code_is_well_behaved()
-    ensures { (code : Code) → IsAnnotated code → IsWellBehaved code }
+    ensures { (code : Code) → IsFaultless code → IsWellBehaved code }
 {}
 
 /// The peak of arm 0 is within a claim exactly if the greatest amount that it holds is.
@@ -35,6 +35,6 @@ pub fn verified_code_keeps_the_limits()
 /// In verified code an arm that was refused cannot be picked, and stays refused until loans come back, by a
 /// return or a fault: a grant to anyone makes nothing allowed that was not.
 pub fn refused_requests_stay_refused()
-    ensures stops { (code : Code) → IsAnnotated code → RefusedStops code }
-    ensures stays { (code : Code) → IsAnnotated code → RefusedStays code }
+    ensures stops { (code : Code) → IsFaultless code → RefusedStops code }
+    ensures stays { (code : Code) → IsFaultless code → RefusedStays code }
 {}

@@ -8,7 +8,7 @@ mod deepest;
 mod depths;
 mod ends;
 mod facts;
-pub mod fault;
+mod fault;
 mod forks;
 mod holdings;
 pub mod laws;
@@ -18,7 +18,7 @@ mod places;
 mod process;
 mod range;
 mod reach;
-pub mod verified;
+mod verified;
 
 pub use checking::verify;
 pub use fault::VerifyFault;

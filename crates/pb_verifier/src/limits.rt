@@ -16,8 +16,7 @@ use pb_base::Claims;
 use pb_base::limits::{
     MAX_AMOUNT, MAX_ARMS, MAX_FORK, MAX_INTEGERS, MAX_PLACES, MAX_PROCESSES, MAX_RESOURCES,
 };
-use pb_code::bundles::{pair_at, pairs};
-use pb_code::{Code, Instr, ProcessCode, is_name};
+use pb_code::{Code, Instr, ProcessCode, is_name, pair_at, pairs};
 
 /// Returns whether a name differs from all after it.
 fn is_new(names: &[Vec<u8>], k: usize) -> bool

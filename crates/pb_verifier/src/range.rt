@@ -9,8 +9,7 @@ ghost use Rattle.pb_verifier.specs.Given.{plain};
 ghost use Rattle.pb_verifier.specs.Limits.{KeepsLimits};
 
 use crate::places::{instr_at, places};
-use pb_code::bundles::{pair_at, pairs};
-use pb_code::{Code, Instr, ProcessCode};
+use pb_code::{Code, Instr, ProcessCode, pair_at, pairs};
 
 /// Returns whether no claim of a process is over its capital.
 fn fits_capital(code: &Code, p: usize) -> bool

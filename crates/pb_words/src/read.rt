@@ -23,10 +23,9 @@ use clap::{ArgMatches, Error};
 use pb_base::limits::{MAX_PICKS, MAX_QUANTUM, MAX_STATES, MAX_WORKERS};
 use pb_command_line::command_line::command_line;
 use pb_object::Format;
-use pb_options::options::{MAX_HEAP, MAX_ROWS, MIN_HEAP};
 use pb_options::{
-    CheckOptions, Code, DebugOptions, DrawOptions, EmitOptions, Lend, OutcomesOptions,
-    RecordOptions, ReplayOptions, RunOptions, StatesOptions,
+    CheckOptions, Code, DebugOptions, DrawOptions, EmitOptions, Lend, MAX_HEAP, MAX_ROWS, MIN_HEAP,
+    OutcomesOptions, RecordOptions, ReplayOptions, RunOptions, StatesOptions,
 };
 use std::alloc::{AllocError, Global};
 

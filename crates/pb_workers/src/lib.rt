@@ -1,11 +1,11 @@
 //! Worker threads that run one program.
 #![tactic(auto)]
 
-pub mod fault;
-pub mod gate;
+mod fault;
+mod gate;
 mod met;
-pub mod report;
-pub mod running;
+mod report;
+mod running;
 mod work;
 
 pub use fault::RunFault;

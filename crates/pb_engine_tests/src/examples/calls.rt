@@ -1,7 +1,7 @@
 //! Calls of the program's commands on an example.
 
 use pb_bank_engine::bank_engine;
-use pb_base::device::{MemoryInput, MemoryOutput};
+use pb_base::{MemoryInput, MemoryOutput};
 use pb_command_io::Status;
 use pb_engines::{
     CheckOptions, EmitOptions, Lend, RecordOptions, ReplayOptions, RunOptions, check_engine,

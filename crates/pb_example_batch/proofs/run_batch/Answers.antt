@@ -9,7 +9,7 @@ use Rattle.pb_example_batch.proofs.run_batch.Goals as goal
 pub results-requires : goal.results-requires
 results-requires g c =
     let given = c.code.result.now in
-    let few = (c.code.ensures.verified.annotated OutOfLimits).some_processes.1 in
+    let few = (c.code.ensures.verified.faultless OutOfLimits).some_processes.1 in
     let same = ap (λ (code : Code). length code.processes) c.code.ensures.code in
     let count = length-map given.processes.items process_view in
     omega (arith, few, same, count, c.len-jobs.ensures, given.processes.ok.0)

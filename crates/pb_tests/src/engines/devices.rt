@@ -2,7 +2,7 @@
 
 use crate::calls::{CHECK, Call, make};
 use crate::objects::FIRST;
-use pb_base::device::{FaultyInput, MemoryInput, MemoryOutput};
+use pb_base::{FaultyInput, MemoryInput, MemoryOutput};
 use pb_command_io::Status;
 use pb_engines::RunOptions;
 use pb_example_texts::first::HELLO;

@@ -1,6 +1,6 @@
 //! Text that is said, and when it is written.
 
-use pb_base::device::MemoryOutput;
+use pb_base::MemoryOutput;
 use pb_command_io::{Page, Status};
 use std::alloc::Global;
 

@@ -2,7 +2,7 @@
 
 use crate::calls::{Call, Case, Given, THOUSAND, first_wrong, make, writes};
 use crate::texts::{FAULT, INCREMENTS, NESTED};
-use pb_base::device::{MemoryInput, MemoryOutput};
+use pb_base::{MemoryInput, MemoryOutput};
 use pb_command_io::Status;
 use pb_engines::RunOptions;
 use pb_example_texts::first::{DEVICES, HELLO, LOST, LOST_RUN};

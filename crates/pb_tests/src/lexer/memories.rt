@@ -2,9 +2,7 @@
 
 use crate::texts::repeated;
 use linked_list_allocator::LocalHeap;
-use pb_lexer::error::LexFault;
-use pb_lexer::lexer::lex;
-use pb_lexer::token::{Kind, Mark, Token};
+use pb_lexer::{Kind, LexFault, Mark, Token, lex};
 use std::alloc::Global;
 
 /// Returns whether the tokens are these brackets, one behind the other.

@@ -48,7 +48,7 @@ returns-clause-different c =
 pub returns-clause-rows : goal.returns-clause-rows
 returns-clause-rows c =
     let code = c.args.verified.now.code in
-    let limits = c.code.ensures.verified.annotated OutOfLimits in
+    let limits = c.code.ensures.verified.faultless OutOfLimits in
     let few : length (arms_from 0 code.processes) ≤ 64 * length code.processes =
     arms_few 64 0 code.processes (λ k process there. (limits.each k process there).some_arms.1) in
     let many = limits.some_processes.1 in

@@ -23,7 +23,7 @@ loop-arm-preserved c =
 
 pub returns-clause-arms : goal.returns-clause-arms
 returns-clause-arms c = λ code there.
-    let limits = c.code.ensures.verified.annotated OutOfLimits in
+    let limits = c.code.ensures.verified.faultless OutOfLimits in
     let few = (limits.each c.args.process code there).some_arms.1 in
     let all = many_processes c.code.result.now c.args.verified.now.code c.code.ensures.code in
     let within : c.args.process < length c.code.result.now.processes.items = (let some = c.requires.process in omega (arith, all, some)) in

@@ -23,7 +23,7 @@ loop-process-preserved c =
 pub returns-clause-arms : goal.returns-clause-arms
 returns-clause-arms c =
     let code = c.args.verified.now.code in
-    let limits = c.code.ensures.verified.annotated OutOfLimits in
+    let limits = c.code.ensures.verified.faultless OutOfLimits in
     let few = limits.some_processes.1 in
     let many = many_processes c.code.result.now code c.code.ensures.code in
     let len = c.len-processes.ensures in

@@ -20,7 +20,7 @@ lay_out-requires-clause-curves c =
 
 pub lay_out-requires-clause-resources : goal.lay_out-requires-clause-resources
 lay_out-requires-clause-resources c =
-    let limits = c.code-code.ensures.verified.annotated OutOfLimits in
+    let limits = c.code-code.ensures.verified.faultless OutOfLimits in
     ap (λ (x : Code). length x.names.resources) c.code-code.ensures.code
     ∙ (limits.resource_names.all ∙ sym (ap (λ (x : Code). length x.capital) c.code-code.ensures.code))
 

@@ -25,7 +25,7 @@ write_picks-requires g c =
     let lending = lending_for c.args.options.lend in
     let recorded : IsRecordedWith lending code steps seed c.in-Some.recorded.picks.items c.in-Some.recorded.status =
     subst (Answers lending code steps seed (λ r. r.picks.items) (λ r. r.status)) c.in-Some.is c.in-Ok.ensures.picks in
-    have_processes lending code steps seed c.in-Some.recorded.picks.items _ c.in-Some.recorded.status _ c.code-code.ensures.verified.annotated
+    have_processes lending code steps seed c.in-Some.recorded.picks.items _ c.in-Some.recorded.status _ c.code-code.ensures.verified.faultless
     c.args.options.run.steps_fit recorded c.deref.ensures.value (ap (λ code. code.names) c.code-code.ensures.code)
 
 pub returns-then-len-gt-MAX_INPUT : goal.returns-then-len-gt-MAX_INPUT

@@ -9,10 +9,10 @@ use Rattle.pb_verifier.specs.declared.fault.VerifyFault.TheVariants.{OutOfLimits
 use Rattle.pb_messages.proofs.picks.lines_message.Goals as goal
 
 pub read_picks-requires : goal.read_picks-requires
-read_picks-requires c = subst KeepsLimits (sym c.code.ensures.code) (c.code.ensures.verified.annotated OutOfLimits)
+read_picks-requires c = subst KeepsLimits (sym c.code.ensures.code) (c.code.ensures.verified.faultless OutOfLimits)
 
 pub unread_message-requires-clause-limits : goal.unread_message-requires-clause-limits
-unread_message-requires-clause-limits c = subst KeepsLimits (sym c.code-in-Err.ensures.code) (c.code-in-Err.ensures.verified.annotated OutOfLimits)
+unread_message-requires-clause-limits c = subst KeepsLimits (sym c.code-in-Err.ensures.code) (c.code-in-Err.ensures.verified.faultless OutOfLimits)
 
 pub unread_message-requires-clause-fault : goal.unread_message-requires-clause-fault
 unread_message-requires-clause-fault c =

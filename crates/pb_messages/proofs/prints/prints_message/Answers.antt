@@ -8,7 +8,7 @@ use Rattle.pb_messages.proofs.prints.prints_message.Goals.{in-Ok, in-Err}
 use Rattle.pb_messages.proofs.prints.prints_message.Goals as goal
 
 pub read_prints-requires : goal.read_prints-requires
-read_prints-requires c = subst KeepsLimits (sym c.code.ensures.code) (c.code.ensures.verified.annotated OutOfLimits)
+read_prints-requires c = subst KeepsLimits (sym c.code.ensures.code) (c.code.ensures.verified.faultless OutOfLimits)
 
 pub unsaid_message-requires : goal.unsaid_message-requires
 unsaid_message-requires c =

@@ -22,7 +22,7 @@ pub index-code-requires : goal.index-code-requires
 index-code-requires c =
     let v = c.args.verified.now in
     let given = c.code.result.now in
-    let count = (good_reached v.code c.code.ensures.verified.annotated (lending_by c.args.machine.now.bank) (machine_view c.args.machine.now) c.requires.machine.reached).count in
+    let count = (good_reached v.code c.code.ensures.verified.faultless (lending_by c.args.machine.now.bank) (machine_view c.args.machine.now) c.requires.machine.reached).count in
     let within = c.requires.process in
     omega (arith, within, count, codes_number given v.code c.code.ensures.code, given.processes.ok.0)
 
@@ -36,7 +36,7 @@ asked-requires c =
     let v = c.args.verified.now in
     let given = c.code.result.now in
     let same = c.code.ensures.code in
-    let count = (good_reached v.code c.code.ensures.verified.annotated (lending_by c.args.machine.now.bank) (machine_view c.args.machine.now) c.requires.machine.reached).count in
+    let count = (good_reached v.code c.code.ensures.verified.faultless (lending_by c.args.machine.now.bank) (machine_view c.args.machine.now) c.requires.machine.reached).count in
     let inside = c.requires.process in
     let within : c.args.p < length given.processes.items = omega (arith, inside, count, codes_number given v.code same) in
     names_bundles v c.code.ensures.verified c.args.p c.index-code.result.now
@@ -48,8 +48,8 @@ reason-requires-clause-process c =
     let s = machine_view c.args.machine.now in
     let e : lender_state c.lender.result.now ≡ banker_state (bank_of v.code) s.loans =
     ap lender_state c.lender.ensures.bank ∙ c.requires.machine.bank in
-    let count = (good_reached v.code c.code.ensures.verified.annotated (lending_by c.args.machine.now.bank) s c.requires.machine.reached).count in
-    let rows = (c.code.ensures.verified.annotated OutOfLimits).rows in
+    let count = (good_reached v.code c.code.ensures.verified.faultless (lending_by c.args.machine.now.bank) s c.requires.machine.reached).count in
+    let rows = (c.code.ensures.verified.faultless OutOfLimits).rows in
     let inside = c.requires.process in
     let within : c.args.p < processes (banker_state (bank_of v.code) s.loans) = omega (arith, inside, count, rows) in
     subst (λ (b : BankerState). c.args.p < processes b) (sym e) within
@@ -62,7 +62,7 @@ reason-requires-clause-below c =
     let same = c.code.ensures.code in
     let e : lender_state c.lender.result.now ≡ banker_state (bank_of v.code) s.loans =
     ap lender_state c.lender.ensures.bank ∙ c.requires.machine.bank in
-    let count = (good_reached v.code c.code.ensures.verified.annotated (lending_by c.args.machine.now.bank) s c.requires.machine.reached).count in
+    let count = (good_reached v.code c.code.ensures.verified.faultless (lending_by c.args.machine.now.bank) s c.requires.machine.reached).count in
     let inside = c.requires.process in
     let within : c.args.p < length given.processes.items = omega (arith, inside, count, codes_number given v.code same) in
     let code = code_at given v.code same c.args.p c.index-code.result.now within c.index-code.ensures in
@@ -80,7 +80,7 @@ reason-requires-clause-within_claim c =
     let same = c.code.ensures.code in
     let e : lender_state c.lender.result.now ≡ banker_state (bank_of v.code) s.loans =
     ap lender_state c.lender.ensures.bank ∙ c.requires.machine.bank in
-    let count = (good_reached v.code c.code.ensures.verified.annotated (lending_by c.args.machine.now.bank) s c.requires.machine.reached).count in
+    let count = (good_reached v.code c.code.ensures.verified.faultless (lending_by c.args.machine.now.bank) s c.requires.machine.reached).count in
     let inside = c.requires.process in
     let within : c.args.p < length given.processes.items = omega (arith, inside, count, codes_number given v.code same) in
     let code = code_at given v.code same c.args.p c.index-code.result.now within c.index-code.ensures in
@@ -98,7 +98,7 @@ returns-in_ok-why-in-Some c =
     let same = c.code.ensures.code in
     let e : lender_state c.lender.result.now ≡ banker_state (bank_of v.code) s.loans =
     ap lender_state c.lender.ensures.bank ∙ c.requires.machine.bank in
-    let count = (good_reached v.code c.code.ensures.verified.annotated (lending_by c.args.machine.now.bank) s c.requires.machine.reached).count in
+    let count = (good_reached v.code c.code.ensures.verified.faultless (lending_by c.args.machine.now.bank) s c.requires.machine.reached).count in
     let inside = c.requires.process in
     let within : c.args.p < length given.processes.items = omega (arith, inside, count, codes_number given v.code same) in
     let code = code_at given v.code same c.args.p c.index-code.result.now within c.index-code.ensures in
@@ -119,7 +119,7 @@ returns-in-None c =
     let s = machine_view c.args.machine.now in
     let given = c.code.result.now in
     let same = c.code.ensures.code in
-    let count = (good_reached v.code c.code.ensures.verified.annotated (lending_by c.args.machine.now.bank) s c.requires.machine.reached).count in
+    let count = (good_reached v.code c.code.ensures.verified.faultless (lending_by c.args.machine.now.bank) s c.requires.machine.reached).count in
     let inside = c.requires.process in
     let within : c.args.p < length given.processes.items = omega (arith, inside, count, codes_number given v.code same) in
     let there : thread_at s c.args.p c.args.arm ≡ thread_view c.thread.result.now =

@@ -4,4 +4,4 @@ use Rattle.pb_verifier.specs.declared.fault.VerifyFault.TheVariants.{OutOfLimits
 use Rattle.pb_runtime_tests.proofs.picks.read.Goals as goal
 
 pub read_picks-requires : goal.read_picks-requires
-read_picks-requires c = subst KeepsLimits (sym c.code.ensures.code) (c.code.ensures.verified.annotated OutOfLimits)
+read_picks-requires c = subst KeepsLimits (sym c.code.ensures.code) (c.code.ensures.verified.faultless OutOfLimits)

@@ -12,7 +12,7 @@ use Rattle.pb_search_engine.proofs.ExpectLemmas.{bad_said, compared_said}
 use Rattle.pb_search_engine.proofs.expect.reply.Goals as goal
 
 pub read_prints-requires : goal.read_prints-requires
-read_prints-requires c = subst KeepsLimits (sym c.code.ensures.code) (c.code.ensures.verified.annotated OutOfLimits)
+read_prints-requires c = subst KeepsLimits (sym c.code.ensures.code) (c.code.ensures.verified.faultless OutOfLimits)
 
 pub returns-in-Ok : goal.returns-in-Ok
 returns-in-Ok c =

@@ -54,8 +54,8 @@ returns-in-Some-clause-refused c =
     refused_first (code_view c.args.code.now) (c.if-not-keeps_limits.ensures.limits.0 refl)
     (c.if-not-fit_capital.ensures.0 refl) c.loop-p.p c.in-Some.fault (omega arith) first
 
-pub returns-in-None-clause-annotated : goal.returns-in-None-clause-annotated
-returns-in-None-clause-annotated c =
+pub returns-in-None-clause-faultless : goal.returns-in-None-clause-faultless
+returns-in-None-clause-faultless c =
     let n = c.len-p-end.ensures in
     let l : length (map process_view c.args.code.now.processes.items) ≡ length c.args.code.now.processes.items =
     length-map c.args.code.now.processes.items process_view in

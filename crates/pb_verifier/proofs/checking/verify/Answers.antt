@@ -9,4 +9,4 @@ returns-in-Err-clause-over c = refused_over (code_view c.args.code) c.in-Err.fau
 
 pub returns-in-Ok-groups_of_code-clause-peaks : goal.returns-in-Ok-groups_of_code-clause-peaks
 returns-in-Ok-groups_of_code-clause-peaks c =
-    subst (λ (v : VerifiedCode). HasPeaksWithin v.code) (sym c.new.ensures) (annotated_within (code_view c.args.code) c.in-Ok.ensures.annotated)
+    subst (λ (v : VerifiedCode). HasPeaksWithin v.code) (sym c.new.ensures) (annotated_within (code_view c.args.code) c.in-Ok.ensures.faultless)

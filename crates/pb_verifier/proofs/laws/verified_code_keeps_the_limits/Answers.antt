@@ -3,6 +3,6 @@ use Rattle.pb_verifier.specs.declared.fault.VerifyFault.TheVariants.{OutOfLimits
 
 pub returns : goal.returns
 returns c = record {
-  limits = λ v verified. verified.annotated OutOfLimits;
+  limits = λ v verified. verified.faultless OutOfLimits;
   pushes = λ v verified. verified.pushes;
 }

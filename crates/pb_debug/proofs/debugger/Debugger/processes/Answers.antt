@@ -8,5 +8,5 @@ returns-clause-few c =
     let d = c.args.self.now in
     let h = c.position.ensures.placed in
     let many = as_many d h in
-    let few = ((h.verified.annotated OutOfLimits).some_processes).1 in
+    let few = ((h.verified.faultless OutOfLimits).some_processes).1 in
     omega (arith, many, few)

@@ -18,7 +18,7 @@ overflow_cast-p c =
     let d = c.args.self.now in
     let h = c.can_append.ensures.placed in
     let lt = in_code d h c.args.p c.requires.0 c.requires.1 in
-    let few = (h.verified.annotated OutOfLimits).some_processes.1 in
+    let few = (h.verified.faultless OutOfLimits).some_processes.1 in
     omega (arith, lt, few)
 
 pub overflow_cast-arm : goal.overflow_cast-arm

@@ -36,14 +36,14 @@ pub put_who-requires-clause-process_names : goal.put_who-requires-clause-process
 put_who-requires-clause-process_names c =
     let d = c.args.self.now in
     let same = c.code-code.ensures.code ∙ ap (λ (d : Debugging). d.verified.code) c.self.view_is in
-    let limits = (placed c.self.inside c.self.invariant d c.self.view_is).verified.annotated OutOfLimits in
+    let limits = (placed c.self.inside c.self.invariant d c.self.view_is).verified.faultless OutOfLimits in
     (subst KeepsLimits (sym same) limits).process_names.all
 
 pub put_who-requires-clause-rows : goal.put_who-requires-clause-rows
 put_who-requires-clause-rows c =
     let d = c.args.self.now in
     let same = c.code-code.ensures.code ∙ ap (λ (d : Debugging). d.verified.code) c.self.view_is in
-    let limits = (placed c.self.inside c.self.invariant d c.self.view_is).verified.annotated OutOfLimits in
+    let limits = (placed c.self.inside c.self.invariant d c.self.view_is).verified.faultless OutOfLimits in
     ap processes (bank_here c.self.inside c.self.invariant d c.self.view_is)
     ∙ (limits.rows ∙ ap (λ (code : Code). length code.processes) (sym same))
 
@@ -51,7 +51,7 @@ pub put_who-requires-clause-resource : goal.put_who-requires-clause-resource
 put_who-requires-clause-resource c =
     let d = c.args.self.now in
     let same = c.code-code.ensures.code ∙ ap (λ (d : Debugging). d.verified.code) c.self.view_is in
-    let limits = (placed c.self.inside c.self.invariant d c.self.view_is).verified.annotated OutOfLimits in
+    let limits = (placed c.self.inside c.self.invariant d c.self.view_is).verified.faultless OutOfLimits in
     let bank = ap resources (bank_here c.self.inside c.self.invariant d c.self.view_is) in
     let names = (subst KeepsLimits (sym same) limits).resource_names.all in
     let capital = ap (λ (code : Code). length code.capital) same in

@@ -35,7 +35,7 @@ pub reason-requires-clause-process : goal.reason-requires-clause-process
 reason-requires-clause-process c =
     let d = c.args.self.now in
     let lt = in_code d c.in_ok-process.ensures.placed c.args.p _ c.in_ok-process.ensures.shown in
-    let rows = (c.in_ok-process.ensures.placed.verified.annotated OutOfLimits).rows in
+    let rows = (c.in_ok-process.ensures.placed.verified.faultless OutOfLimits).rows in
     let within : c.args.p < processes (bank_state d) = omega (arith, lt, rows) in
     subst (λ (s : BankerState). c.args.p < processes s) (sym c.loans.ensures.shown) within
 

@@ -1,7 +1,7 @@
 //! The faults of the lexer.
 
 ghost use Rattle.std.specs.Prelude.{◌≡◌};
-ghost use Rattle.pb_lexer.specs.declared.error.LexFault.TheVariants.{NoMemory};
+ghost use Rattle.pb_lexer.specs.declared.fault.LexFault.TheVariants.{NoMemory};
 
 use std::alloc::{AllocError, AllocFailed};
 
