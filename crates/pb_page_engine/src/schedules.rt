@@ -36,7 +36,11 @@ pub fn tell_schedules<O: Output>(
     ensures faults { TellsWriteFaults (O.failures output.old) (O.failures output.new) result }
 {
     match compile_text(alloc, text) {
-        Ok(compiled) => tell(alloc, reply(alloc, lending, states, text, &compiled), output),
+        Ok(compiled) => tell(
+            alloc,
+            reply(alloc, lending, states, text, &compiled),
+            output,
+        ),
         Err(refusal) => refuse(alloc, refusal, output),
     }
 }
