@@ -139,6 +139,8 @@ def inputs():
         yield f"outcomes --lend cash {name}", ["outcomes", "--lend", "cash"], text
         yield f"outcomes --prints {name}", ["outcomes", "--prints", "--states", "2000"], text
         wanted = text + b"\n%%\n" + first_process(text) + b".0 print 1\n"
+        yield f"outcomes --graph {name}", ["outcomes", "--graph", "--states", "2000"], text
+        yield f"outcomes --graph --lend cash {name}", ["outcomes", "--graph", "--lend", "cash", "--states", "2000"], text
         yield f"outcomes --run 1 {name}", ["outcomes", "--run", "1", "--states", "2000"], text
         yield f"outcomes --deadlock 1 {name}", ["outcomes", "--deadlock", "1", "--lend", "cash", "--states", "2000"], text
         yield f"outcomes --expect {name}", ["outcomes", "--expect", "--states", "2000"], wanted

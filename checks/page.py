@@ -4,14 +4,17 @@
     checks/page.py [PROGRAM]     PROGRAM is the one that ./parbegin has built if none is given
 
 It is run by hand, and needs Debian's package `chromium`. At each position of a run the places, the integers, the lines,
-the reasons, the loans and the cash that the page has must be those that `debug` says; further it looks at keys, clicks,
-the address, contrast, sizes from a telephone to a wide screen, a text that tries to be markup, and that nothing is
-loaded and no message comes. Then it plants faults in page.js, each of which must be found. Its status is 0 if all is as
-wanted, and 1 if not.
+the reasons, the loans and the cash that the page has must be those that `debug` says; the outcomes and the deadlocks to
+which one can walk must be those that `outcomes` says, by the banker and by the cash alone, and `replay` must make the
+picks that lead there. It walks by clicks: an arm that may not go on says why, and nothing changes. Further it looks at
+keys, the address, contrast, sizes from a telephone to a wide screen, a text that tries to be markup, and that nothing
+is loaded and no message comes. Then it plants faults in page.js, each of which must be found. Its status is 0 if all is
+as wanted, and 1 if not.
 """
 from __future__ import annotations
 
 import os
+import random
 import re
 import shutil
 import sys
@@ -32,6 +35,14 @@ begin
   integer x;
   x := 9223372036854775807; x := x - 1; print x div 0
 end
+"""
+
+# Two that can come to a deadlock, and one that has nothing to do with them.
+BYSTANDER = b"""resource tape = 1;
+resource disk = 1;
+process a begin hold 1 of tape do hold 1 of disk do skip od od end
+process b begin hold 1 of disk do hold 1 of tape do skip od od end
+process c begin print 1 end
 """
 
 # What the page has of a position, in the form of the debugger's lines.
@@ -58,6 +69,46 @@ SAYS = """(at) => {
   for (const r of program.resources) out.push(`cash ${program.cash(s, r)} ${r.name}`);
   return out;
 }"""
+
+# The outcomes and the deadlocks of the graph that is shown, in the form of the lines of `outcomes`.
+ENDS = """(() => {
+  const out = {outcome: [], deadlock: []}, {program, graph} = view;
+  graph.ends.forEach((n, i) => {
+    const s = graph.states[n], isDead = graph.isDead(i), lines = [];
+    for (const p of program.processes) {
+      const isFaulted = s[p.first] === FAULTED;
+      lines.push(`${p.name} ${s[p.first] === ENDED ? "ended" : isFaulted ? "faulted" : "waits"}`);
+      p.integers.forEach((x, k) => lines.push(`${p.name}.${x} ${s[program.integerAt(p, k)]}`));
+      if (!isDead) continue;
+      for (const r of program.resources) {
+        const k = s[program.loanAt(p.p, r.r)];
+        if (k) lines.push(`${p.name} holds ${k} ${r.name}`);
+      }
+      for (const g of program.armsOf(p)) {
+        const asks = program.asks(s, g).map(([k, r]) => `${k} ${program.resources[r].name}`);
+        if (asks.length) lines.push(`${program.arms[g].name} asks ${asks.join(" ")}`);
+      }
+    }
+    out[isDead ? "deadlock" : "outcome"].push(lines);
+  });
+  return out;
+})()"""
+
+# Draws each configuration, or some hundreds of them: what is greyed has a reason, and what is not has none.
+ALL_DRAWN = """(() => {
+  const {graph} = view, step = Math.ceil(graph.nodes.length / 200);
+  for (let n = 0; n < graph.nodes.length; n += step) {
+    view.rows = graph.wayTo(n);
+    view.redraw();
+    const text = document.body.innerText;
+    if (view.node !== n || /undefined|NaN|null|\\[object/.test(text)) return `${n}: ${text}`;
+    for (const it of document.querySelectorAll("button.arm[aria-disabled]"))
+      if (!it.querySelector(".why.no, .why.idle")) return `${n}: no reason`;
+    for (const it of document.querySelectorAll("button.arm:not([aria-disabled])"))
+      if (it.querySelector(".why.no, .why.idle")) return `${n}: a reason not to`;
+  }
+  return "";
+})()"""
 
 # Texts whose contrast with what is behind them is less than 4.5.
 CONTRAST = """(() => {
@@ -101,6 +152,17 @@ PLANTED = (
     ("End: () => this.go(this.rows.length),", "End: () => this.go(0),"),
     ("remember(`step=${this.at}`)", "remember(`step=${this.rows.length}`)"),
     ("if ((i + 1) % GAP === 0) this.kept.push([...state]);", "if ((i + 1) % GAP === 0) this.kept.push(state);"),
+    ("apply(state, row, 3);", "apply(state, row, 5);"),
+    ("this.before[row[2]] = { n, row };", "this.before[row[2]] = { n: 0, row };"),
+    ("into[row[2]].push(n)", "into[n].push(row[2])"),
+    ("end >= this.program.data.outcomes.length", "end > this.program.data.outcomes.length"),
+    ("=> his.get(this.program.key(state))", "=> his.get(state)"),
+    ("!this.hope[n] && !this.program.data.endless", "!this.hope[n] && this.program.data.endless"),
+    ("this.knowsBanker && !this.twins[n]", "this.knowsBanker && this.twins[n]"),
+    ("find((row) => row[0] === arm)", "find((row) => row[0] >= arm)"),
+    ("this.undone.push(this.rows.pop())", "this.rows.pop()"),
+    ("this.lend = i;\n    this.follow(arms);", "this.lend = i;\n    this.follow([]);"),
+    ("\"aria-disabled\": !moves.has(arm)", "\"aria-disabled\": moves.has(arm)"),
 )
 
 
@@ -161,17 +223,136 @@ def look_at_keys(tally: Tally, it: Browser, path: Path) -> None:
     tally.expect(it.faults() == [], path.name, f"{it.faults()}")
 
 
+def ends_of(lines: list[str]) -> dict[str, set[tuple[str, ...]]]:
+    """Returns the outcomes and the deadlocks that `outcomes` lists, each as its lines."""
+    found, kind, block = {"outcome": set(), "deadlock": set()}, "", []
+    for line in lines:
+        if re.fullmatch(r"(outcome|deadlock) \d+", line):
+            kind, block = line.split(" ")[0], []
+        elif line == "reached by":
+            found[kind].add(tuple(block))
+            kind = ""
+        elif kind:
+            block.append(line)
+    return found
+
+
+def look_at_ends(tally: Tally, it: Browser, path: Path, text: str, lend: str) -> None:
+    """Compares the ends of all schedules with those that `outcomes` says, and replays the ways to them."""
+    it.open(path, f"picks=&lend={lend}")
+    if it.js("view.program.data.lend") != lend:
+        return
+    _, said = call(["outcomes", "--lend", lend], f"{text}\n".encode())
+    lines, shown = said.decode().splitlines(), it.js(ENDS)
+    for kind, wanted in ends_of(lines).items():
+        tally.expect({tuple(block) for block in shown[kind]} == wanted, path.name, f"{kind}s, {lend}: not those of `outcomes`")
+        tally.expect(len(shown[kind]) == len(wanted), path.name, f"{kind}s, {lend}: one comes twice")
+    is_endless = "some runs do not end" in lines[-1]
+    tally.expect(it.js("view.program.data.endless") == is_endless, path.name, f"{lend}: whether all runs end")
+    last = {False: "done", True: "deadlock"}
+    ways = "view.graph.ends.map((n, i) => [view.graph.isDead(i), pickLines(view.program, view.graph.wayTo(n))])"
+    for is_dead, picks in it.js(ways)[:20]:
+        _, replayed = call(["replay", "--lend", lend], f"{text}\n%%\n{picks}".encode())
+        tally.expect(replayed.decode().splitlines()[-1] == last[is_dead], path.name, f"{lend}: the way to an end is not replayed")
+    tally.expect(it.js(ALL_DRAWN) == "", path.name, f"{lend}: a configuration is not drawn: {it.js(ALL_DRAWN)}")
+    tally.expect(it.faults() == [], path.name, f"{it.faults()}")
+
+
+def look_at_walk(tally: Tally, it: Browser, path: Path, lend: str) -> None:
+    """Walks by clicks on arms to an end, and back by a key."""
+    it.open(path, f"picks=&lend={lend}")
+    if it.js("view.program.data.lend") != lend:
+        return
+    draw, nodes = random.Random(1), [0]
+    enabled = "[...document.querySelectorAll('button.arm')].map((it) => it.getAttribute('aria-disabled') !== 'true')"
+    while len(nodes) < 200 and any(it.js(enabled)):
+        can = it.js(enabled)
+        if not all(can):
+            it.click("button.arm", draw.choice([i for i, one in enumerate(can) if not one]))
+            tally.expect(it.js("view.node") == nodes[-1], path.name, "a greyed pick changes something")
+            tally.expect("cannot go on: waits" in it.js("$('happened').textContent") or "cannot go on: the banker" in it.js("$('happened').textContent"),
+                         path.name, f"a greyed pick is not explained: {it.js('$(`happened`).textContent')}")
+        it.click("button.arm", draw.choice([i for i, one in enumerate(can) if one]))
+        nodes.append(it.js("view.node"))
+    tally.expect(re.match(r"Outcome|Deadlock", it.js("$('ending').textContent")) is not None, path.name, f"{lend}: the end is not told")
+    tally.expect(it.js("document.querySelectorAll('.tick[aria-label=found]').length") == 1, path.name, f"{lend}: the end is not ticked")
+    link = it.js(LATER)[1:]
+    it.js("document.activeElement.blur()")
+    for node in reversed(nodes[:-1]):
+        it.key("ArrowLeft")
+        tally.expect(it.js("view.node") == node, path.name, f"{lend}: undo comes to another configuration")
+    it.key("End")
+    tally.expect(it.js("view.node") == nodes[-1], path.name, f"{lend}: redo comes to another configuration")
+    it.open(path, link)
+    tally.expect(it.js("view.node") == nodes[-1], path.name, f"{lend}: the address leads to another configuration")
+    tally.expect(it.faults() == [], path.name, f"{it.faults()}")
+
+
+def look_at_deadlock(tally: Tally, it: Browser, path: Path) -> None:
+    """In devices.pb the banker refuses the second pick; the cash grants it, and then nothing goes on."""
+    it.open(path, "picks=")
+
+    def shows(what: str, place: str, words: str) -> None:
+        text = it.js(f"$('{place}').textContent")
+        tally.expect(words in text, path.name, f"{what}: {text}")
+
+    it.key("1")
+    it.key("2")
+    shows("the banker's reason", "happened", "the banker says no: there is enough, but then")
+    tally.expect(it.js("view.rows.length") == 1, path.name, "the refused pick was made")
+    it.click("input[name=lend]", 1)
+    tally.expect(it.js("view.rows.length") == 1, path.name, "the pick is not kept without the banker")
+    shows("what the banker would say", "processes", "the banker would say no")
+    it.key("2")
+    shows("the deadlock", "ending", "Deadlock. No arm can go on, now or ever:a holds 1 tape and asks for 1 diskb holds 1 disk and asks for 1 tape")
+    shows("the ticks", "goals", "1 of 2 found")
+    tally.expect(it.js("document.querySelectorAll('button.arm:not([aria-disabled])').length") == 0, path.name, "an arm goes on in a deadlock")
+    it.click("input[name=lend]", 0)
+    tally.expect(it.js("view.rows.length") == 1, path.name, "the banker keeps more than the first pick")
+    it.click("[data-key=file]")
+    tally.expect(it.js("document.querySelector('.picks').textContent").endswith("\n%%\na.0 1\n"), path.name, "the file has other picks")
+    it.key("Escape")
+    tally.expect(it.faults() == [], path.name, f"{it.faults()}")
+
+
+def look_at_too_late(tally: Tally, it: Browser, folder: Path) -> None:
+    """A bystander can go on while two others are in a deadlock; by the cash alone that is told before its end."""
+    path, _ = write_page(folder, "bystander", BYSTANDER)
+    it.open(path, "picks=a.0&lend=cash")
+    tally.expect(it.js("$('ending').textContent") == "", path.name, "something is told of a configuration to which the banker comes")
+    it.open(path, "picks=a.0,b.0&lend=cash")
+    tally.expect(it.js("$('ending').textContent").startswith("Too late."), path.name, "that a deadlock is certain is not told")
+    tally.expect(it.js("document.querySelectorAll('button.arm:not([aria-disabled])').length") == 1, path.name, "the bystander is not alone")
+    path, _ = write_page(folder, "cautious", (TOP / "examples/customers.pb").read_bytes())
+    it.open(path, "picks=&lend=cash")
+    said = it.js("""(() => {
+      const it = view.graph, n = it.nodes.findIndex((_, n) => it.isOnlyByCash(n) && !it.isLost(n) && !it.ends.includes(n));
+      view.rows = it.wayTo(n);
+      view.redraw();
+      return $('ending').textContent;
+    })()""")
+    tally.expect(said.startswith("By the cash alone."), path.name, f"that the banker does not come here is not told: {said}")
+
+
+def look_at_limit(tally: Tally, it: Browser, path: Path) -> None:
+    """A text with too many schedules has its run alone, and says so."""
+    it.open(path)
+    tally.expect(it.js("views.length") == 1, path.name, "there is a second view")
+    tally.expect("More than 10000 configurations" in it.js("$('note').textContent"), path.name, "the limit is not told")
+
+
 def look_at_looks(tally: Tally, it: Browser, path: Path) -> None:
     """Looks at contrast in both schemes, and for what sticks out at the right."""
-    for scheme in ("light", "dark"):
-        it.media(scheme)
-        it.open(path, "step=5")
-        tally.expect(it.js(CONTRAST) == [], path.name, f"contrast, {scheme}: {it.js(CONTRAST)}")
-    it.media("light")
-    for size in SIZES:
-        it.size(*size)
-        it.open(path, "step=5")
-        tally.expect(it.js("document.documentElement.scrollWidth <= innerWidth"), path.name, f"scrolls sideways at {size}")
+    for where in ("step=5", "picks=", "picks=a.0,b.0&lend=cash"):
+        for scheme in ("light", "dark"):
+            it.media(scheme)
+            it.open(path, where)
+            tally.expect(it.js(CONTRAST) == [], path.name, f"contrast, {scheme}, {where}: {it.js(CONTRAST)}")
+        it.media("light")
+        for size in SIZES:
+            it.size(*size)
+            it.open(path, where)
+            tally.expect(it.js("document.documentElement.scrollWidth <= innerWidth"), path.name, f"scrolls sideways at {size}, {where}")
     it.size(1280, 720)
 
 
@@ -192,6 +373,12 @@ def look_at_all(tally: Tally, it: Browser, folder: Path) -> None:
         path, text = write_page(folder, name, (TOP / f"examples/{name}.pb").read_bytes())
         look_at_positions(tally, it, path, text)
         look_at_keys(tally, it, path)
+        for lend in ("banker", "cash"):
+            look_at_ends(tally, it, path, text, lend)
+            look_at_walk(tally, it, path, lend)
+    look_at_deadlock(tally, it, folder / "devices.html")
+    look_at_too_late(tally, it, folder)
+    look_at_limit(tally, it, folder / "philosophers.html")
     look_at_looks(tally, it, folder / "devices.html")
     look_at_hostile(tally, it, folder)
 
@@ -219,6 +406,11 @@ def finds(it: Browser, folder: Path, mark: str, fault: str) -> bool:
             path, text = write_page(folder, name, (TOP / f"examples/{name}.pb").read_bytes())
             look_at_positions(tally, it, path, text)
             look_at_keys(tally, it, path)
+            for lend in ("banker", "cash"):
+                look_at_ends(tally, it, path, text, lend)
+                look_at_walk(tally, it, path, lend)
+        look_at_deadlock(tally, it, write_page(folder, "devices", (TOP / "examples/devices.pb").read_bytes())[0])
+        look_at_too_late(tally, it, folder)
     except RuntimeError:
         # (the page did not come up, or threw)
         return True

@@ -152,6 +152,7 @@ def cases():
         yield name, ["outcomes", "--lend", "cash"], text
         yield name, ["outcomes", "--prints", "--states", "2000"], text
         yield name, ["outcomes", "--expect", "--any-order", "--states", "2000"], text + b"\n%%\n" + first_process(text) + b".0 print 1\n"
+        yield name, ["outcomes", "--graph", "--states", "2000"], text
         yield name, ["outcomes", "--run", "1"], text
         yield name, ["replay"], recorded(text)
         yield name, ["draw"], recorded(text)

@@ -1,4 +1,4 @@
-"""`./parbegin page`: the page of a run, one HTML file for a browser."""
+"""`./parbegin page`: the page of a program, its run and all its schedules, one HTML file for a browser."""
 from __future__ import annotations
 
 import importlib.util
@@ -10,7 +10,7 @@ from script.places import DEVICE, TOP, WORDS, is_installed, say
 
 # Where the template is: in a checkout, and under the prefix of install.sh.
 TEMPLATE = f"{TOP}/../../share/parbegin/page" if is_installed() else f"{TOP}/extras/page"
-USE = "usage: parbegin page [--seed N] [--from POSITION] [--rows N] FILE > page.html"
+USE = "usage: parbegin page [--seed N] [--from POSITION] [--rows N] [--states N] FILE > page.html"
 
 
 def maker() -> ModuleType:

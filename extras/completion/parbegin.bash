@@ -53,7 +53,7 @@ _parbegin() {
         return
         ;;
     migrate) options="" ;;
-    outcomes) options="--states --lend --first-deadlock --prints --fair --expect --any-order --run --deadlock" ;;
+    outcomes) options="--states --lend --first-deadlock --prints --fair --expect --any-order --graph --run --deadlock" ;;
     plan) options="" ;;
     record) options="--workers --quantum --steps --seed --lend" ;;
     replay) options="--lend" ;;

@@ -44,6 +44,7 @@ complete -c parbegin -n "__fish_seen_subcommand_from outcomes" -l prints -d "Tel
 complete -c parbegin -n "__fish_seen_subcommand_from outcomes" -l fair -d "Say whether some fair run never ends"
 complete -c parbegin -n "__fish_seen_subcommand_from outcomes" -l expect -d "Compare all prints with the lines after %%"
 complete -c parbegin -n "__fish_seen_subcommand_from outcomes" -l any-order -d "In any order, with --expect"
+complete -c parbegin -n "__fish_seen_subcommand_from outcomes" -l graph -d "All schedules as a document for a page"
 complete -c parbegin -n "__fish_seen_subcommand_from outcomes" -l run -x -d "The program with the picks to this outcome"
 complete -c parbegin -n "__fish_seen_subcommand_from outcomes" -l deadlock -x -d "The program with the picks to this deadlock"
 complete -c parbegin -n "__fish_seen_subcommand_from states" -l rows -x -d "Most rows, 1 to 1000000"

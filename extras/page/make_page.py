@@ -1,12 +1,13 @@
 #!/usr/bin/env python3
 """Makes the page of a program: one HTML file that needs nothing else.
 
-    make_page.py PROGRAM[,WORD ..] [--seed N] [--from I] [--rows N] FILE > page.html
+    make_page.py PROGRAM[,WORD ..] [--seed N] [--from I] [--rows N] [--states N] FILE > page.html
 
 PROGRAM is the program parbegin, with words that come before each command, if any. FILE has a text, or a text with the
 picks of a run behind a line `%%`, as `record` writes it. The program writes the data, each document as a line of JSON
 in which there is no `<` (docs/FORMATS.md, "Documents for a page"); here it is put into the template beside this file.
-Nothing of a text is looked at here, and no number is changed.
+Nothing of a text is looked at here, and no number is changed. The page has all schedules by the banker, and if there are
+resources those by the cash alone, if they have at most 10,000 configurations or what `--states` says.
 
 If the program refuses the text or the words, what it writes stands in the place of the page, with its status.
 """
@@ -21,10 +22,10 @@ from collections.abc import Iterator
 from dataclasses import dataclass
 
 TEMPLATE = os.path.dirname(os.path.realpath(__file__))
-# The program's statuses of a run in which no process faulted, and of one in which a process did.
-DONE, FAULT = 0, 4
+# The program's statuses of a run in which no process faulted, of one in which a process did, and if a limit is reached.
+DONE, FAULT, LIMIT = 0, 4, 3
 
-OPTIONS = {"--seed": "seed", "--from": "first", "--rows": "rows"}
+OPTIONS = {"--seed": "seed", "--from": "first", "--rows": "rows", "--states": "states"}
 
 
 @dataclass
@@ -34,6 +35,7 @@ class Options:
     seed: str | None = None
     first: str | None = None
     rows: str | None = None
+    states: str = "10000"
 
 
 class Refusal(Exception):
@@ -44,10 +46,10 @@ class Refusal(Exception):
         self.said, self.status = said, status
 
 
-def answer(program: list[str], words: list[str], given: bytes) -> bytes:
+def answer(program: list[str], words: list[str], given: bytes, statuses: tuple[int, ...] = (DONE, FAULT)) -> bytes:
     """Returns what the program writes. A run in which a process faults is a run."""
     ended = subprocess.run([*program, *words], input=given, stdout=subprocess.PIPE, check=False)
-    if ended.returncode not in (DONE, FAULT):
+    if ended.returncode not in statuses:
         raise Refusal(ended.stdout, ended.returncode)
     return ended.stdout
 
@@ -63,6 +65,17 @@ def documents(program: list[str], given: bytes, options: Options) -> Iterator[tu
     recorded = given if has_picks else answer(program, ["record", *option("--seed", options.seed)], given)
     words = ["states", *option("--from", options.first), *option("--rows", options.rows)]
     yield "run", answer(program, words, recorded).decode().strip()
+    text = given.partition(b"\n%%\n")[0] + b"\n" if has_picks else given
+    words = ["outcomes", "--graph", "--states", options.states]
+    by_banker = answer(program, words, text, (DONE, LIMIT)).decode().strip()
+    yield "banker", by_banker
+    if has_resources(by_banker):
+        yield "cash", answer(program, [*words, "--lend", "cash"], text, (DONE, LIMIT)).decode().strip()
+
+
+def has_resources(document: str) -> bool:
+    """Returns whether the program of a document has resources, so that it matters who lends."""
+    return "\nresources 0\n" not in json.loads(document)["object"]
 
 
 def fill_template(title: str, data: str) -> str:

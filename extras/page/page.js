@@ -7,10 +7,10 @@
 // A state is a list. With A arms in all, numbered process by process, its entries are
 //   A places      the place of each arm's next instruction, or IDLE, ENDED or FAULTED
 //   A hands       each arm's operands, a list
-//   A reasons     0 if the arm asks for nothing, 1 if the banker grants it, ["cash", R] or ["rest", P ..] if not
+//   A reasons     0 if the arm asks for nothing, 1 if it may have it, ["cash", R] or ["rest", P ..] if not
 //   the integers  of each process
 //   the loans     of each process, one for each resource
-//   the order     in which the banker can finish with the processes; without some of them if the state is unsafe
+//   the order     in which the banker can finish with the processes; nobody by the cash alone
 // A row is a pick and what it changes: [process, arm, (in a graph) where it leads, entry, new value, .., event line].
 // Here the arms are numbered through all processes: a row begins with [arm, 1, ..] once it is read.
 const IDLE = -1, ENDED = -2, FAULTED = -3, HUES = 12;
@@ -92,9 +92,11 @@ class Program {
   integerAt(process, i) { return this.integers + process.firstInteger + i; }
   loanAt(p, r) { return this.loans + p * this.resources.length + r; }
   isOver(state, process) { return state[process.first] === ENDED || state[process.first] === FAULTED; }
-  isSafe(state) { return state[this.order].length === this.processes.length; }
+
+  /** What a state is apart from what the banker says of it, as a key. */
+  key(state) { return JSON.stringify(state.filter((_, at) => at < this.reasons || (at >= this.integers && at < this.order))); }
+
   cash(state, { r, capital }) { return this.processes.reduce((left, { p }) => left - state[this.loanAt(p, r)], capital); }
-  names(numbers) { return listed(numbers.map((p) => this.processes[p].name)); }
   amounts(pairs) { return listed(pairs.map(([k, r]) => `${k} ${this.resources[r].name}`)); }
 
   /** The next instruction of an arm that is live: its line, and its words. */
@@ -372,10 +374,8 @@ function drawBank({ program, state, changed }) {
 
 /** How the banker could finish: each process in turn gets what it may still ask for, and then gives all back. */
 function finishing(program, state) {
-  const isOpen = (p) => !program.isOver(state, program.processes[p]);
-  const order = state[program.order], open = order.filter(isOpen);
-  const stuck = program.processes.map(({ p }) => p).filter((p) => !order.includes(p));
-  if (!open.length && !stuck.length) return null;
+  const open = state[program.order].filter((p) => !program.isOver(state, program.processes[p]));
+  if (!open.length) return null;
   const purse = program.resources.map((it) => program.cash(state, it));
   const amounts = (pairs) => program.resources.length > 1 ? program.amounts(pairs) : `${pairs[0][0]}`;
   const items = open.map((p) => {
@@ -387,11 +387,8 @@ function finishing(program, state) {
       needs.length ? [` may still ask for ${amounts(needs)} `, h("span.faint", null, `(of ${amounts(there)})`)] : " has all it may ask for",
       back.length ? `, then gives back ${amounts(back)}` : ""));
   });
-  const others = open.length ? "; the others could, in this order" : "";
   return [
-    stuck.length
-      ? h("p.order-title.bad", null, h("b", null, "Unsafe: "), `nothing makes sure that ${program.names(stuck)} can finish${others}`)
-      : h("p.order-title", null, h("b", null, "Safe: "), "the banker can finish with all, in this order"),
+    h("p.order-title", null, h("b", null, "Safe: "), "the banker can finish with all, in this order"),
     open.length > 8 ? h("p", null, open.map((p) => [nameOf(program.processes[p]), " "])) : h("ol.order", null, items),
   ];
 }
@@ -670,9 +667,12 @@ class Lanes {
 
 // ---- all schedules
 
-/** All configurations of a program, with the moves that are enabled in each. */
+/**
+ * All configurations of a program, with the picks that are enabled in each. By the cash alone a configuration to which
+ * the banker's picks lead too has a twin, his state of it: with his reasons, and with the order in which he can finish.
+ */
 class Graph {
-  constructor(data) {
+  constructor(data, banker) {
     this.program = new Program(data);
     this.nodes = data.nodes.map((rows) => this.program.rows(rows));
     this.states = [data.start];
@@ -684,6 +684,9 @@ class Graph {
       this.before[row[2]] = { n, row };
       this.states.push(state);
     }));
+    this.knowsBanker = data.lend === "banker" || Boolean(banker);
+    const his = new Map(banker?.states.map((state) => [this.program.key(state), state]));
+    this.twins = data.lend === "banker" ? this.states : this.states.map((state) => his.get(this.program.key(state)));
     this.ends = [...data.outcomes, ...data.deadlocks];
     this.found = new Set();
     const into = this.nodes.map(() => []);
@@ -704,6 +707,7 @@ class Graph {
   isDead(end) { return end >= this.program.data.outcomes.length; }
   canReach(n, end) { return !this.can || this.can[end][n] === 1; }
   isLost(n) { return !this.hope[n] && !this.program.data.endless; }
+  isOnlyByCash(n) { return this.knowsBanker && !this.twins[n]; }
 
   wayTo(n) {
     const rows = [];
@@ -714,7 +718,8 @@ class Graph {
 
 class Schedules {
   constructor(documents) {
-    this.graphs = documents.map((it) => new Graph(it));
+    this.graphs = [];
+    for (const it of documents) this.graphs.push(new Graph(it, this.graphs[0]));
     this.lend = 0;
     this.rows = [];
     this.undone = [];
@@ -725,6 +730,7 @@ class Schedules {
   get graph() { return this.graphs[this.lend]; }
   get program() { return this.graph.program; }
   get node() { return this.rows.at(-1)?.[2] ?? 0; }
+  get state() { return this.graph.twins[this.node] ?? this.graph.states[this.node]; }
 
   open() {
     drawText(this.program);
@@ -756,7 +762,7 @@ class Schedules {
       this.rows.push(row);
       this.redraw();
     } else {
-      const [, words] = reason(this.program, this.graph.states[this.node], arm, this.program.data.lend) ?? [];
+      const [, words] = reason(this.program, this.state, arm, this.program.data.lend);
       $("happened").className = this.program.arms[arm].hue;
       $("happened").replaceChildren(chip(this.program, arm), ` cannot go on: ${words}`);
     }
@@ -796,7 +802,7 @@ class Schedules {
   }
 
   redraw() {
-    const { program, graph, node, rows } = this, state = graph.states[node], last = rows.at(-1), { lend } = program.data;
+    const { program, graph, node, rows, state } = this, last = rows.at(-1), { lend } = program.data;
     const before = (i) => graph.states[rows[i - 1]?.[2] ?? 0];
     const lines = rows.map((row, i) => done(program, before(i), graph.states[row[2]], row, 3));
     const entries = rows.map(([arm], i) =>
@@ -807,7 +813,7 @@ class Schedules {
     this.map?.draw(this);
     const moves = new Map(graph.nodes[node].map((row) => [row[0], done(program, state, graph.states[row[2]], row, 3)]));
     const happened = last
-      ? [chip(program, last[0]), ` ${lines.at(-1)}`, h("span.line", null, ` ${last[1]} pick${last[1] > 1 ? "s" : ""}`)]
+      ? [chip(program, last[0]), ` ${lines.at(-1)}`]
       : [h("b", null, "You are the scheduler."), " Which arm goes on?"];
     draw({ program, state, changed, lend, picked: last ? last[0] : null, moves, choose: (arm) => this.choose(arm),
       happened, ending: this.ending(state) });
@@ -825,10 +831,10 @@ class Schedules {
     const found = `You have found ${graph.found.size} of ${graph.ends.length} ways to end.`;
     if (end >= 0) return notice("good", `Outcome ${end + 1}.`, `All processes are over. ${found}`);
     if (graph.isLost(node)) return notice("bad", "Too late.", "Whatever you pick from here on, it ends in a deadlock.");
-    if (program.isSafe(state)) return null;
+    if (!graph.isOnlyByCash(node)) return null;
     const isOpen = graph.ends.some((_, i) => graph.isDead(i) && graph.canReach(node, i));
-    return notice("warn", "Unsafe.", "The banker would not have let it come to this. ", !graph.can ? "" :
-      isOpen ? "It can end in a deadlock, and need not." : "And yet it cannot end in a deadlock.");
+    return notice("warn", "By the cash alone.", "The banker would not have let it come to this. ", !graph.can ? "" :
+      isOpen ? "It can end in a deadlock, and need not." : "From here it cannot end in a deadlock.");
   }
 
   drawGoals() {
@@ -896,8 +902,8 @@ function shortly(program, state, row) {
 }
 
 const KINDS = {
-  free: "safe", end: "end", unsafe: "unsafe", lost: "deadlock certain", dead: "deadlock", never: "never reached",
-  kept: "kept out by the banker",
+  free: "with the banker too", end: "end", unsafe: "by the cash alone", lost: "deadlock certain", dead: "deadlock",
+  never: "never reached", kept: "kept out by the banker",
 };
 
 class Diagram {
@@ -907,7 +913,7 @@ class Diagram {
     const kindOf = (n) => {
       const end = graph.ends.indexOf(n);
       if (end >= 0) return graph.isDead(end) ? "dead" : "end";
-      return graph.isLost(n) ? "lost" : program.isSafe(states[n]) ? "free" : "unsafe";
+      return graph.isLost(n) ? "lost" : graph.isOnlyByCash(n) ? "unsafe" : "free";
     };
     at.at(-1).forEach((it, n) => {
       const kind = kindOf(n);
@@ -942,7 +948,7 @@ class Diagram {
       labels[1].forEach((it, j) => add("text", { "text-anchor": "end", class: program.arms[arms[1]].hue, x: left - 6, y: y(j) + 4 }, it));
     }
     const legend = Object.keys(KINDS).filter((kind) => seen.has(kind)).map((kind) =>
-      h("span", null, h(`i.map-${kind}`), program.resources.length || kind !== "free" ? KINDS[kind] : "reached"));
+      h("span", null, h(`i.map-${kind}`), this.graphs.length > 1 || kind !== "free" ? KINDS[kind] : "reached"));
     $("map").replaceChildren(
       h("h2", null, "Where you are: ", chip(program, arms[0]), " goes to the right, ", chip(program, arms[1]), " up"),
       svg("svg", { viewBox: `0 0 ${width} ${height}`, style: `max-width:${width / 15}rem`, role: "img",
@@ -973,6 +979,12 @@ function open(which) {
   view.open();
 }
 
+/** That these graphs have too many configurations to be in the page. */
+function tooManySchedules(documents) {
+  const lenders = documents.map((it) => (it.lend === "cash" ? "by the cash alone" : "with the banker"));
+  return `More than ${documents[0].more_than} configurations ${listed(lenders)}: too many to walk through`;
+}
+
 function openFrom(hash) {
   const key = hash.has("picks") ? Schedules : hash.has("step") ? Run : Object, which = views.find((it) => it instanceof key) ?? views[0];
   which.from(hash);
@@ -982,11 +994,12 @@ function openFrom(hash) {
 function start() {
   const data = JSON.parse($("data").textContent);
   $("title").textContent = data.title;
-  const graphs = [data.banker, data.cash].filter((it) => it?.nodes);
+  const given = [data.banker, data.cash].filter(Boolean), graphs = given.filter((it) => it.nodes);
   if (data.run) views.push(new Run(data.run));
   if (graphs.length) views.push(new Schedules(graphs));
   $("tabs").replaceChildren(...views.map((it) => button(it.title, it.title, "", () => open(it))));
-  if (!graphs.length) $("note").textContent = data.banker ? `All schedules are too many to walk through: ${data.banker}.` : "";
+  const tooMany = given.filter((it) => it.more_than);
+  if (tooMany.length) $("note").textContent = tooManySchedules(tooMany);
   openFrom(new URLSearchParams(location.hash.slice(1)));
   addEventListener("hashchange", () => openFrom(new URLSearchParams(location.hash.slice(1))));
   addEventListener("resize", () => view.redraw());

@@ -265,6 +265,9 @@ fn outcomes_of_text<'a>(alloc: Global) -> Result<Command<'a>, AllocError>
     let outcomes = with_flag(alloc, outcomes, "expect", expect);
     let any_order = "With --expect: those lines may be printed in any order";
     let outcomes = with_flag(alloc, outcomes, "any-order", any_order);
+    let graph =
+        "Print all schedules as a document for a page; of the other options only --states and --lend then count";
+    let outcomes = with_flag(alloc, outcomes, "graph", graph);
     let run =
         "Print the program with the picks that lead to the outcome with this number, for replay";
     let outcomes = with_given_number(alloc, outcomes, "run", 1, 4_000_000, run);

@@ -158,6 +158,7 @@ fn options(case: &Case) -> Option<OutcomesOptions> {
         fair: false,
         expect: true,
         any_order: case.any_order,
+        graph: false,
         run: None,
         deadlock: None,
     })

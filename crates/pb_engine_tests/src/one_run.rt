@@ -131,6 +131,7 @@ fn options_of(case: &Case) -> OutcomesOptions {
             fair: false,
             expect: false,
             any_order: false,
+            graph: false,
             run: case.run,
             deadlock: case.deadlock,
         };
@@ -143,6 +144,7 @@ fn options_of(case: &Case) -> OutcomesOptions {
         fair: false,
         expect: false,
         any_order: false,
+        graph: false,
         run: case.run,
         deadlock: case.deadlock,
     }

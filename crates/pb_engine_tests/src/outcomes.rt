@@ -23,6 +23,7 @@ const MANY: OutcomesOptions = OutcomesOptions {
     fair: false,
     expect: false,
     any_order: false,
+    graph: false,
     run: None,
     deadlock: None,
 };
@@ -36,6 +37,7 @@ const FAIR: OutcomesOptions = OutcomesOptions {
     fair: true,
     expect: false,
     any_order: false,
+    graph: false,
     run: None,
     deadlock: None,
 };
@@ -48,6 +50,7 @@ const CASH: OutcomesOptions = OutcomesOptions {
     fair: false,
     expect: false,
     any_order: false,
+    graph: false,
     run: None,
     deadlock: None,
 };
@@ -60,6 +63,7 @@ const PRINTS: OutcomesOptions = OutcomesOptions {
     fair: false,
     expect: false,
     any_order: false,
+    graph: false,
     run: None,
     deadlock: None,
 };
@@ -155,6 +159,7 @@ const CASES: [Case; 19] = [
             fair: false,
             expect: false,
             any_order: false,
+            graph: false,
             run: None,
             deadlock: None,
         },
@@ -171,6 +176,7 @@ const CASES: [Case; 19] = [
             fair: false,
             expect: false,
             any_order: false,
+            graph: false,
             run: None,
             deadlock: None,
         },
@@ -209,6 +215,25 @@ const CASES: [Case; 19] = [
     },
 ];
 
+/// The document of all schedules of a text, in place of all else.
+const DOCUMENT: Case = Case {
+    text: b"process p begin print 1 end\n",
+    options: OutcomesOptions {
+        states: 4,
+        lend: Lend::Banker,
+        first_deadlock: true,
+        prints: true,
+        fair: true,
+        expect: true,
+        any_order: true,
+        graph: true,
+        run: Some(1),
+        deadlock: None,
+    },
+    said: b"{\"parbegin\":1,\"kind\":\"schedules\",\"text\":\"process p begin print 1 end\\n\",\"object\":\"PBO 2\\nresources 0\\nprocesses 1\\nprocess p\\nvars 0\\narms 1\\nclaims\\narm 0\\ncode 3\\n1 push 1\\n1 print\\n0 end\\n\",\"lend\":\"banker\",\"start\":[0,[],0,[0]],\"nodes\":[[[0,0,1,0,1,1,[1]]],[[0,0,2,0,2,1,[],\"p.0 print 1\"]],[[0,0,3,0,-2,\"p end\"]],[]],\"outcomes\":[3],\"deadlocks\":[],\"endless\":false}\n",
+    status: Status::Done,
+};
+
 /// Returns whether this is said of a text.
 fn says(alloc: Global, case: &Case) -> Option<bool> {
     let mut input = MemoryInput::new(case.text);
@@ -222,6 +247,11 @@ fn outcomes_are_told(rt: HostRuntime) {
     for case in &CASES {
         assert!(rt; says(rt.alloc(), case) == Some(true));
     }
+}
+
+#[test]
+fn the_document_of_all_schedules_is_told(rt: HostRuntime) {
+    assert!(rt; says(rt.alloc(), &DOCUMENT) == Some(true));
 }
 
 /// Returns whether nothing is said of a text of which a read fails.

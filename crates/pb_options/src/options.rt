@@ -140,6 +140,8 @@ pub struct OutcomesOptions {
     pub expect: bool,
     /// Whether those lines may be printed in any order.
     pub any_order: bool,
+    /// Whether all schedules are written as a document, in place of all else.
+    pub graph: bool,
     /// The number of an outcome, from 1 to 4,000,000, if the text is to be written with the picks that lead to it.
     pub run: Option<u32>,
     /// The number of a deadlock, from 1 to 4,000,000, if that is asked of a deadlock, and of no outcome.

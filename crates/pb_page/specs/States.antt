@@ -5,10 +5,12 @@ use Rattle.std.specs.Prelude.{slice_get, slice_index_or, Some}
 use Rattle.std.specs.Fmt.{decimal}
 use Rattle.pb_base.specs.Banker.{BankerState, IsLeastFirst, loan, processes, resources}
 use Rattle.pb_base.specs.Lines.{each_below}
+use Rattle.pb_base.specs.declared.lending.Lending.{Lending}
+use Rattle.pb_base.specs.declared.lending.Lending.TheVariants.{ByBanker, ByCash}
 use Rattle.pb_base.specs.Steppers.{Bundle, State, banker_state}
 use Rattle.pb_code.specs.Code.{CodeProcess, ProcessCode, Thread, Idle, Live, Ended, thread}
 use Rattle.pb_code.specs.Whole.{Code, bank_of}
-use Rattle.pb_debug_texts.specs.Reasons.{IsReason}
+use Rattle.pb_debug_texts.specs.Reasons.{IsReasonBy}
 use Rattle.pb_debug_texts.specs.declared.why.Why.{Why}
 use Rattle.pb_debug_texts.specs.declared.why.Why.TheVariants.{NotAsking, Cash, Order, Rest, Granted}
 use Rattle.pb_json.specs.Values.{integer_text, integers_text, list_text}
@@ -62,13 +64,13 @@ why_text Granted = codes "1"
 why_text (Cash resource amount) = cash_text resource
 why_text (Rest rest) = codes "[\"rest\"" ++ (numbers_text rest.items ++ codes "]")
 
--- why an arm of process p does not go on: it is at no request; or the reason of its request
-pub data IsWhyText (code : Code) (s : State CodeProcess) (p : ℕ) (t : Thread) (text : List ℕ) : Type 0 where
+-- why an arm of process p does not go on under this lending: it is at no request; or the reason of its request
+pub data IsWhyText (lending : Lending) (code : Code) (s : State CodeProcess) (p : ℕ) (t : Thread) (text : List ℕ) : Type 0 where
   not_asking : ((of : ProcessCode) (bundle : Bundle) → slice_get code.processes p ≡ Some of → IsAtTake of t bundle → ⊥)
-      → text ≡ why_text NotAsking → IsWhyText code s p t text
+      → text ≡ why_text NotAsking → IsWhyText lending code s p t text
   asking : (of : ProcessCode) (bundle : Bundle) (why : Why) → slice_get code.processes p ≡ Some of
-      → IsAtTake of t bundle → IsReason (bank_at code s) p bundle why → text ≡ why_text why
-      → IsWhyText code s p t text
+      → IsAtTake of t bundle → IsReasonBy lending (bank_at code s) p bundle why → text ≡ why_text why
+      → IsWhyText lending code s p t text
 
 -- ---- the entries
 
@@ -79,9 +81,9 @@ places_of process =
 abbrev pub operands_of : CodeProcess → List (List ℕ)
 operands_of process = parts_below (λ a. operands_text (thread process.threads a) ∷ []) (length process.threads)
 
-abbrev pub AreWhysOf : Code → State CodeProcess → (p : ℕ) → CodeProcess → List (List ℕ) → Type 0
-AreWhysOf code s p process =
-    ArePartsBelow (λ a part. (text : List ℕ) × IsWhyText code s p (thread process.threads a) text × (part ≡ text ∷ []))
+abbrev pub AreWhysOf : Lending → Code → State CodeProcess → (p : ℕ) → CodeProcess → List (List ℕ) → Type 0
+AreWhysOf lending code s p process =
+    ArePartsBelow (λ a part. (text : List ℕ) × IsWhyText lending code s p (thread process.threads a) text × (part ≡ text ∷ []))
     (length process.threads)
 
 abbrev pub integers_of : CodeProcess → List (List ℕ)
@@ -90,18 +92,23 @@ integers_of process = map integer_text process.vars
 abbrev pub loans_of : BankerState → ℕ → List (List ℕ)
 loans_of bank p = parts_below (λ r. decimal (loan bank p r) ∷ []) (resources bank)
 
--- the processes in the order in which they can finish, as a list
+-- the order in which the banker can finish with all processes, least number first; none under the cash alone
+abbrev pub IsOrderBy : Lending → BankerState → List ℕ → Type 0
+IsOrderBy ByBanker bank order = IsLeastFirst bank order
+IsOrderBy ByCash bank order = order ≡ []
+
+-- the processes of an order, as a list
 abbrev pub order_text : List ℕ → List ℕ
 order_text order = list_text (λ k. decimal (slice_index order k)) (length order)
 
--- the entries of a state: of all arms, process by process, the places, then the operands, then the reasons;
--- the integers of each process; what each process holds of each resource; the order in which the banker can
--- finish, least number first
-pub record IsState (code : Code) (s : State CodeProcess) (entries : List (List ℕ)) : Type 0 where
+-- the entries of a state under this lending: of all arms, process by process, the places, then the operands,
+-- then the reasons; the integers of each process; what each process holds of each resource; the order in which the
+-- banker can finish
+pub record IsStateBy (lending : Lending) (code : Code) (s : State CodeProcess) (entries : List (List ℕ)) : Type 0 where
   pub whys : List (List ℕ)
   pub order : List ℕ
-  pub are_whys : ArePartsBelow (λ p part. AreWhysOf code s p (process_at s p) part) (length s.processes) whys
-  pub least_first : IsLeastFirst (bank_at code s) order
+  pub are_whys : ArePartsBelow (λ p part. AreWhysOf lending code s p (process_at s p) part) (length s.processes) whys
+  pub is_order : IsOrderBy lending (bank_at code s) order
   pub are : entries ≡
       ((((parts_below (λ p. places_of (process_at s p)) (length s.processes)
       ++ parts_below (λ p. operands_of (process_at s p)) (length s.processes))
@@ -109,3 +116,7 @@ pub record IsState (code : Code) (s : State CodeProcess) (entries : List (List �
       ++ parts_below (λ p. integers_of (process_at s p)) (length s.processes))
       ++ parts_below (loans_of (bank_at code s)) (processes (bank_at code s)))
       ++ order_text order ∷ []
+
+-- so they are under the banker
+abbrev pub IsState : Code → State CodeProcess → List (List ℕ) → Type 0
+IsState code s entries = IsStateBy ByBanker code s entries

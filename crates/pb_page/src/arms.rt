@@ -1,8 +1,9 @@
 //! The entries of arms: where each is, its operands, and why it does not go on.
 
 ghost use Rattle.std.specs.Prelude.{◌≡◌, ◌<◌, ◌++◌, ◌∷◌, [], ℕ, List, length, map, slice_get, Some, IfOk, OnOk};
+ghost use Rattle.pb_banker.specs.Lenders.{lending_by};
 ghost use Rattle.pb_debug_texts.specs.declared.why.Why.{Why as GivenWhy};
-ghost use Rattle.pb_machine.specs.Views.{IsMachineOf, machine_view, proc_view, thread_view};
+ghost use Rattle.pb_machine.specs.Views.{IsMachineBy, machine_view, proc_view, thread_view};
 ghost use Rattle.pb_page.specs.States as spec;
 ghost use Rattle.pb_page.specs.States.{AreWhysOf, IsWhyText};
 ghost use Rattle.pb_page.specs.Texts.{texts};
@@ -145,10 +146,10 @@ fn why_of(
     p: usize,
     arm: usize,
 ) -> Result<Vec<u8>, NoMemory>
-    requires machine { IsMachineOf verified.now machine.now }
+    requires machine { IsMachineBy (lending_by machine.now.bank) verified.now machine.now }
     requires process { p < length (machine_view machine.now).processes }
     requires arm { arm < length (spec.process_at (machine_view machine.now) p).threads }
-    ensures { IfOk result (λ text. IsWhyText verified.now.code (machine_view machine.now) p
+    ensures { IfOk result (λ text. IsWhyText (lending_by machine.now.bank) verified.now.code (machine_view machine.now) p
         (spec.thread_at (machine_view machine.now) p arm) text.items) }
 {
     let code = &verified.code().processes[p];
@@ -169,11 +170,11 @@ pub(crate) fn add_whys(
     machine: &Machine,
     p: usize,
 ) -> Result<(), NoMemory>
-    requires machine { IsMachineOf verified.now machine.now }
+    requires machine { IsMachineBy (lending_by machine.now.bank) verified.now machine.now }
     requires process { p < length (machine_view machine.now).processes }
     ensures { OnOk result ((part : List (List ℕ))
         × (texts entries.new.items ≡ texts entries.old.items ++ part)
-        × AreWhysOf verified.now.code (machine_view machine.now) p
+        × AreWhysOf (lending_by machine.now.bank) verified.now.code (machine_view machine.now) p
         (spec.process_at (machine_view machine.now) p) part) }
 {
     for arm in 0..machine.proc(p).arms() {

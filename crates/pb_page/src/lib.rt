@@ -7,4 +7,6 @@ mod row;
 mod run;
 mod state;
 
-pub use run::{Shown, run_document};
+pub use row::{put_changes, put_shown};
+pub use run::{Shown, put_state, run_document};
+pub use state::state_of;

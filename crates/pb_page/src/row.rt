@@ -43,8 +43,8 @@ fn put_change(out: &mut Vec<u8>, k: usize, before: &[u8], after: &[u8]) -> Resul
     put(out, after)
 }
 
-/// Appends the entries that differ.
-fn put_changes(out: &mut Vec<u8>, before: &[Vec<u8>], after: &[Vec<u8>]) -> Result<(), NoMemory>
+/// Appends the entries that differ, each with its number.
+pub fn put_changes(out: &mut Vec<u8>, before: &[Vec<u8>], after: &[Vec<u8>]) -> Result<(), NoMemory>
     ensures { OnOk result (out.new.items
         ≡ out.old.items ++ spec.changes_text (texts before.now) (texts after.now)) }
 {
@@ -55,7 +55,7 @@ fn put_changes(out: &mut Vec<u8>, before: &[Vec<u8>], after: &[Vec<u8>]) -> Resu
 }
 
 /// Appends the line of the event that a pick shows, if it shows one.
-fn put_shown(out: &mut Vec<u8>, alloc: Global, names: &Names, step: &Step) -> Result<(), NoMemory>
+pub fn put_shown(out: &mut Vec<u8>, alloc: Global, names: &Names, step: &Step) -> Result<(), NoMemory>
     requires { HasNamesOf (names_view names.now) step.now }
     ensures { OnOk result (out.new.items ≡ out.old.items ++ spec.shown_text (names_view names.now) step.now) }
 {

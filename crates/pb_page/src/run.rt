@@ -42,7 +42,7 @@ fn put_entry(out: &mut Vec<u8>, k: usize, entry: &[u8]) -> Result<(), NoMemory>
 }
 
 /// Appends the entries of a state as a list.
-fn put_state(out: &mut Vec<u8>, entries: &[Vec<u8>]) -> Result<(), NoMemory>
+pub fn put_state(out: &mut Vec<u8>, entries: &[Vec<u8>]) -> Result<(), NoMemory>
     ensures { OnOk result (out.new.items ≡ out.old.items ++ spec.state_text (texts entries.now)) }
 {
     put(out, b"[")?;

@@ -2,18 +2,19 @@
 
 ghost use Rattle.std.specs.Prelude.{◌≡◌, ◌<◌, ◌++◌, ◌∷◌, [], ℕ, List, length, map, slice_index, IfOk, OnOk};
 ghost use Rattle.std.specs.Fmt.{decimal};
-ghost use Rattle.pb_banker.specs.Lenders.{lender_state};
-ghost use Rattle.pb_base.specs.Banker.{IsLeastFirst, processes, resources};
+ghost use Rattle.pb_banker.specs.Lenders.{lender_state, lending_by};
+ghost use Rattle.pb_base.specs.Banker.{processes, resources};
+ghost use Rattle.pb_base.specs.declared.lending.Lending.{Lending as LendingValue};
 ghost use Rattle.pb_json.specs.Values.{comma, integer_text};
-ghost use Rattle.pb_machine.specs.Views.{IsMachineOf, machine_view, proc_view};
+ghost use Rattle.pb_machine.specs.Views.{IsMachine, IsMachineBy, machine_view, proc_view};
 ghost use Rattle.pb_page.specs.Parts.{ArePartsBelow, parts_below};
 ghost use Rattle.pb_page.specs.States as spec;
-ghost use Rattle.pb_page.specs.States.{AreWhysOf, IsState};
+ghost use Rattle.pb_page.specs.States.{AreWhysOf, IsOrderBy, IsStateBy};
 ghost use Rattle.pb_page.specs.Texts.{texts};
 
 use crate::arms::{add, add_operands, add_places, add_whys};
-use pb_banker::{Banker, Lender};
-use pb_base::NoMemory;
+use pb_banker::Lender;
+use pb_base::{Lending, NoMemory};
 use pb_base::writing::{put, put_digits};
 use pb_json::{put_comma, put_integer};
 use pb_machine::{Machine, Proc};
@@ -59,10 +60,10 @@ fn add_all_whys(
     verified: &Verified,
     machine: &Machine,
 ) -> Result<(), NoMemory>
-    requires { IsMachineOf verified.now machine.now }
+    requires { IsMachineBy (lending_by machine.now.bank) verified.now machine.now }
     ensures { OnOk result ((whys : List (List ℕ))
         × (texts entries.new.items ≡ texts entries.old.items ++ whys)
-        × ArePartsBelow (λ p part. AreWhysOf verified.now.code (machine_view machine.now) p
+        × ArePartsBelow (λ p part. AreWhysOf (lending_by machine.now.bank) verified.now.code (machine_view machine.now) p
         (spec.process_at (machine_view machine.now) p) part)
         (length (machine_view machine.now).processes) whys) }
 {
@@ -169,32 +170,63 @@ fn order_text(alloc: Global, order: &[u8]) -> Result<Vec<u8>, NoMemory>
     Ok(text)
 }
 
+/// Returns the order in which the banker can finish; no process under the cash alone.
+fn order_of(alloc: Global, machine: &Machine) -> Result<Vec<u8>, NoMemory>
+    ensures { IfOk result (λ order.
+        IsOrderBy (lending_by machine.now.bank) (lender_state machine.now.bank) order.items) }
+{
+    match machine.lending() {
+        Lending::ByBanker => machine.banker().order(alloc),
+        Lending::ByCash => Ok(Vec::new(alloc)),
+    }
+}
+
 /// Adds the order in which the banker can finish.
-fn add_order(alloc: Global, entries: &mut Vec<Vec<u8>>, banker: &Banker) -> Result<(), NoMemory>
-    ensures { OnOk result ((order : List ℕ) × IsLeastFirst banker.now.state order
+fn add_order(
+    alloc: Global,
+    entries: &mut Vec<Vec<u8>>,
+    machine: &Machine,
+) -> Result<(), NoMemory>
+    ensures { OnOk result ((order : List ℕ)
+        × IsOrderBy (lending_by machine.now.bank) (lender_state machine.now.bank) order
         × (texts entries.new.items ≡ texts entries.old.items ++ spec.order_text order ∷ [])) }
 {
-    let order = banker.order(alloc)?;
+    let order = order_of(alloc, machine)?;
     let text = order_text(alloc, &order)?;
     add(entries, text)
 }
 
+/// Adds the entries of the state that a machine is in.
+fn add_all(
+    alloc: Global,
+    entries: &mut Vec<Vec<u8>>,
+    verified: &Verified,
+    machine: &Machine,
+) -> Result<(), NoMemory>
+    requires machine { IsMachineBy (lending_by machine.now.bank) verified.now machine.now }
+    requires none { entries.old.items ≡ [] }
+    ensures { OnOk result (IsStateBy (lending_by machine.now.bank) verified.now.code (machine_view machine.now)
+        (texts entries.new.items)) }
+{
+    add_all_places(alloc, entries, machine)?;
+    add_all_operands(alloc, entries, machine)?;
+    add_all_whys(alloc, entries, verified, machine)?;
+    add_all_integers(alloc, entries, machine)?;
+    add_all_loans(alloc, entries, machine.lender())?;
+    add_order(alloc, entries, machine)
+}
+
 /// Returns the entries of the state that a machine is in.
-pub(crate) fn state_of(
+pub fn state_of(
     alloc: Global,
     verified: &Verified,
     machine: &Machine,
 ) -> Result<Vec<Vec<u8>>, NoMemory>
-    requires { IsMachineOf verified.now machine.now }
-    ensures { IfOk result (λ entries.
-        IsState verified.now.code (machine_view machine.now) (texts entries.items)) }
+    requires { IsMachine verified.now machine.now }
+    ensures { IfOk result (λ entries. (lending : LendingValue) → IsMachineBy lending verified.now machine.now
+        → IsStateBy lending verified.now.code (machine_view machine.now) (texts entries.items)) }
 {
     let mut entries = Vec::new(alloc);
-    add_all_places(alloc, &mut entries, machine)?;
-    add_all_operands(alloc, &mut entries, machine)?;
-    add_all_whys(alloc, &mut entries, verified, machine)?;
-    add_all_integers(alloc, &mut entries, machine)?;
-    add_all_loans(alloc, &mut entries, machine.lender())?;
-    add_order(alloc, &mut entries, machine.banker())?;
+    add_all(alloc, &mut entries, verified, machine)?;
     Ok(entries)
 }

@@ -1,2 +1,3 @@
 pub mod StatesLemmas
 pub mod ReplayStatus
+pub mod SchedulesLemmas

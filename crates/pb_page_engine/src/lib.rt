@@ -1,6 +1,9 @@
-//! The engines behind the data of a page in a browser: the states of a run.
+//! The engines behind the data of a page in a browser: the states of a run, and all schedules of a text.
 #![tactic(auto)]
 
+mod object;
+mod schedules;
 mod states;
 
+pub use schedules::tell_schedules;
 pub use states::states_engine;

@@ -2,8 +2,6 @@
 
 ghost use Rattle.std.specs.Prelude.{◌≢◌, ◌↔◌, ◌≤◌, IfErr, IfOk, IfSome, IsTrue, length};
 ghost use Rattle.pb_code.specs.Limits.{AreLabels};
-ghost use Rattle.pb_object.specs.Answers.{SpellsCode};
-ghost use Rattle.pb_object.specs.declared.format.Format.TheVariants.{Two};
 ghost use Rattle.pb_page_engine.specs.States.{IsDocument, SaysOfStates, SaysOfStatesLines};
 ghost use Rattle.pb_command_io.specs.Answers.{Tells};
 ghost use Rattle.pb_command_io.specs.Faults.{TellsFaults, TellsWriteFaults};
@@ -15,6 +13,7 @@ ghost use Rattle.pb_history.specs.Entries.{picks_of};
 ghost use Rattle.pb_history.specs.Positions.{AreEnabled};
 ghost use Rattle.pb_machine.specs.Views.{machine_view};
 
+use crate::object::object_of;
 use pb_accept::{LinesFault, compile_text, lines_refusal, refuse};
 use pb_base::limits::{MAX_INPUT, MAX_PICKS};
 use pb_base::{Input, NoMemory, Output};
@@ -23,7 +22,6 @@ use pb_command_io::{Reply, Status, read_input, tell, two_parts};
 use pb_history::Trace;
 use pb_history::replay::replay_counted;
 use pb_machine::Machine;
-use pb_object::write_object2;
 use pb_page::{Shown, run_document};
 use pb_picks::read_picks;
 use pb_verifier::Verified;
@@ -137,16 +135,6 @@ fn status_at(machine: &Machine) -> Status
     } else {
         Status::Done
     }
-}
-
-/// Returns the object of a compiled text.
-fn object_of(alloc: Global, compiled: &Compiled) -> Result<Vec<u8>, NoMemory>
-    requires { AreLabels compiled.now.verified.code compiled.now.labels }
-    ensures { IfOk result (λ object.
-        SpellsCode Two compiled.now.verified.code compiled.now.labels object.items) }
-{
-    let code = compiled.verified().code();
-    write_object2(alloc, code, compiled.labels())
 }
 
 /// Returns the document of a replay.

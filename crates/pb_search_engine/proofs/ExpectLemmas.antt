@@ -17,7 +17,9 @@ use Rattle.pb_command_io.specs.Parts.{AreTwoParts}
 use Rattle.pb_command_io.specs.declared.status.Status.{Status}
 use Rattle.pb_command_io.specs.declared.status.Status.TheVariants.{Done, Limit, Refused, Unexpected}
 use Rattle.pb_options.specs.declared.options.Lend.{Lend}
+use Rattle.pb_options.specs.Lends.{lending_for}
 use Rattle.pb_options.specs.declared.options.OutcomesOptions.{OutcomesOptions}
+use Rattle.pb_page_engine.specs.Schedules.{SaysOfSchedules}
 use Rattle.pb_search.specs.Deadlocks.{AreFoundAt, AreSomeDeadlocks, FoundDeadlock, deadlock_view}
 use Rattle.pb_search.specs.Outcomes.{AreSomeOutcomes, Found, found_view}
 use Rattle.pb_search.specs.Told.{IsTold, Tells as SearchTells}
@@ -34,7 +36,7 @@ use Rattle.pb_search_engine.specs.Expected.{IsFirstOther, IsWanted, printing}
 use Rattle.pb_search_engine.specs.PrintLines.{IsBadPrint, SpellsPrints}
 use Rattle.pb_search_engine.specs.SaysExpected.{IsPlain, SaysOfExpected, SaysOfLines, SaysOfRuns, TellsDeadlock, TellsOutcome, compared, no_prints, no_text}
 use Rattle.pb_search_engine.specs.SaysExpected.{as_expected, deadlock, endless, long, many, outcome}
-use Rattle.pb_search_engine.specs.SaysOfAll.{SaysOfSearches, SaysWhether}
+use Rattle.pb_search_engine.specs.SaysOfAll.{SaysOfSearches, SaysOrDocument, SaysWhether}
 use Rattle.pb_search_engine.specs.Showing.{HaveProcesses}
 use Rattle.pb_search_engine.specs.declared.print_lines.PrintFault.TheVariants.{NotPrint}
 use Rattle.pb_search_engine.proofs.OutcomeLemmas.{deadlocks_few, deadlocks_here, found_few, found_here, some_told}
@@ -196,6 +198,22 @@ text_refused lend any_order states bytes text lines old new given short few cut 
 
 -- what is said by whether it is asked what is expected
 pub tells_whether : (options : OutcomesOptions) (b : Bool) → options.expect ≡ b → (bytes : List ℕ) (old new : Option (List ℕ)) (given : Status)
-    → Tells (SaysOfInput (SaysWhether b options) bytes) old new given → Tells (SaysOfInput (SaysOfSearches options) bytes) old new given
+    → Tells (SaysOfInput (SaysWhether b options) bytes) old new given
+    → Tells (SaysOfInput (SaysWhether options.expect options) bytes) old new given
 tells_whether options b is bytes old new given said =
     subst (λ (b : Bool). Tells (SaysOfInput (SaysWhether b options) bytes) old new given) (sym is) said
+
+-- and by whether the document of all schedules is asked for
+pub tells_or_document : (options : OutcomesOptions) (b : Bool) → options.graph ≡ b → (bytes : List ℕ) (old new : Option (List ℕ))
+    (given : Status) → Tells (SaysOfInput (SaysOrDocument b options) bytes) old new given
+    → Tells (SaysOfInput (SaysOfSearches options) bytes) old new given
+tells_or_document options b is bytes old new given said =
+    subst (λ (b : Bool). Tells (SaysOfInput (SaysOrDocument b options) bytes) old new given) (sym is) said
+
+pub tells_document : (options : OutcomesOptions) → options.graph ≡ true → (lending : Lending) → lending ≡ lending_for options.lend
+    → (bytes : List ℕ) (old new : Option (List ℕ)) (given : Status)
+    → Tells (SaysOfInput (SaysOfSchedules lending options.states) bytes) old new given
+    → Tells (SaysOfInput (SaysOfSearches options) bytes) old new given
+tells_document options is lending by bytes old new given said =
+    tells_or_document options true is bytes old new given
+    (subst (λ (l : Lending). Tells (SaysOfInput (SaysOfSchedules l options.states) bytes) old new given) by said)

@@ -1,7 +1,9 @@
 -- What `outcomes` says of an input by its options.
 use Rattle.std.specs.Prelude.{ℕ, Bool, true, false, List, Option, None, Some}
 use Rattle.pb_command_io.specs.declared.status.Status.{Status}
+use Rattle.pb_options.specs.Lends.{lending_for}
 use Rattle.pb_options.specs.declared.options.OutcomesOptions.{OutcomesOptions}
+use Rattle.pb_page_engine.specs.Schedules.{SaysOfSchedules}
 use Rattle.pb_search_engine.specs.SaysExpected.{SaysOfExpected}
 use Rattle.pb_search_engine.specs.SaysOfOne.{SaysOfOne}
 use Rattle.pb_search_engine.specs.SaysOutcomes.{SaysOfOutcomes}
@@ -26,5 +28,10 @@ abbrev pub SaysWhether : (expect : Bool) → OutcomesOptions → List ℕ → Li
 SaysWhether true options = SaysOfExpected options.lend options.any_order options.states
 SaysWhether false options = SaysWhich (target_of options.run options.deadlock) options
 
+-- the document of all schedules, if that is asked; else the others
+abbrev pub SaysOrDocument : (graph : Bool) → OutcomesOptions → List ℕ → List ℕ → Status → Type 0
+SaysOrDocument true options = SaysOfSchedules (lending_for options.lend) options.states
+SaysOrDocument false options = SaysWhether options.expect options
+
 abbrev pub SaysOfSearches : OutcomesOptions → List ℕ → List ℕ → Status → Type 0
-SaysOfSearches options = SaysWhether options.expect options
+SaysOfSearches options = SaysOrDocument options.graph options

@@ -5,7 +5,7 @@ ghost use Rattle.pb_code.specs.Limits.{AreLabels};
 ghost use Rattle.pb_command_io.specs.Answers.{Tells};
 ghost use Rattle.pb_command_io.specs.Faults.{TellsFaults, TellsWriteFaults};
 ghost use Rattle.pb_command_io.specs.Inputs.{SaysOfInput};
-ghost use Rattle.pb_search_engine.specs.SaysOfAll.{SaysOfSearches, target_of};
+ghost use Rattle.pb_search_engine.specs.SaysOfAll.{SaysOfSearches, SaysWhether, target_of};
 ghost use Rattle.pb_search.specs.Outcomes.{IsBounded};
 ghost use Rattle.pb_search.specs.declared.found.Extent.TheVariants.{All as AllFound};
 ghost use Rattle.pb_search_engine.specs.FairLines.{fair_line, status_with};
@@ -22,6 +22,7 @@ use pb_base::{Input, NoMemory, Output};
 use pb_codegen::Compiled;
 use pb_command_io::{Reply, Status, read_input, tell};
 use pb_options::{Lend, OutcomesOptions};
+use pb_page_engine::tell_schedules;
 use pb_search::explore::explore_by;
 use pb_search::{Extent, Until};
 use pb_search_fair::{FairRuns, fair_runs};
@@ -44,7 +45,8 @@ use std::alloc::Global;
 ///
 /// With `options.run` or `options.deadlock` the text is written with the picks that lead to the one with this
 /// number, as `replay` reads it, or that there is none. With `options.expect` the input is a text and print lines
-/// behind it, and it is written whether all runs of the text are as these lines say, as `tell_expected` does.
+/// behind it, and it is written whether all runs of the text are as these lines say, as `tell_expected` does. With
+/// `options.graph` the document of all its schedules is written in place of all else, as `tell_schedules` does.
 ///
 /// After a read that failed nothing is written; after a write that failed, a prefix of the output.
 pub fn outcomes_engine<I: Input, O: Output>(
@@ -61,9 +63,27 @@ pub fn outcomes_engine<I: Input, O: Output>(
         result }
 {
     match read_input(alloc, input, output) {
-        Ok(bytes) => tell_text(alloc, options, bytes.as_slice(), output),
+        Ok(bytes) => tell_bytes(alloc, options, bytes.as_slice(), output),
         Err(status) => status,
     }
+}
+
+/// Writes what is said of a whole input.
+fn tell_bytes<O: Output>(
+    alloc: Global,
+    options: OutcomesOptions,
+    bytes: &[u8],
+    output: &mut O,
+) -> Status
+    requires { length bytes.now ≤ MAX_INPUT }
+    ensures text { Tells (SaysOfInput (SaysOfSearches options) bytes.now) (O.written output.old) (O.written output.new) result }
+    ensures faults { TellsWriteFaults (O.failures output.old) (O.failures output.new) result }
+{
+    if options.graph {
+        let lending = options.lend.lending();
+        return tell_schedules(alloc, lending, options.states, bytes, output);
+    }
+    tell_text(alloc, options, bytes, output)
 }
 
 /// Writes the outcomes of a text, or a run to one of them, or whether all runs of it are as expected.
@@ -74,7 +94,7 @@ fn tell_text<O: Output>(
     output: &mut O,
 ) -> Status
     requires { length bytes.now ≤ MAX_INPUT }
-    ensures text { Tells (SaysOfInput (SaysOfSearches options) bytes.now) (O.written output.old) (O.written output.new) result }
+    ensures text { Tells (SaysOfInput (SaysWhether options.expect options) bytes.now) (O.written output.old) (O.written output.new) result }
     ensures faults { TellsWriteFaults (O.failures output.old) (O.failures output.new) result }
 {
     if options.expect {

@@ -162,6 +162,7 @@ fn outcomes_options(matches: &ArgMatches<'_>) -> Option<OutcomesOptions>
         fair: flag(matches, "fair"),
         expect: flag(matches, "expect"),
         any_order: flag(matches, "any-order"),
+        graph: flag(matches, "graph"),
         run,
         deadlock,
     })

@@ -1,4 +1,5 @@
 use Rattle.std.proofs.Common.{◌≡◌, ℕ, List, [], ◌∷◌, length, refl, ap, subst, arith}
+use Rattle.pb_banker.specs.Lenders.{lending_by}
 use Rattle.pb_code.specs.Code.{CodeProcess, thread}
 use Rattle.pb_machine.specs.Views.{machine_view}
 use Rattle.pb_page.specs.Parts.{ArePartsBelow}
@@ -11,7 +12,7 @@ pub loop-arm-preserved : goal.loop-arm-preserved
 loop-arm-preserved c =
     let s = machine_view c.args.machine.now in
     let text = c.in_ok-text.text.items in
-    are_next (λ a one. (text : List ℕ) × IsWhyText c.args.verified.now.code s c.args.p (thread (process_at s c.args.p).threads a) text
+    are_next (λ a one. (text : List ℕ) × IsWhyText (lending_by c.args.machine.now.bank) c.args.verified.now.code s c.args.p (thread (process_at s c.args.p).threads a) text
     × (one ≡ text ∷ [])) c.loop-arm.arm (texts c.args.entries.now.items) (texts c.loop-arm.entries.items)
     (texts c.add.new.entries.items) (text ∷ []) c.loop-arm.invariant c.in_ok-add.ensures (text, c.in_ok-text.ensures, refl)
 
@@ -26,6 +27,6 @@ returns c =
     let e : c.loop-arm.arm ≡ length (process_at s c.args.p).threads = omega (arith, arms, same, test, past) in (
       c.loop-arm.invariant.0,
       c.loop-arm.invariant.1,
-      subst (λ (n : ℕ). ArePartsBelow (λ a one. (text : List ℕ) × IsWhyText c.args.verified.now.code s c.args.p (thread (process_at s c.args.p).threads a) text
+      subst (λ (n : ℕ). ArePartsBelow (λ a one. (text : List ℕ) × IsWhyText (lending_by c.args.machine.now.bank) c.args.verified.now.code s c.args.p (thread (process_at s c.args.p).threads a) text
           × (one ≡ text ∷ [])) n c.loop-arm.invariant.0) e c.loop-arm.invariant.2,
     )

@@ -30,7 +30,8 @@ returns-clause-row c =
     let pick = c.pick-pick.result in
     let old = c.args.out.now.items in
     let named = names_view c.code-code.result.now.names in
-    let reached = (c.advance-step.ensures.walks ByBanker c.requires.walks).stands.state ∙ ap (state_after v.code picks) c.advance-step.ensures.at in (
+    let stands = (c.advance-step.ensures.walks ByBanker c.requires.walks).stands in
+    let reached = stands.state ∙ ap (state_after v.code picks) c.advance-step.ensures.at in (
       row_text v.code.names c.pick-pick.result before after step,
       c.in_ok-put_row.ensures
           ∙ (ap (λ (es : List (Vec ℕ Global)). old ++ row_text named pick (texts es) (texts c.deref-2.result.now) step) c.deref.ensures.value
@@ -44,7 +45,7 @@ returns-clause-row c =
         before = before;
         is_before = c.requires.state;
         after = after;
-        is_after = subst (λ (s : State CodeProcess). IsState v.code s after) reached c.in_ok-after.ensures;
+        is_after = subst (λ (s : State CodeProcess). IsState v.code s after) reached (c.in_ok-after.ensures ByBanker stands.machine);
         written = refl;
       },
     )
@@ -53,12 +54,13 @@ pub advance-step-requires-clause-walks : goal.advance-step-requires-clause-walks
 advance-step-requires-clause-walks c = (ByBanker, c.requires.walks)
 
 pub state_of-requires : goal.state_of-requires
-state_of-requires c = (c.advance-step.ensures.walks ByBanker c.requires.walks).stands.machine
+state_of-requires c = (ByBanker, (c.advance-step.ensures.walks ByBanker c.requires.walks).stands.machine)
 
 pub returns-clause-walks : goal.returns-clause-walks
 returns-clause-walks c = c.advance-step.ensures.walks ByBanker c.requires.walks
 
 pub returns-clause-state : goal.returns-clause-state
 returns-clause-state c =
+    let stands = (c.advance-step.ensures.walks ByBanker c.requires.walks).stands in
     subst (λ (s : State CodeProcess). IsState c.args.verified.now.code s (texts c.in_ok-after.after.items))
-    (c.advance-step.ensures.walks ByBanker c.requires.walks).stands.state c.in_ok-after.ensures
+    stands.state (c.in_ok-after.ensures ByBanker stands.machine)

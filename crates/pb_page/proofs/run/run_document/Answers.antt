@@ -1,5 +1,6 @@
 use Rattle.std.proofs.Common.{Vec, Global, ◌≡◌, ◌+◌, ℕ, List, ◌++◌, length, ap, ◌∙◌, subst, arith}
 use Rattle.std.proofs.lemmas.List.{length-map}
+use Rattle.pb_base.specs.declared.lending.Lending.TheVariants.{ByBanker}
 use Rattle.pb_base.specs.Steppers.{State}
 use Rattle.pb_code.specs.Code.{CodeProcess}
 use Rattle.pb_history.specs.Entries.{Entry, picks_of}
@@ -30,7 +31,7 @@ returns c =
     record {
       start = start;
       is_start = subst (λ (s : State CodeProcess). IsState code s start)
-          (c.in_ok-walker.ensures.walks.stands.state ∙ ap (state_after code picks) at) c.in_ok-state.ensures;
+          (c.in_ok-walker.ensures.walks.stands.state ∙ ap (state_after code picks) at) (c.in_ok-state.ensures ByBanker c.in_ok-walker.ensures.walks.stands.machine);
       rows = made.rows.0;
       are_rows = subst (λ (i : ℕ). AreRows code picks i (rows_of picks shown.from shown.rows) made.rows.0) at
           (subst (λ (n : ℕ). AreRows code picks c.in_ok-walker.walker.at n made.rows.0) rows made.rows.2);
@@ -47,3 +48,6 @@ returns c =
           ∙ ap (λ (es : List (Vec ℕ Global)). c.put_head.new.out.items ++ start_text (texts es)) c.deref.ensures.value)
           made.rows.1 c.in_ok-put_end.ensures;
     }
+
+pub state_of-requires : goal.state_of-requires
+state_of-requires c = (ByBanker, c.in_ok-walker.ensures.walks.stands.machine)

@@ -5,7 +5,7 @@ use Rattle.pb_object.specs.Answers.{SpellsCode}
 use Rattle.pb_object.specs.declared.format.Format.TheVariants.{Two}
 use Rattle.pb_verifier.specs.Verified.{IsVerified, VerifiedCode}
 use Rattle.pb_page_engine.proofs.StatesLemmas.{spelled_so}
-use Rattle.pb_page_engine.proofs.states.object_of.Goals as goal
+use Rattle.pb_page_engine.proofs.object.object_of.Goals as goal
 
 pub write_object2-requires : goal.write_object2-requires
 write_object2-requires c =
