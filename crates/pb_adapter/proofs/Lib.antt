@@ -1,3 +1,3 @@
 pub mod ArmLemmas
 pub mod FloatFree
-pub mod MoveLemmas
+pub mod ReplyLemmas

@@ -17,11 +17,10 @@ use crate::evaluate::evaluate;
 use crate::moves::{START, Stop, last_breakpoint, last_line, next_line, stopped};
 use crate::tries::try_arm;
 use crate::variables::variables;
-use pb_adapter_requests::breakpoints::{asked_lines, asks_events, breakpoints};
-use pb_adapter_requests::kind::kind_of;
-use pb_adapter_requests::request::{number_of, place_of, text_of};
-use pb_adapter_requests::response::{answered, done, event, refused, with_event};
-use pb_adapter_requests::{Kind, Reply, Request};
+use pb_adapter_requests::{
+    Kind, Reply, Request, answered, asked_lines, asks_events, breakpoints_body, done, event,
+    kind_of, number_of, place_of, refused, text_of, with_event,
+};
 use pb_adapter_values::capabilities;
 use pb_base::NoMemory;
 use pb_debug::Debugger;
@@ -175,7 +174,7 @@ fn set_breakpoints(
     ensures set { OnOk result (client.new ≡ record client.old { lines = asked_by (request_view request.entry) }) }
 {
     let lines = asked_lines(alloc, request)?;
-    let body = breakpoints(alloc, debugger.labels(), &lines)?;
+    let body = breakpoints_body(alloc, debugger.labels(), &lines)?;
     let reply = answered(alloc, seq, request, body)?;
     client.lines = lines;
     Ok(reply)

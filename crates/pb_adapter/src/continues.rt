@@ -12,8 +12,7 @@ ghost use Rattle.pb_debug.specs.Value.{moved_to};
 
 use crate::evaluate::answer_lines;
 use crate::moves::{last_thread, saying, stopped};
-use pb_adapter_requests::response::{done, with_event};
-use pb_adapter_requests::{Reply, Request};
+use pb_adapter_requests::{Reply, Request, done, with_event};
 use pb_base::NoMemory;
 use pb_debug::Debugger;
 use serde_json::Value;

@@ -6,8 +6,7 @@ ghost use Rattle.pb_adapter.specs.Answers.{Says};
 ghost use Rattle.pb_adapter_values.specs.Values.{result_data};
 
 use pb_adapter_values::result_body;
-use pb_base::NoMemory;
-use pb_base::device::MemoryInput;
+use pb_base::{MemoryInput, NoMemory};
 use pb_conversations::Said;
 use pb_debug::Debugger;
 use serde_json::Value;

@@ -4,14 +4,14 @@
 //! text of a message is that of serde_json, members in the order of their names.
 #![tactic(auto)]
 
-pub mod answer;
-pub mod arms;
-pub mod continues;
-pub mod evaluate;
-pub mod moves;
-pub mod session;
-pub mod tries;
-pub mod variables;
+mod answer;
+mod arms;
+mod continues;
+mod evaluate;
+mod moves;
+mod session;
+mod tries;
+mod variables;
 
-pub use answer::{Client, answer_request};
+pub use answer::Client;
 pub use session::Session;

@@ -7,8 +7,7 @@ ghost use Rattle.pb_adapter_requests.specs.Requests.{Place as AnyPlace};
 ghost use Rattle.pb_adapter.specs.Moves as spec;
 ghost use Rattle.pb_adapter.specs.Moves.{StopsAt, stop_view};
 
-use pb_adapter_requests::Place;
-use pb_adapter_requests::response::event;
+use pb_adapter_requests::{Place, event};
 use pb_adapter_values::{saying_body, stopped_body, thread_number};
 use pb_base::NoMemory;
 use pb_debug::Debugger;

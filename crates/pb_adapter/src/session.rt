@@ -4,8 +4,7 @@ ghost use Rattle.std.specs.Prelude.{◌≡◌, false};
 ghost use Rattle.pb_adapter.specs.Sessions.{AnswersIn, is_last as is_last_kind};
 
 use crate::answer::{Client, answer_request};
-use pb_adapter_requests::kind::kind_of;
-use pb_adapter_requests::{Kind, Reply, Request};
+use pb_adapter_requests::{Kind, Reply, Request, kind_of};
 use pb_base::NoMemory;
 use pb_conversations::Adapter;
 use pb_debug::Debugger;

@@ -9,9 +9,7 @@ ghost use Rattle.pb_adapter.specs.Moves as spec;
 
 use crate::evaluate::answer_lines;
 use crate::moves::saying;
-use pb_adapter_requests::request::place_of;
-use pb_adapter_requests::response::{done, with_event};
-use pb_adapter_requests::{Place, Reply, Request};
+use pb_adapter_requests::{Place, Reply, Request, done, place_of, with_event};
 use pb_adapter_values::{arm_name, name_at};
 use pb_base::NoMemory;
 use pb_debug::Debugger;

@@ -5,8 +5,7 @@ ghost use Rattle.serde_json.specs.View.{view};
 ghost use Rattle.pb_code.specs.View.{labels_view};
 ghost use Rattle.pb_adapter.specs.Values as spec;
 
-use pb_adapter_requests::Place;
-use pb_adapter_requests::request::place_of;
+use pb_adapter_requests::{Place, place_of};
 use pb_adapter_values::{all_cash, integers, loans_at, operands, variables_body};
 use pb_base::NoMemory;
 use pb_code::Labels;

@@ -11,7 +11,7 @@ use Rattle.pb_history.specs.Replays.{spread}
 use Rattle.pb_history.specs.declared.counted.CountedPick.{CountedPick}
 use Rattle.pb_verifier.specs.Verified.{VerifiedCode}
 use Rattle.pb_adapter_engine.specs.Waiting.{ArePartsFor, ArePicksFor, ComesTo, IsLaunched, IsUnfit, RefusesPicks, no_picks}
-use Rattle.pb_adapter_engine.specs.declared.launch.Launch.{Launch}
+use Rattle.pb_adapter_engine.specs.declared.launched.Launch.{Launch}
 
 -- there are as few picks as a debugger may have
 pub picks_few : (seed : Option ℕ) (lending : Lending) (code : Code) (lines : List ℕ) (counted : List CountedPick)

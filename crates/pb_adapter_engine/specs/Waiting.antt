@@ -26,9 +26,9 @@ use Rattle.pb_adapter_requests.specs.Requests.{Asked, number_of, text_of}
 use Rattle.pb_adapter_requests.specs.Responses.{done_data, event_data, refused_data}
 use Rattle.pb_adapter_requests.specs.declared.kind.Kind.{Kind}
 use Rattle.pb_adapter_requests.specs.declared.kind.Kind.TheVariants as kind
-use Rattle.pb_adapter_engine.specs.declared.launch.Launch.{Launch}
-use Rattle.pb_adapter_engine.specs.declared.launch.Launch.TheVariants as launch
-use Rattle.pb_adapter_engine.specs.declared.launch.Launched.{Launched}
+use Rattle.pb_adapter_engine.specs.declared.launched.Launch.{Launch}
+use Rattle.pb_adapter_engine.specs.declared.launched.Launch.TheVariants as launch
+use Rattle.pb_adapter_engine.specs.declared.launched.Launched.{Launched}
 use Rattle.pb_adapter_engine.specs.declared.launch.TheConstants.{MAX_DRAWN}
 
 -- what a launch gives: who lends, code and its labels, picks, the text, and the path under which it is shown

@@ -6,7 +6,7 @@ ghost use Rattle.pb_command_io.specs.Answers.{Tells};
 
 use crate::session::{debug_launched, status_of};
 use crate::waiting::Waiting;
-use pb_base::device::{Input, Output};
+use pb_base::{Input, Output};
 use pb_command_io::Status;
 use pb_conversations::converse;
 use std::alloc::Global;

@@ -1,21 +1,19 @@
 //! What a launch gives: the code of a text, and picks of it.
 
-ghost use Rattle.std.specs.Prelude.{◌≡◌, ◌≤◌, [], ℕ, IfErr, IfOk, List, None, Some, codes, length};
+ghost use Rattle.std.specs.Prelude.{◌≡◌, [], ℕ, IfErr, IfOk, List, None, Some, codes};
 ghost use Rattle.pb_base.specs.Lines.{line as with_feed};
 ghost use Rattle.pb_base.specs.declared.lending.Lending.{Lending as LendingValue};
-ghost use Rattle.pb_base.specs.declared.limits.TheConstants.{MAX_PICKS};
 ghost use Rattle.pb_accept.specs.Refusals.{RefusesWith};
 ghost use Rattle.pb_accept.specs.ReplayLines.{IsLinesFaultBy};
 ghost use Rattle.pb_code.specs.Whole.{Code};
 ghost use Rattle.pb_codegen.specs.Compiled.{IsCompiled};
-ghost use Rattle.pb_history.specs.Replays.{spread};
 ghost use Rattle.pb_adapter_engine.specs.Waiting.{ArePartsFor, ArePicksFor, ArePicksOf, ComesTo, RefusesPicks};
 
-use pb_accept::accept::{Refusal, compile_text};
-use pb_accept::replay::{LinesFault, lines_refusal};
+use crate::launched::{Launch, Launched};
+use pb_accept::{LinesFault, Refusal, compile_text, lines_refusal};
 use pb_base::{Lending, NoMemory};
 use pb_codegen::Compiled;
-use pb_command_io::parts::two_parts;
+use pb_command_io::two_parts;
 use pb_history::CountedPick;
 use pb_history::replay::replay_counted_by;
 use pb_picks::read_picks;
@@ -25,26 +23,6 @@ use std::alloc::Global;
 
 /// The most picks that are drawn for a launch.
 pub const MAX_DRAWN: u32 = 1_000_000;
-
-/// A text that is launched.
-#[derive(Drop)]
-pub struct Launched {
-    pub lending: Lending,
-    pub compiled: Compiled,
-    pub picks: Vec<CountedPick>,
-    pub source: Vec<u8>,
-    /// The path under which it is shown.
-    pub path: String,
-    pub ghost few: { length (spread picks.items) ≤ MAX_PICKS },
-}
-
-/// What a launch comes to.
-#[derive(Drop)]
-pub enum Launch {
-    Fit(Launched),
-    /// The line of its refusal.
-    Unfit(Vec<u8>),
-}
 
 // Returns the code of a text, or the line of its refusal.
 fn compiled_of(alloc: Global, source: &[u8]) -> Result<Result<Compiled, Vec<u8>>, NoMemory>

@@ -1,9 +1,10 @@
 //! The engine behind the command `dap`: the Debug Adapter Protocol over any input and output.
 #![tactic(auto)]
 
-pub mod adapter;
-pub mod launch;
-pub mod session;
-pub mod waiting;
+mod adapter;
+mod launch;
+mod launched;
+mod session;
+mod waiting;
 
 pub use adapter::adapter_engine;

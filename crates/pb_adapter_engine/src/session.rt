@@ -5,9 +5,9 @@ ghost use Rattle.pb_adapter_engine.specs.Adapters.{SaysOfLaunched, SaysOfSession
 ghost use Rattle.pb_adapter_engine.specs.Waiting.{launched_view};
 ghost use Rattle.pb_command_io.specs.Answers.{Tells};
 
-use crate::launch::Launched;
+use crate::launched::Launched;
 use pb_adapter::{Client, Session};
-use pb_base::device::{Input, Output};
+use pb_base::{Input, Output};
 use pb_command_io::Status;
 use pb_conversations::{Stop, converse};
 use pb_debug::Debugger;

@@ -9,11 +9,11 @@ ghost use Rattle.pb_adapter_engine.specs.Waiting.{lending_said, nobody, path_of 
 ghost use Rattle.pb_adapter_requests.specs.Requests.{request_view, text_of as text_asked};
 ghost use Rattle.pb_adapter_requests.specs.Responses.{done_data, event_data, refused_data, told_by};
 
-use crate::launch::{Launch, Launched, launch_of};
-use pb_adapter_requests::kind::kind_of;
-use pb_adapter_requests::request::{number_of, text_of};
-use pb_adapter_requests::response::{answered, done, event, refused, with_event};
-use pb_adapter_requests::{Kind, Reply, Request};
+use crate::launch::launch_of;
+use crate::launched::{Launch, Launched};
+use pb_adapter_requests::{
+    Kind, Reply, Request, answered, done, event, kind_of, number_of, refused, text_of, with_event,
+};
 use pb_adapter_values::capabilities;
 use pb_base::{Lending, NoMemory};
 use pb_conversations::Adapter;

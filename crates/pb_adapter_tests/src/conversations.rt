@@ -1,8 +1,7 @@
 //! Conversations with the adapter, as bytes.
 
 use pb_adapter_engine::adapter_engine;
-use pb_base::NoMemory;
-use pb_base::device::MemoryInput;
+use pb_base::{MemoryInput, NoMemory};
 use pb_command_io::Status;
 use pb_conversations::Said;
 use pb_frames::write_frame;

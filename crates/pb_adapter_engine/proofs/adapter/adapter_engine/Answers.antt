@@ -2,7 +2,7 @@ use Rattle.std.proofs.Common.{◌≡◌, ◌∙◌, Option, Some, None, option_m
 use Rattle.std.proofs.lemmas.Option.{IfSome_then}
 use Rattle.pb_conversations.specs.Conversations.{TalksOut, TalksSome}
 use Rattle.pb_adapter_engine.specs.Waiting.{AnswersWaiting, WaitingValue, launched_view}
-use Rattle.pb_adapter_engine.specs.declared.launch.Launched.{Launched}
+use Rattle.pb_adapter_engine.specs.declared.launched.Launched.{Launched}
 use Rattle.pb_adapter_engine.proofs.AdapterLemmas.{counts_told, faults_behind, launched_told, waiting_broken, waiting_done}
 use Rattle.pb_adapter_engine.proofs.adapter.adapter_engine.Goals as goal
 

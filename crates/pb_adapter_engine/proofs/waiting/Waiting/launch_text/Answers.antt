@@ -5,7 +5,7 @@ use Rattle.pb_conversations.proofs.Replies.{told_known}
 use Rattle.pb_adapter_requests.specs.Requests.{number_of, request_view}
 use Rattle.pb_adapter_requests.specs.Responses.{refused_data, told_by}
 use Rattle.pb_adapter_engine.specs.Waiting.{LaunchesText, launched, launched_view, path_of, unfit}
-use Rattle.pb_adapter_engine.specs.declared.launch.Launch.TheVariants.{Fit, Unfit}
+use Rattle.pb_adapter_engine.specs.declared.launched.Launch.TheVariants.{Fit, Unfit}
 use Rattle.pb_adapter_engine.proofs.LaunchLemmas.{comes_to}
 use Rattle.pb_adapter_engine.proofs.waiting.Waiting.launch_text.Goals as goal
 
