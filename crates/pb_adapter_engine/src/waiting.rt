@@ -46,7 +46,7 @@ fn is(word: &str, text: &str) -> bool
 
 // Returns who lends: the banker, if nobody is named; nobody, if another word is given.
 fn lending_of(word: Option<&str>) -> Option<Lending>
-    ensures { result ≡ lending_said (option_map (λ t. t.now) word) }
+    ensures { result ≡ lending_said (option_map (λ t. t.now) word.entry) }
 {
     let Some(word) = word else {
         return Some(Lending::ByBanker);
