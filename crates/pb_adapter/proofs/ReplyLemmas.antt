@@ -1,5 +1,5 @@
 -- Replies that move the run, from what the calls that make them say.
-use Rattle.std.proofs.Common.{◌≡◌, ◌<◌, ◌+◌, ℕ, List, [], ◌∷◌, length, Option, Result, Ok, Err, IfOk, Bool, codes, refl, sym, ap, ◌∙◌, subst, inl, inr}
+use Rattle.std.proofs.Common.{◌≡◌, ◌<◌, ◌+◌, ℕ, List, [], ◌∷◌, length, Option, Result, Ok, Err, IfOk, codes, refl, ap, ◌∙◌, subst, inl, inr}
 use Rattle.serde_json.specs.Data.{null}
 use Rattle.pb_debug.specs.Value.{Debugging, moved_to}
 use Rattle.pb_debug_positions.specs.Searches.{IsFirst}

@@ -1,5 +1,5 @@
 -- Where a request moves the run, and what is told of that.
-use Rattle.std.specs.Prelude.{◌≡◌, ℕ, zero, suc, ◌+◌, ◌-◌, List, [], ◌∷◌, ◌++◌, length, Option, Some, None, codes, Bool, false, cond, nat_eq, nat_lt, not, slice_get}
+use Rattle.std.specs.Prelude.{◌≡◌, ℕ, zero, suc, ◌+◌, ◌-◌, List, ◌++◌, length, Option, Some, None, codes, Bool, false, cond, nat_eq, nat_lt, not, slice_get}
 use Rattle.serde_json.specs.Data.{Data}
 use Rattle.std.specs.Str.{bytes_eq}
 use Rattle.pb_base.specs.Lines.{line, name_of}

@@ -7,7 +7,7 @@ use Rattle.pb_base.proofs.DeviceLemmas.{appended-appended}
 use Rattle.pb_command_io.specs.Answers.{Tells}
 use Rattle.pb_command_io.specs.declared.status.Status.{Status}
 use Rattle.pb_command_io.specs.declared.status.Status.TheVariants as status
-use Rattle.pb_conversations.specs.Conversations.{CountsBoth, TalksOut, TalksSome, WritesBefore, texts}
+use Rattle.pb_conversations.specs.Conversations.{TalksOut, TalksSome, WritesBefore, texts}
 use Rattle.pb_debug.specs.Value.{Debugging, IsPosition, at_start, showing}
 use Rattle.pb_base.specs.declared.lending.Lending.{Lending}
 use Rattle.pb_code.specs.Whole.{ProcessLabels}
@@ -17,7 +17,7 @@ use Rattle.pb_verifier.specs.Verified.{VerifiedCode}
 use Rattle.pb_conversations.specs.declared.conversation.Stop.{Stop}
 use Rattle.pb_conversations.specs.declared.conversation.Stop.TheVariants as stop
 use Rattle.pb_adapter.specs.Sessions.{AnswersIn, Debugged}
-use Rattle.pb_adapter_engine.specs.Adapters.{IsEnd, SaysOfAdapter, SaysOfLaunched, SaysOfSession, TellsAnyFault, WritesText, stop_status}
+use Rattle.pb_adapter_engine.specs.Adapters.{IsEnd, SaysOfAdapter, SaysOfLaunched, SaysOfSession, WritesText, stop_status}
 use Rattle.pb_adapter_engine.specs.Adapters as says
 use Rattle.pb_adapter_engine.specs.Waiting.{AnswersWaiting, LaunchedText, WaitingValue, nobody}
 use Rattle.pb_adapter_engine.proofs.WaitingLemmas.{launch_is_last}
@@ -152,36 +152,3 @@ module _ (bytes : List ℕ) (left old mid : Option (List ℕ)) (after : WaitingV
       behind l is new given
       (subst (λ (n : ℕ). Tells (SaysOfLaunched l n t.rest) mid new given) t.numbered
       (subst (λ (o : Option (List ℕ)). IfSome o (λ rest. Tells (SaysOfLaunched l next rest) mid new given)) (left_known l is) told))
-
--- ---- faults
-
--- a device that fails is told, if none did before
-pub faults_behind : (reads reads' reads'' writes writes' writes'' : ℕ) (old mid new : Option (List ℕ)) (given : Status) → reads' ≡ reads
-    → writes' ≡ writes
-    → TellsAnyFault (record { reads = reads'; writes = writes'; written = mid }) (record { reads = reads''; writes = writes''; written = new }) given
-    → TellsAnyFault (record { reads = reads; writes = writes; written = old }) (record { reads = reads''; writes = writes''; written = new }) given
-faults_behind reads reads' reads'' writes writes' writes'' old mid new given read wrote tells =
-    subst (λ (n : ℕ). TellsAnyFault (record { reads = n; writes = writes; written = old }) (record { reads = reads''; writes = writes''; written = new }) given)
-    read
-    (subst (λ (n : ℕ). TellsAnyFault (record { reads = reads'; writes = n; written = old }) (record { reads = reads''; writes = writes''; written = new })
-    given) wrote tells)
-
--- a conversation that breaks off tells whether a device failed
-pub counts_told : (why : Stop) (given : Status) (reads reads' writes writes' : ℕ) (old new : Option (List ℕ)) → given ≡ stop_status why
-    → CountsBoth why reads reads' writes writes'
-    → TellsAnyFault (record { reads = reads; writes = writes; written = old }) (record { reads = reads'; writes = writes'; written = new }) given
-counts_told stop.Broken given reads reads' writes writes' old new is counts = (
-  λ none. counts,
-  λ device. (let no : status.Refused ≡ status.Device = sym is ∙ device in cc),
-)
-counts_told stop.Memory given reads reads' writes writes' old new is counts = (
-  λ none. counts,
-  λ device. (let no : status.Memory ≡ status.Device = sym is ∙ device in cc),
-)
-counts_told stop.Device given reads reads' writes writes' old new is counts = (
-  λ none. absurd (none is),
-  λ device. elim counts [
-    | inl read ↦ inl read
-    | inr write ↦ inr write
-  ],
-)

@@ -1,35 +1,14 @@
 -- What a launch gives, and the lines of refusals.
-use Rattle.std.proofs.Common.{◌≡◌, ℕ, ◌≤◌, ◌-◌, List, [], ◌∷◌, length, take, Option, Some, None, refl, sym, ap, ◌∙◌, subst, arith, length-append}
-use Rattle.std.proofs.Math.Seq.{take-append_seam}
+use Rattle.std.proofs.Common.{◌≡◌, ℕ, ◌-◌, List, Option, None, refl, sym, ap, ◌∙◌, subst}
 use Rattle.pb_accept.specs.ReplayLines.{SaysOfNoPicksBy, refused}
 use Rattle.pb_base.specs.Lines.{line}
 use Rattle.pb_base.specs.declared.lending.Lending.{Lending}
 use Rattle.pb_code.specs.Whole.{Code, ProcessLabels}
 use Rattle.pb_codegen.specs.Compiled.{IsCompiled}
 use Rattle.pb_command_io.specs.declared.status.Status.{Status}
-use Rattle.pb_history.specs.Replays.{spread}
-use Rattle.pb_history.specs.declared.counted.CountedPick.{CountedPick}
 use Rattle.pb_verifier.specs.Verified.{VerifiedCode}
-use Rattle.pb_adapter_engine.specs.Waiting.{ArePartsFor, ArePicksFor, ComesTo, IsLaunched, IsUnfit, RefusesPicks, no_picks}
+use Rattle.pb_adapter_engine.specs.Waiting.{ArePartsFor, ComesTo, IsUnfit, RefusesPicks, no_picks}
 use Rattle.pb_adapter_engine.specs.declared.launched.Launch.{Launch}
-
--- there are as few picks as a debugger may have
-pub picks_few : (seed : Option ℕ) (lending : Lending) (code : Code) (lines : List ℕ) (counted : List CountedPick)
-    → ArePicksFor seed lending code lines counted → length (spread counted) ≤ 10000000
-picks_few None lending code lines counted picks = picks.spelled.few
-picks_few (Some seed) lending code lines counted (end, recorded) =
-    let few : length (spread counted) ≤ 1000000 = recorded.few in omega (arith, few)
-
--- a line without its last byte
-pub without_last : (text line_text left : List ℕ) (n : ℕ) → line_text ≡ line text → n ≡ length line_text → left ≡ take (n - 1) line_text → left ≡ text
-without_last text line_text left n is long taken =
-    let whole = length-append text (10 ∷ []) in
-    let same : length line_text ≡ length (line text) = ap length is in
-    let few : n - 1 ≡ length text = omega (arith, whole, same, long) in
-    taken
-    ∙ ap (λ (t : List ℕ). take (n - 1) t) is
-    ∙ ap (λ (k : ℕ). take k (line text)) few
-    ∙ take-append_seam text (10 ∷ [])
 
 -- what is said of lines that say no picks is a line
 no_picks_line : (lending : Lending) (code : Code) (lines said : List ℕ) (status : Status) → SaysOfNoPicksBy lending code lines said status
@@ -46,21 +25,6 @@ lines_refused lending code lines said left status says cut =
     )
 
 -- ---- what a launch comes to
-
--- a text that compiles, and picks of it
-pub is_launched : (words : List ℕ) (seed : Option ℕ) (lending : Lending) (path source lines text shown : List ℕ) (verified v : VerifiedCode)
-    (labels : List ProcessLabels) (counted : List CountedPick) → ArePartsFor seed words source lines → IsCompiled source verified.code labels
-    → v ≡ verified → ArePicksFor seed lending v.code lines counted → text ≡ source → shown ≡ path
-    → IsLaunched words seed lending path
-    (record { lending = lending; verified = verified; labels = labels; counted = counted; source = text; path = shown })
-is_launched words seed lending path source lines text shown verified v labels counted parts compiled same picks is named = record {
-  lines = lines;
-  parts = subst (λ (t : List ℕ). ArePartsFor seed words t lines) (sym is) parts;
-  lends = refl;
-  compiled = subst (λ (t : List ℕ). IsCompiled t verified.code labels) (sym is) compiled;
-  picks = subst (λ (x : VerifiedCode). ArePicksFor seed lending x.code lines counted) same picks;
-  path_is = named;
-}
 
 -- a text that compiles, and no picks of it
 pub has_no_picks : (words : List ℕ) (seed : Option ℕ) (lending : Lending) (source lines refusal : List ℕ) (verified v : VerifiedCode)

@@ -9,7 +9,7 @@ use Rattle.pb_adapter_requests.specs.Kinds.{kind_of}
 use Rattle.pb_adapter_requests.specs.Requests.{Asked, text_of}
 use Rattle.pb_adapter_requests.specs.declared.kind.Kind.{Kind}
 use Rattle.pb_adapter_requests.specs.declared.kind.Kind.TheVariants as kind
-use Rattle.pb_adapter_engine.specs.Waiting.{AnswersWaiting, AnswersWaitingKind, LaunchedText, Launches, LaunchesText, RefusesLaunch, WaitingValue}
+use Rattle.pb_adapter_engine.specs.Waiting.{AnswersWaiting, AnswersWaitingKind, LaunchedText, Launches, LaunchesText, WaitingValue}
 use Rattle.pb_adapter_engine.specs.Waiting.{launched, lending_said, nobody, unfit}
 
 -- ---- no message has a number that is no integer
@@ -57,30 +57,6 @@ pub launches_as : (s next : WaitingValue) (seq : ℕ) (r : Asked) (words : Optio
 launches_as s next seq r words lending told text lends is of launch =
     subst (λ (o : Option (List ℕ)). Launches s seq r o lending told next) (sym is)
     (subst (λ (o : Option Lending). Launches s seq r (Some text) o told next) (sym of) launch)
-
--- every request but three is refused
-pub others_refused : (of : Kind) (s next : WaitingValue) (seq : ℕ) (r : Asked) (told : List Data) → (of ≡ kind.Initialize → ⊥)
-    → (of ≡ kind.Launch → ⊥) → (of ≡ kind.Disconnect → ⊥) → RefusesLaunch s seq r (codes "no text is launched") told next
-    → AnswersWaitingKind of s seq r told next
-others_refused kind.Initialize s next seq r told no_first no_launch no_last is = absurd (no_first refl)
-others_refused kind.Launch s next seq r told no_first no_launch no_last is = absurd (no_launch refl)
-others_refused kind.Disconnect s next seq r told no_first no_launch no_last is = absurd (no_last refl)
-others_refused kind.SetBreakpoints s next seq r told no_first no_launch no_last is = is
-others_refused kind.ConfigurationDone s next seq r told no_first no_launch no_last is = is
-others_refused kind.SetEvents s next seq r told no_first no_launch no_last is = is
-others_refused kind.Terminate s next seq r told no_first no_launch no_last is = is
-others_refused kind.Threads s next seq r told no_first no_launch no_last is = is
-others_refused kind.StackTrace s next seq r told no_first no_launch no_last is = is
-others_refused kind.Scopes s next seq r told no_first no_launch no_last is = is
-others_refused kind.Variables s next seq r told no_first no_launch no_last is = is
-others_refused kind.Evaluate s next seq r told no_first no_launch no_last is = is
-others_refused kind.Continue s next seq r told no_first no_launch no_last is = is
-others_refused kind.ReverseContinue s next seq r told no_first no_launch no_last is = is
-others_refused kind.Step s next seq r told no_first no_launch no_last is = is
-others_refused kind.StepBack s next seq r told no_first no_launch no_last is = is
-others_refused kind.Restart s next seq r told no_first no_launch no_last is = is
-others_refused kind.Pause s next seq r told no_first no_launch no_last is = is
-others_refused kind.Unknown s next seq r told no_first no_launch no_last is = is
 
 -- ---- once a text is launched, nothing more is answered here
 

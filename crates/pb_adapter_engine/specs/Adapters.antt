@@ -1,5 +1,5 @@
 -- What `dap` says of an input, and with which status.
-use Rattle.std.specs.Prelude.{◌≡◌, ◌≢◌, ◌⊎◌, ◌<◌, ℕ, ◌+◌, List, [], ◌++◌, length, Option, Some, None, Bool, true, false}
+use Rattle.std.specs.Prelude.{◌≡◌, ◌≢◌, ◌⊎◌, ◌<◌, ℕ, ◌+◌, List, [], ◌++◌, length, Some, None, Bool, true, false}
 use Rattle.serde_json.specs.Data.{Data}
 use Rattle.pb_base.specs.Device.{one_more_failure}
 use Rattle.pb_command_io.specs.Faults.{Devices, NoneFailed, WriteFailed}

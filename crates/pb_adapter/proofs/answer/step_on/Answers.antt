@@ -1,4 +1,4 @@
-use Rattle.std.proofs.Common.{◌≡◌, ◌∙◌, ap, arith, codes}
+use Rattle.std.proofs.Common.{◌∙◌, ap, arith}
 use Rattle.pb_adapter_requests.specs.Requests.{place_of, request_view}
 use Rattle.pb_adapter.specs.Moves.{stop_view}
 use Rattle.pb_adapter.proofs.ReplyLemmas.{steps_along, steps_behind}

@@ -1,5 +1,4 @@
 use Rattle.std.proofs.Common.{◌≡◌, ◌∙◌, ℕ, List, ap, refl, subst}
-use Rattle.pb_adapter_requests.specs.Requests.{place_of}
 use Rattle.pb_adapter.specs.Answers.{Says}
 use Rattle.pb_adapter.specs.Moves.{pick_words}
 use Rattle.pb_adapter.proofs.tries.try_arm.Goals as goal

@@ -3,7 +3,7 @@ use Rattle.std.proofs.lemmas.Option.{IfSome_then}
 use Rattle.pb_conversations.specs.Conversations.{TalksOut, TalksSome}
 use Rattle.pb_adapter_engine.specs.Waiting.{AnswersWaiting, WaitingValue, launched_view}
 use Rattle.pb_adapter_engine.specs.declared.launched.Launched.{Launched}
-use Rattle.pb_adapter_engine.proofs.AdapterLemmas.{counts_told, faults_behind, launched_told, waiting_broken, waiting_done}
+use Rattle.pb_adapter_engine.proofs.AdapterLemmas.{launched_told, waiting_broken, waiting_done}
 use Rattle.pb_adapter_engine.proofs.adapter.adapter_engine.Goals as goal
 
 pub returns-in-Err-clause-text : goal.returns-in-Err-clause-text
@@ -13,12 +13,6 @@ returns-in-Err-clause-text g c =
     IfSome_then (g.I.Input.rest c.args.input.now) c.in-Err.ensures.some
     (λ bytes some. waiting_broken bytes old new c.in-Err.stop c.status_of.result c.status_of.ensures
     (subst (λ (s : WaitingValue). TalksSome AnswersWaiting (λ s. s.over) s 1 bytes old new c.in-Err.stop) c.new-waiting.ensures some))
-
-pub returns-in-Err-clause-faults : goal.returns-in-Err-clause-faults
-returns-in-Err-clause-faults g c =
-    counts_told c.in-Err.stop c.status_of.result (g.I.Input.failures c.args.input.now) (g.I.Input.failures c.converse.new.input)
-    (g.O.Output.failures c.args.output.now) (g.O.Output.failures c.converse.new.output) (g.O.Output.written c.args.output.now)
-    (g.O.Output.written c.converse.new.output) c.status_of.ensures c.in-Err.ensures.fault
 
 pub returns-in-Some-clause-text : goal.returns-in-Some-clause-text
 returns-in-Some-clause-text g c =
@@ -33,13 +27,6 @@ returns-in-Some-clause-text g c =
     (λ bytes all. launched_told bytes left old mid after c.in-Ok.next
     (subst (λ (s : WaitingValue). TalksOut AnswersWaiting (λ s. s.over) s 1 bytes left old mid after c.in-Ok.next) c.new-waiting.ensures all)
     (launched_view c.in-Some.launched) is new c.debug_launched.result c.debug_launched.ensures.text)
-
-pub returns-in-Some-clause-faults : goal.returns-in-Some-clause-faults
-returns-in-Some-clause-faults g c =
-    faults_behind (g.I.Input.failures c.args.input.now) (g.I.Input.failures c.converse.new.input) (g.I.Input.failures c.debug_launched.new.input)
-    (g.O.Output.failures c.args.output.now) (g.O.Output.failures c.converse.new.output) (g.O.Output.failures c.debug_launched.new.output)
-    (g.O.Output.written c.args.output.now) (g.O.Output.written c.converse.new.output) (g.O.Output.written c.debug_launched.new.output)
-    c.debug_launched.result c.in-Ok.ensures.counted_reads c.in-Ok.ensures.counted_writes c.debug_launched.ensures.faults
 
 pub returns-in-None-clause-text : goal.returns-in-None-clause-text
 returns-in-None-clause-text g c =

@@ -9,8 +9,8 @@ use Rattle.pb_adapter_engine.specs.declared.launched.Launch.TheVariants.{Fit, Un
 use Rattle.pb_adapter_engine.proofs.LaunchLemmas.{comes_to}
 use Rattle.pb_adapter_engine.proofs.waiting.Waiting.launch_text.Goals as goal
 
-pub returns-in-Fit : goal.returns-in-Fit
-returns-in-Fit c =
+pub returns-in_ok-reply-in-Fit : goal.returns-in_ok-reply-in-Fit
+returns-in_ok-reply-in-Fit c =
     let r = request_view c.args.request in
     let l = launched_view c.in-Fit.launched in
     let comes =
@@ -18,7 +18,7 @@ returns-in-Fit c =
     c.path_of.result.now (Fit c.in-Fit.launched) c.in_ok-launch.launch c.as_bytes.ensures c.number_of-seed.ensures c.path_of.ensures c.in-Fit.is
     c.in_ok-launch.ensures in
     subst (λ (told : List Data). LaunchesText c.args.self.now c.args.seq r c.args.words.now c.args.lending told
-    (record { launched = Some l; over = true })) (sym c.in_ok-reply.ensures) (launched l comes)
+    (record { launched = Some l; over = true })) (sym c.in_ok-reply-in-Fit.ensures) (launched l comes)
 
 pub returns-in-Unfit : goal.returns-in-Unfit
 returns-in-Unfit c =
