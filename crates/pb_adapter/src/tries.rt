@@ -1,10 +1,9 @@
 //! Picks of an arm that are tried behind the last.
 
-ghost use Rattle.std.specs.Prelude.{◌≡◌, ◌+◌, ◌<◌, ◌^◌, ◌∷◌, [], ℕ, List, IfOk};
-ghost use Rattle.serde_json.specs.Data.{null};
+ghost use Rattle.std.specs.Prelude.{◌≡◌, ◌<◌, ◌^◌, IfOk};
 ghost use Rattle.pb_adapter_requests.specs.Requests.{request_view};
-ghost use Rattle.pb_adapter_requests.specs.Responses.{done_data, told_by};
-ghost use Rattle.pb_adapter.specs.Answers.{Client as AnyClient, Says, TriesArm};
+ghost use Rattle.pb_adapter_requests.specs.Responses.{told_by};
+ghost use Rattle.pb_adapter.specs.Answers.{Client as AnyClient, TriesArm};
 ghost use Rattle.pb_adapter.specs.Moves as spec;
 
 use crate::evaluate::answer_lines;
