@@ -58,11 +58,12 @@ abbrev pub TellsDebugged : (live : Bool) → Lending → (bytes told : List ℕ)
 TellsDebugged true lending = SaysOfLiveInput lending
 TellsDebugged false lending = SaysToPerson (reading.Debugged lending)
 
--- what a person is told of bytes that a command refused: nothing of `bank` and `explain`, which refuse no input
+-- what a person is told of bytes that a command refused: nothing of `bank`, `dap` and `explain`
 abbrev pub TellsRefused : Options → (bytes told : List ℕ) → Type 0
 TellsRefused option.Bank = λ bytes told. ⊥
 TellsRefused (option.Check numbers) = SaysToPerson reading.Texts
 TellsRefused option.Claims = SaysToPerson reading.Claims
+TellsRefused option.Dap = λ bytes told. ⊥
 TellsRefused (option.Debug flags) = TellsDebugged flags.live (lending_for flags.lend)
 TellsRefused (option.Draw options) = SaysToPerson (reading.Replayed (lending_for options.lend))
 TellsRefused (option.Emit numbers) = SaysToPerson (format_reading numbers.object)

@@ -4,7 +4,7 @@ use Rattle.serde_json.specs.View.{view}
 use Rattle.pb_code.specs.View.{labels_view}
 use Rattle.pb_adapter_requests.specs.Breakpoints.{breakpoint_data, has_line}
 use Rattle.pb_adapter_requests.specs.Responses.{list_below}
-use Rattle.pb_adapter_requests.proofs.breakpoints.breakpoints.Given as goal
+use Rattle.pb_adapter_requests.proofs.breakpoints.breakpoints_body.Given as goal
 
 abbrev pub invariant-loop-i : goal.invariant-loop-i
 invariant-loop-i l =
