@@ -85,8 +85,8 @@ const PAGES: [Case; 1] = [Case {
 /// What `debug` writes.
 const SESSIONS: [Case; 2] = [
     Case {
-        text: b"at 3\nat 4 p.0 grant 1 tape\nat 5 p.0 print -2\nat 6 p end\nat 7 p.1 line 12\nat 8 p.1 line none\nno event\nx -5\n0 idle\n1 at 7\n2 ended\nfaulted\n",
-        lines: b"{\"kind\":\"at\",\"at\":3}\n{\"kind\":\"at\",\"event\":\"grant\",\"at\":4,\"process\":\"p\",\"arm\":0,\"amounts\":[{\"amount\":1,\"resource\":\"tape\"}]}\n{\"kind\":\"at\",\"event\":\"print\",\"at\":5,\"process\":\"p\",\"arm\":0,\"value\":-2}\n{\"kind\":\"at\",\"event\":\"end\",\"at\":6,\"process\":\"p\"}\n{\"kind\":\"wrote\",\"at\":7,\"process\":\"p\",\"arm\":1,\"line\":12}\n{\"kind\":\"wrote\",\"at\":8,\"process\":\"p\",\"arm\":1}\n{\"kind\":\"no event\"}\n{\"kind\":\"variable\",\"integer\":\"x\",\"value\":-5}\n{\"kind\":\"arm\",\"state\":\"idle\",\"arm\":0}\n{\"kind\":\"arm\",\"state\":\"at\",\"arm\":1,\"place\":7}\n{\"kind\":\"arm\",\"state\":\"ended\",\"arm\":2}\n{\"kind\":\"faulted\"}\n",
+        text: b"at 3\nat 4 p.0 grant 1 tape\nat 5 p.0 print -2\nat 6 p end\nat 7 p.1 line 12\nat 8 p.1 line none\nno event\nx -5\n0 idle\n1 at 7\n2 ended\nfaulted\nstack\nstack 7 -3\n",
+        lines: b"{\"kind\":\"at\",\"at\":3}\n{\"kind\":\"at\",\"event\":\"grant\",\"at\":4,\"process\":\"p\",\"arm\":0,\"amounts\":[{\"amount\":1,\"resource\":\"tape\"}]}\n{\"kind\":\"at\",\"event\":\"print\",\"at\":5,\"process\":\"p\",\"arm\":0,\"value\":-2}\n{\"kind\":\"at\",\"event\":\"end\",\"at\":6,\"process\":\"p\"}\n{\"kind\":\"wrote\",\"at\":7,\"process\":\"p\",\"arm\":1,\"line\":12}\n{\"kind\":\"wrote\",\"at\":8,\"process\":\"p\",\"arm\":1}\n{\"kind\":\"no event\"}\n{\"kind\":\"variable\",\"integer\":\"x\",\"value\":-5}\n{\"kind\":\"arm\",\"state\":\"idle\",\"arm\":0}\n{\"kind\":\"arm\",\"state\":\"at\",\"arm\":1,\"place\":7}\n{\"kind\":\"arm\",\"state\":\"ended\",\"arm\":2}\n{\"kind\":\"faulted\"}\n{\"kind\":\"stack\",\"text\":\"\"}\n{\"kind\":\"stack\",\"text\":\"7 -3\"}\n",
     },
     Case {
         text: b"p holds 1 tape claim 2\ncash 0 tape\np.0 asks 1 tape\np.0 waits tape holder q\nline 4\nline none\n4|   x := \x7f;\norder p q\nrest q\nrefused G3\nrefused N3 at 4\n",

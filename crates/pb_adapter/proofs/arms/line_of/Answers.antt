@@ -5,20 +5,18 @@ use Rattle.pb_adapter.proofs.arms.line_of.Goals as goal
 
 pub returns-in-Ok-Some-clause-some : goal.returns-in-Ok-Some-clause-some
 returns-in-Ok-Some-clause-some c =
-    let d = c.args.debugger.now in
-    (
+    let d = c.args.debugger.now in (
       arm_there d c.args.p c.args.arm c.in-Ok-Some.ensures.arm,
       sym (ap line_or_none c.in-Ok-Some.field-0-is)
-      ∙ ap line_or_none (arm_line d c.args.p c.args.arm c.in-Ok-Some.field-0 c.in-Ok-Some.ensures.line),
+          ∙ ap line_or_none (arm_line d c.args.p c.args.arm c.in-Ok-Some.field-0 c.in-Ok-Some.ensures.line),
     )
 
 pub returns-in-Ok-None-clause-some : goal.returns-in-Ok-None-clause-some
 returns-in-Ok-None-clause-some c =
-    let d = c.args.debugger.now in
-    (
+    let d = c.args.debugger.now in (
       arm_there d c.args.p c.args.arm c.in-Ok-None.ensures.arm,
       sym (ap line_or_none c.in-Ok-None.field-0-is)
-      ∙ ap line_or_none (arm_line d c.args.p c.args.arm c.in-Ok-None.field-0 c.in-Ok-None.ensures.line),
+          ∙ ap line_or_none (arm_line d c.args.p c.args.arm c.in-Ok-None.field-0 c.in-Ok-None.ensures.line),
     )
 
 pub returns-in-Ok-Some-clause-small : goal.returns-in-Ok-Some-clause-small
