@@ -406,9 +406,12 @@ fn with_bank<'a>(
     ensures { (app : App) → IfOk command.entry (λ c. app_of c ≡ app) → IfOk result (λ c. app_of c ≡ with_bank_commands app) }
 {
     let command = with_made(command, states_of_run(alloc));
-    let about =
-        "Be the banker of jobs that come and go: answer each command on standard input as it comes";
-    let command = with_made(command, plain(alloc, "bank", about));
+    let bank = plain(
+        alloc,
+        "bank",
+        "Be the banker of jobs that come and go: answer each command on standard input as it comes",
+    );
+    let command = with_made(command, bank);
     let about = "Answer an editor by the Debug Adapter Protocol on standard input and output";
     with_made(command, plain(alloc, "dap", about))
 }
