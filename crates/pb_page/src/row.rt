@@ -55,7 +55,12 @@ pub fn put_changes(out: &mut Vec<u8>, before: &[Vec<u8>], after: &[Vec<u8>]) -> 
 }
 
 /// Appends the line of the event that a pick shows, if it shows one.
-pub fn put_shown(out: &mut Vec<u8>, alloc: Global, names: &Names, step: &Step) -> Result<(), NoMemory>
+pub fn put_shown(
+    out: &mut Vec<u8>,
+    alloc: Global,
+    names: &Names,
+    step: &Step,
+) -> Result<(), NoMemory>
     requires { HasNamesOf (names_view names.now) step.now }
     ensures { OnOk result (out.new.items ≡ out.old.items ++ spec.shown_text (names_view names.now) step.now) }
 {

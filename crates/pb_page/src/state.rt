@@ -14,8 +14,8 @@ ghost use Rattle.pb_page.specs.Texts.{texts};
 
 use crate::arms::{add, add_operands, add_places, add_whys};
 use pb_banker::Lender;
-use pb_base::{Lending, NoMemory};
 use pb_base::writing::{put, put_digits};
+use pb_base::{Lending, NoMemory};
 use pb_json::{put_comma, put_integer};
 use pb_machine::{Machine, Proc};
 use pb_verifier::Verified;
@@ -182,11 +182,7 @@ fn order_of(alloc: Global, machine: &Machine) -> Result<Vec<u8>, NoMemory>
 }
 
 /// Adds the order in which the banker can finish.
-fn add_order(
-    alloc: Global,
-    entries: &mut Vec<Vec<u8>>,
-    machine: &Machine,
-) -> Result<(), NoMemory>
+fn add_order(alloc: Global, entries: &mut Vec<Vec<u8>>, machine: &Machine) -> Result<(), NoMemory>
     ensures { OnOk result ((order : List ℕ)
         × IsOrderBy (lending_by machine.now.bank) (lender_state machine.now.bank) order
         × (texts entries.new.items ≡ texts entries.old.items ++ spec.order_text order ∷ [])) }
