@@ -32,6 +32,7 @@ QUICK = (
     f"checks/json_lines.py {PROGRAM}",
     f"checks/check_formats.py {PROGRAM}",
     f"checks/terminal.py {PROGRAM}",
+    f"checks/adapter.py {PROGRAM}",
     "checks/rebuilds.py",
     f"checks/pictures.py {PROGRAM}",
     "checks/example_tests.py",

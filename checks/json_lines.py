@@ -18,10 +18,12 @@ from calls import DONE, FAULT, REFUSED, TOP, Tally, call
 SCHEMA = json.loads((TOP / "docs/schema/json_lines.schema.json").read_text())
 EXPECTED = TOP / "examples/expected/calls.txt"
 # The commands whose lines have objects of their own, and the longest output that is compared.
-COMMANDS = ("check", "claims", "exec", "outcomes", "plan", "replay", "run")
+COMMANDS = ("bank", "check", "claims", "debug", "exec", "explain", "outcomes", "plan", "record", "replay", "run")
 LONGEST = 200_000
+DEADLOCK = 9
 EXACT = 2**53 - 1
 NAME, NUMBER, PAIRS = "[A-Za-z][A-Za-z0-9_]*", "-?(?:0|[1-9][0-9]*)", r"(?P<amounts>(?: [1-9][0-9]* [A-Za-z][A-Za-z0-9_]*)+)"
+LABEL, CODE = "[A-Za-z0-9_.-]+", "(?:[A-Z](?:0|[1-9][0-9]*)|input|output)"
 # The pattern of each line, as docs/FORMATS.md writes it, with what its object has at first. A word in angle brackets is the
 # key of a name or a number. First those of the parts of an outcome or a deadlock.
 PARTS: list[tuple[str, dict[str, Any]]] = [
@@ -38,6 +40,7 @@ LINES: list[tuple[str, dict[str, Any]]] = [
     ("<process> claim <claim> <resource>", {"kind": "claim"}), ("<process> claim <claim> <resource> lines<lines>", {"kind": "claim"}),
     ("<resource> capital <capital> least <least> free <free>", {"kind": "resource"}),
     ("bottleneck <resource>", {"kind": "bottleneck"}), ("no request waits", {"kind": "no request waits"}),
+    ("<process> holds <outer> line <outer_line> around <inner> line <inner_line>", {"kind": "nest"}),
     ("order", {"kind": "order", "text": ""}), ("order <text>", {"kind": "order"}), ("no order", {"kind": "no order"}),
     ("refused <code>", {"kind": "refused"}), ("refused <code> at <at>", {"kind": "refused"}),
     ("refused <code> <process> <resource> claim <claim> capital <capital>", {"kind": "refused"}),
@@ -56,12 +59,45 @@ LINES: list[tuple[str, dict[str, Any]]] = [
     ("no outcome <number>", {"kind": "no outcome"}), ("no deadlock <number>", {"kind": "no deadlock"}),
     ("as expected", {"kind": "as expected"}), ("not as expected: <text>", {"kind": "not as expected"}), ("<text>", {"kind": "line"}),
 ]
+REFUSALS = [it for it in LINES if it[1]["kind"] == "refused"]
+LINE = ("<text>", {"kind": "line"})
+RECORD: list[tuple[str, dict[str, Any]]] = [
+    ("%%", {"kind": "picks follow"}), ("<process>.<arm> <count>", {"kind": "picks"}), ("<text>", {"kind": "source"}),
+]
+DEBUG: list[tuple[str, dict[str, Any]]] = [
+    ("at <at>", {"kind": "at"}), ("at <at> <process>.<arm> grant<amounts>", {"kind": "at", "event": "grant"}),
+    ("at <at> <process>.<arm> return<amounts>", {"kind": "at", "event": "return"}),
+    ("at <at> <process>.<arm> print <value>", {"kind": "at", "event": "print"}),
+    ("at <at> <process>.<arm> fault <fault>", {"kind": "at", "event": "fault"}), ("at <at> <process> end", {"kind": "at", "event": "end"}),
+    ("at <at> <process>.<arm> line <line>", {"kind": "wrote"}), ("at <at> <process>.<arm> line none", {"kind": "wrote"}),
+    *((words, {"kind": words}) for words in ("no event", "never", "not reached", "faulted", "no circle", "no text", "not asking", "granted")),
+    ("<arm> idle", {"kind": "arm", "state": "idle"}), ("<arm> at <place>", {"kind": "arm", "state": "at"}),
+    ("<arm> ended", {"kind": "arm", "state": "ended"}), ("<process> holds <amount> <resource> claim <claim>", {"kind": "loan"}),
+    ("cash <amount> <resource>", {"kind": "cash"}), ("<process>.<arm> asks<amounts>", {"kind": "asks"}),
+    ("<process>.<arm> waits <resource> holder <holder>", {"kind": "waits for"}), ("line <line>", {"kind": "source line"}),
+    ("line none", {"kind": "source line"}), (r"<line>\| <text>", {"kind": "source"}), ("order <text>", {"kind": "order"}),
+    ("rest <text>", {"kind": "rest"}), ("stack", {"kind": "stack", "text": ""}), ("stack <text>", {"kind": "stack"}),
+    ("memory", {"kind": "memory"}), *REFUSALS, ("<integer> <value>", {"kind": "variable"}), LINE,
+]
+BANK: list[tuple[str, dict[str, Any]]] = [
+    *((words, {"kind": words}) for words in ("ready", "granted", "held", "allowed", "queued", "finishes", "memory")),
+    ("granted <job> <text>", {"kind": "granted"}), ("over claim <share>", {"kind": "over claim"}),
+    ("wait cash <share> <cash>", {"kind": "wait cash"}), ("wait rest <text>", {"kind": "wait rest"}),
+    ("order", {"kind": "order", "text": ""}), ("order <text>", {"kind": "order"}), ("lacks <job> <share>", {"kind": "lacks"}),
+    ("twice <job>", {"kind": "twice"}), ("missing <job>", {"kind": "missing"}),
+    ("resource <share> capital <capital> cash <cash>", {"kind": "resource"}),
+    ("job <job> <share> claim <claim> holds <holds> needs <needs>", {"kind": "job"}), ("wish <job> <text>", {"kind": "wish"}),
+    ("refused <code> <text>", {"kind": "refused"}), LINE,
+]
+EXPLAIN: list[tuple[str, dict[str, Any]]] = [("<short>: <text>", {"kind": "code"}), LINE]
 # The lists of an outcome and a deadlock, with the kinds of the lines in them.
 LISTS = {
     "processes": ("ended", "faulted", "waits"), "integers": ("integer",), "holds": ("holds",), "asks": ("asks",), "prints": ("print",),
     "picks": ("picks",),
 }
-NAMES = ("process", "resource", "integer", "code", "fault")
+NAMES = ("process", "resource", "integer", "code", "fault", "outer", "inner", "holder")
+# Keys of which the object has another name, and how they are written.
+OTHERS = {"share": ("resource", LABEL), "job": ("job", LABEL), "short": ("code", CODE)}
 VALUES = {"amounts": PAIRS, "lines": r"(?P<lines>(?: [1-9][0-9]*)+)", "text": "(?P<text>.*)"}
 
 
@@ -69,12 +105,15 @@ def compiled(pattern: str) -> re.Pattern[str]:
     """Returns the expression of a pattern."""
     def group(match: re.Match[str]) -> str:
         key = match[1]
+        if key in OTHERS:
+            return f"(?P<{OTHERS[key][0]}>{OTHERS[key][1]})"
         return VALUES.get(key) or f"(?P<{key}>{NAME if key in NAMES else NUMBER})"
 
-    return re.compile(re.sub("<([a-z]+)>", group, pattern.replace(".<", r"\.<")))
+    return re.compile(re.sub("<([a-z_]+)>", group, pattern.replace(".<", r"\.<")))
 
 
-FORMS, FORMS_OF_PARTS = ([(compiled(pattern), first) for pattern, first in lines] for lines in (LINES, PARTS))
+FORMS, FORMS_OF_PARTS, *FORMS_OF_COMMANDS = (
+    [(compiled(pattern), first) for pattern, first in lines] for lines in (LINES, PARTS, RECORD, DEBUG, BANK, EXPLAIN))
 
 
 def value_of(key: str, said: str) -> Any:
@@ -84,7 +123,7 @@ def value_of(key: str, said: str) -> Any:
         return [{"amount": int(k), "resource": r} for k, r in zip(words[::2], words[1::2])]
     if key == "lines":
         return [int(word) for word in words]
-    if key in NAMES or key == "text":
+    if key in NAMES or key in ("text", "job"):
         return said
     return int(said) if abs(int(said)) <= EXACT else said
 
@@ -97,19 +136,29 @@ def object_of(line: str, forms: list[tuple[re.Pattern[str], dict[str, Any]]]) ->
     return None
 
 
-def objects_of(text: str) -> list[dict[str, Any]]:
+def forms_of(words: list[str], status: int) -> list[tuple[re.Pattern[str], dict[str, Any]]]:
+    """Returns the forms of the lines of a call."""
+    record, debug, bank, explain = FORMS_OF_COMMANDS
+    picks = words[0] == "record" or words[0] == "outcomes" and any(it.startswith(("--run", "--deadlock")) for it in words) \
+        and "--expect" not in words
+    if picks:
+        return record if status in (DONE, DEADLOCK) else FORMS
+    return {"debug": debug, "bank": bank, "explain": explain}.get(words[0], FORMS)
+
+
+def objects_of(text: str, forms: list[tuple[re.Pattern[str], dict[str, Any]]]) -> list[dict[str, Any]]:
     """Returns the objects of a text: one for an outcome or a deadlock with the lines that belong to it."""
     made: list[dict[str, Any]] = []
     within = False
-    for line in text.splitlines():
+    for line in text.removesuffix("\n").split("\n") if text else []:
         if within and (part := object_of(line, FORMS_OF_PARTS)):
             for key, kinds in LISTS.items():
                 if part["kind"] in kinds:
                     made[-1][key].append(part)
             continue
-        it = object_of(line, FORMS)
+        it = object_of(line, forms)
         assert it is not None, line
-        within = it["kind"] in ("outcome", "deadlock")
+        within = forms is FORMS and it["kind"] in ("outcome", "deadlock")
         made.append(it | {key: [] for key in LISTS} if within else it)
     return made
 
@@ -153,7 +202,7 @@ def try_call(tally: Tally, words: list[str], given: bytes) -> None:
     with_json, lines = call(["--quiet", "--json", *words], given)
     tally.expect(with_json == status, "the status of", *words, "is", with_json, "and not", status)
     made = [json.loads(line) for line in lines.decode().splitlines()]
-    tally.expect(made == objects_of(text.decode()), "other objects of", *words)
+    tally.expect(made == objects_of(text.decode("latin-1"), forms_of(words, status)), "other objects of", *words)
     for it in made:
         fault = fault_of(it, SCHEMA)
         tally.expect(fault is None, "the schema:", fault)
@@ -176,6 +225,24 @@ def calls() -> list[tuple[list[str], bytes]]:
     names = (b"resource order = 1; resource refused = 2; process order begin integer x; hold 1 of order do print 1 od end\n"
              b"process bottleneck begin integer x; hold 1 of refused do x := 1 div 0 od end process refused begin skip end\n")
     nothing = b"process refused begin print 1 end\n"
+    odd = b"process p // \t\"\\<%%\r\nbegin integer ok, memory;\nok\n:= 1;\nmemory\n:= 2; print ok end\n"
+    asks = (b"to 2\nvars p\nthreads p\nloans\nwho tape\ncircle\nline p.0\ntext p.0\nwhy p.0\nnext\nprev\nwrote p ok\nuntil p.0 3\n"
+            b"pick p.0\nback\nback\nstack p.0\nback\nstack p.0\nhelp\nto 99\nvars q\nthreads p\nnonsense\n")
+    jobs = (b"resource tape-1 4\nresource 2.d 2\njob a 3 tape-1, 1 2.d\njob 1-b 4 tape-1\nask a 2 tape-1\nask a 2 tape-1\nask 1-b 4 tape-1\n"
+            b"want 1-b 3 tape-1\nwhy a 1 2.d\norder\norder a 1-b\norder 1-b a\norder a a\norder a\nstate\ngive a 2 tape-1\nhelp\n"
+            b"hold a 1 2.d\ndrop a\nleave a\nnonsense\n")
+    made.append((["bank"], jobs))
+    for words in (["record"], ["record", "--seed", "3"], ["outcomes", "--run", "1"], ["outcomes", "--run=1"], ["outcomes", "--run", "1", "--expect"],
+                  ["outcomes", "--deadlock", "1"], ["outcomes"], ["run"]):
+        made.append((words, odd))
+    made.append((["record"], b"process p begin print x end\n"))
+    made.append((["debug"], odd + b"%%\np.0 3\n%%\n" + asks))
+    made.append((["debug"], b"process p begin print x end\n%%\n%%\nto 1\n"))
+    made.append((["debug", "--lend", "cash"], (TOP / "examples/devices.pb").read_bytes() + b"%%\na.0 1\nb.0 1\n%%\n"
+                 + b"to 2\ncircle\nloans\nwho tape\nwhy a.0\npick a.0\nline a.0\ntext a.0\nprev\n"))
+    made.append((["debug"], (TOP / "examples/devices.pb").read_bytes() + b"%%\na.0 1\n%%\nto 1\nwhy a.0\nwhy b.0\nprev\npick b.0\n"))
+    for words in (["explain"], ["explain", "N3"], ["explain", "O1"], ["explain", "V9"]):
+        made.append((words, b""))
     for given in (names, nothing):
         for words in (["run"], ["claims"], ["plan"], ["outcomes"], ["outcomes", "--prints"], ["outcomes", "--lend", "cash"]):
             made.append((words, given))

@@ -12,7 +12,7 @@ import shutil
 import subprocess
 import tempfile
 
-from calls import DEVICE, DONE, REFUSED, TOP, WORDS, Tally, installed
+from calls import DEVICE, DONE, LIMIT, REFUSED, TOP, WORDS, Tally, installed
 
 # The words of a call, its status, and what standard output and standard error must have: a part of it, or none.
 CALLS = [
@@ -51,6 +51,9 @@ CALLS = [
     (["claims", "two.pb"], REFUSED, "refused L2", "parbegin: two.pb has several texts, between lines %%: check reads these"),
     (["exec", "hello.pb"], REFUSED, "refused O1 at 0", "parbegin: hello.pb is no object"),
     (["--quiet", "exec", "hello.pb"], REFUSED, "refused O1 at 0", None),
+    (["run", "--steps", "2", "hello.pb"], LIMIT, "limit 2\n", "--steps N lets it make N steps"),
+    (["--quiet", "run", "--steps", "2", "hello.pb"], LIMIT, "limit 2\n", None),
+    (["outcomes", "--states", "1", "hello.pb"], LIMIT, "there may be others\n", "--states N lets it keep N"),
     (["--json", "run", "hello.pb"], DONE, '"value":1}\n', None),
     (["--json", "check", "hello.pb"], DONE, '{"kind":"ok"}\n', None),
     (["run", "--json", "hello.pb"], DONE, '"value":1}\n', None),

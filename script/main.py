@@ -15,7 +15,7 @@ AWAITED = {
     "check": "texts, with lines %% between them", "exec": "an object", "migrate": "an object",
     "replay": "a text, a line %% and pick lines", "draw": "a text, a line %% and pick lines",
     "debug": "a text, a line %%, pick lines, a line %% and commands", "states": "a text, a line %% and pick lines",
-    "bank": "commands, of which help lists all",
+    "bank": "commands, of which help lists all", "dap": "messages of the Debug Adapter Protocol",
 }
 
 
@@ -97,7 +97,7 @@ def run_words(start: list[str], words: list[str]) -> int:
 
 # Commands that need not be looked for in the program's help.
 COMMANDS = (
-    "bank", "check", "claims", "debug", "draw", "emit", "exec", "explain", "migrate", "outcomes", "plan", "record", "replay",
+    "bank", "check", "claims", "dap", "debug", "draw", "emit", "exec", "explain", "migrate", "outcomes", "plan", "record", "replay",
     "run", "states",
 )
 

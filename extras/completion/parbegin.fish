@@ -1,5 +1,5 @@
 # Completion of parbegin for fish. To use it: copy this file to ~/.config/fish/completions, or let install.sh do it.
-set -l commands bank check claims debug draw emit exec explain migrate outcomes plan record replay run states help
+set -l commands bank check claims dap debug draw emit exec explain migrate outcomes plan record replay run states help
 
 complete -c parbegin -n "not __fish_seen_subcommand_from $commands" -f
 complete -c parbegin -n "not __fish_seen_subcommand_from $commands" -l unproved -d "Run the sources with no proof"
@@ -11,6 +11,7 @@ complete -c parbegin -l help -d "Print help"
 complete -c parbegin -n "not __fish_seen_subcommand_from $commands" -a bank -d "Be the banker of jobs that come and go"
 complete -c parbegin -n "not __fish_seen_subcommand_from $commands" -a check -d "Check whether texts are programs"
 complete -c parbegin -n "not __fish_seen_subcommand_from $commands" -a claims -d "Print the inferred claims"
+complete -c parbegin -n "not __fish_seen_subcommand_from $commands" -a dap -d "Answer an editor by the Debug Adapter Protocol"
 complete -c parbegin -n "not __fish_seen_subcommand_from $commands" -a debug -d "Debug a recorded run by commands"
 complete -c parbegin -n "not __fish_seen_subcommand_from $commands" -a draw -d "Draw recorded picks as SVG"
 complete -c parbegin -n "not __fish_seen_subcommand_from $commands" -a emit -d "Print the object of a program"

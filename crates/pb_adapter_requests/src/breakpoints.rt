@@ -135,7 +135,7 @@ fn listed_all(alloc: Global, list: Vec<Value>) -> Result<Value, AllocError>
 }
 
 /// Returns each of these lines, and whether the run can stop there.
-pub fn breakpoints(alloc: Global, labels: &Labels, lines: &[u32]) -> Result<Value, NoMemory>
+pub fn breakpoints_body(alloc: Global, labels: &Labels, lines: &[u32]) -> Result<Value, NoMemory>
     ensures { IfOk result (λ v. view v ≡ spec.breakpoints_data (labels_view labels.now) lines.now) }
 {
     let mut list = Vec::new(alloc);

@@ -6,7 +6,7 @@ mod kind;
 mod request;
 mod response;
 
-pub use breakpoints::{asked_lines, asks_events};
+pub use breakpoints::{asked_lines, asks_events, breakpoints_body};
 pub use kind::{Kind, kind_of};
 pub use request::{Place, Request, number_of, place_of, request_of, text_of};
-pub use response::{Reply, alone, failed};
+pub use response::{Reply, alone, answered, done, event, failed, refused, with_event};

@@ -1,6 +1,7 @@
-//! Tests of the debug adapter: messages and requests.
+//! Tests of the debug adapter: messages, requests and conversations.
 #![tactic(auto)]
 
+mod conversations;
 mod frames;
 mod requests;
 mod values;

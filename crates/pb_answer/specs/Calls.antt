@@ -6,6 +6,8 @@ use Rattle.pb_words.specs.declared.words.Options.{Options}
 use Rattle.pb_words.specs.declared.words.Options.TheVariants as option
 use Rattle.pb_words.specs.declared.words.WordsFault.{WordsFault}
 use Rattle.pb_words.specs.declared.words.WordsFault.TheVariants as fault
+use Rattle.pb_adapter_engine.specs.Adapters as adapter
+use Rattle.pb_adapter_engine.specs.Adapters.{SaysOfAdapter}
 use Rattle.pb_base.specs.declared.lending.Lending.{Lending}
 use Rattle.pb_bank_engine.specs.Sessions as bank
 use Rattle.pb_bank_engine.specs.Sessions.{SaysOfBank}
@@ -55,6 +57,7 @@ abbrev pub CommandSays : Options → List ℕ → List ℕ → Status → Type 0
 CommandSays option.Bank = SaysOfBank
 CommandSays (option.Check numbers) = SaysOfInput SaysOfChecks
 CommandSays option.Claims = SaysOfInput SaysOfClaims
+CommandSays option.Dap = SaysOfAdapter
 CommandSays (option.Debug flags) = SaysOfCommands flags
 CommandSays (option.Draw options) = SaysOfInput (SaysOfDraw (lending_for options.lend))
 CommandSays (option.Emit numbers) = SaysOfInput (SaysOfEmission numbers.object)
@@ -116,11 +119,12 @@ TellsBankFaults rest left old new status =
     bank.TellsAnyFault old new status
     × (new.reads ≢ old.reads → IfSome rest (λ bytes. bank.SaysBefore bank.AnswersLines bytes left old.written new.written))
 
--- a device that fails is reported, and nothing is written if a read fails; `debug --live` and `bank` alone have
--- carried out the commands before that read then, and written their answers
+-- a device that fails is reported, and nothing is written if a read fails; `debug --live`, `bank` and `dap` alone
+-- have carried out the commands before that read then, and written their answers
 abbrev pub CallTellsFaults : List (Bor Text) → (rest left : Option (List ℕ)) → Devices → Devices → Status → Type 0
 CallTellsFaults words rest left old new status =
     TellsFaults old new status
     ⊎ (((lend : Lend) × WordsSay words (option.Debug (record { live = true; lend = lend })) × TellsAnyFault old new status
     × AnswersBeforeRead true (lending_for lend) rest left old new)
-    ⊎ (WordsSay words option.Bank × TellsBankFaults rest left old new status))
+    ⊎ ((WordsSay words option.Bank × TellsBankFaults rest left old new status)
+    ⊎ (WordsSay words option.Dap × adapter.TellsAnyFault old new status)))

@@ -6,6 +6,7 @@ ghost use Rattle.pb_answer.specs.Calls.{AnswersBeforeRead, shown_by};
 ghost use Rattle.pb_options.specs.Lends.{lending_for};
 ghost use Rattle.pb_command_io.specs.Faults.{TellsWriteFaults};
 
+use pb_adapter_engine::adapter_engine;
 use pb_bank_engine::bank_engine;
 use pb_base::{Input, Output};
 use pb_command_io::{Page, Status};
@@ -44,6 +45,7 @@ pub fn answer<I: Input, O: Output, R: Threads + Wait + Sync>(
         Ok(Options::Bank) => bank_engine(alloc, input, output),
         Ok(Options::Check(numbers)) => check_engine(alloc, numbers, input, output),
         Ok(Options::Claims) => claims_engine(alloc, input, output),
+        Ok(Options::Dap) => adapter_engine(alloc, input, output),
         Ok(Options::Debug(flags)) => debug(alloc, flags, input, output),
         Ok(Options::Draw(options)) => draw_engine(alloc, options, input, output),
         Ok(Options::Emit(numbers)) => emit_engine(alloc, numbers, input, output),

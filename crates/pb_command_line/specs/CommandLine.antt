@@ -105,6 +105,9 @@ states_command =
 unfoldable pub bank_command : App
 bank_command = new_app (codes "bank")
 
+unfoldable pub dap_command : App
+dap_command = new_app (codes "dap")
+
 abbrev pub with_command : App → App → App
 with_command a sub = with_subcommand a sub.top
 
@@ -132,9 +135,9 @@ with_pick_commands a = with_command (with_command (with_command a record_command
 unfoldable pub with_other_commands : App → App
 with_other_commands a = with_command (with_command (with_command a draw_command) outcomes_command) explain_command
 
--- the command that writes the states of a run, and the banker by itself
+-- the commands that write the states of a run, are the banker by itself, and answer an editor
 unfoldable pub with_bank_commands : App → App
-with_bank_commands a = with_command (with_command a states_command) bank_command
+with_bank_commands a = with_command (with_command (with_command a states_command) bank_command) dap_command
 
 -- the whole command line
 unfoldable pub command_line : App

@@ -408,7 +408,9 @@ fn with_bank<'a>(
     let command = with_made(command, states_of_run(alloc));
     let about =
         "Be the banker of jobs that come and go: answer each command on standard input as it comes";
-    with_made(command, plain(alloc, "bank", about))
+    let command = with_made(command, plain(alloc, "bank", about));
+    let about = "Answer an editor by the Debug Adapter Protocol on standard input and output";
+    with_made(command, plain(alloc, "dap", about))
 }
 
 /// Returns the whole command line.

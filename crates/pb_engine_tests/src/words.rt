@@ -31,6 +31,7 @@ const RUN: RunOptions = RunOptions {
 fn commands_have_their_defaults(rt: HostRuntime) {
     for (command, wanted) in [
         ("bank", Options::Bank),
+        ("dap", Options::Dap),
         ("check", Options::Check(CheckOptions { heap: None })),
         ("claims", Options::Claims),
         (

@@ -1,5 +1,5 @@
 -- What a call writes on its output and on standard error: its answer, and what a person is told of a refusal.
-use Rattle.std.specs.Prelude.{◌≡◌, ◌⊎◌, ◌↔◌, IsTrue, ℕ, Bool, true, false, List, [], ◌∷◌, Option, Some, codes}
+use Rattle.std.specs.Prelude.{◌≡◌, ◌⊎◌, ◌↔◌, IsTrue, ℕ, Bool, true, false, List, [], ◌∷◌, map, Option, Some, codes}
 use Rattle.std.specs.Borrow.{Bor}
 use Rattle.clap.specs.Words.{Text}
 use Rattle.pb_base.specs.declared.lending.Lending.{Lending}
@@ -8,7 +8,8 @@ use Rattle.pb_base.specs.Device.{appended, one_more_failure, AddsPrefix}
 use Rattle.pb_answer.specs.Calls.{CallTellsFaults, CallWrites}
 use Rattle.pb_command_io.specs.Faults.{Devices, TellsFaults}
 use Rattle.pb_command_io.specs.declared.status.Status.{Status}
-use Rattle.pb_command_io.specs.declared.status.Status.TheVariants.{Refused}
+use Rattle.pb_command_io.specs.declared.status.Status.TheVariants.{Limit, Refused}
+use Rattle.pb_json_lines.specs.Dialects.{dialect_of}
 use Rattle.pb_json_lines.specs.Replies.{TellsInJson}
 use Rattle.pb_messages.specs.LiveInputs.{SaysOfLiveInput}
 use Rattle.pb_messages.specs.Said.{SaysToPerson}
@@ -57,11 +58,12 @@ abbrev pub TellsDebugged : (live : Bool) → Lending → (bytes told : List ℕ)
 TellsDebugged true lending = SaysOfLiveInput lending
 TellsDebugged false lending = SaysToPerson (reading.Debugged lending)
 
--- what a person is told of bytes that a command refused: nothing of `bank` and `explain`, which refuse no input
+-- what a person is told of bytes that a command refused: nothing of `bank`, `dap` and `explain`
 abbrev pub TellsRefused : Options → (bytes told : List ℕ) → Type 0
 TellsRefused option.Bank = λ bytes told. ⊥
 TellsRefused (option.Check numbers) = SaysToPerson reading.Texts
 TellsRefused option.Claims = SaysToPerson reading.Claims
+TellsRefused option.Dap = λ bytes told. ⊥
 TellsRefused (option.Debug flags) = TellsDebugged flags.live (lending_for flags.lend)
 TellsRefused (option.Draw options) = SaysToPerson (reading.Replayed (lending_for options.lend))
 TellsRefused (option.Emit numbers) = SaysToPerson (format_reading numbers.object)
@@ -74,6 +76,33 @@ TellsRefused (option.Record numbers) = SaysToPerson reading.Recorded
 TellsRefused (option.Replay options) = SaysToPerson (reading.Replayed (lending_for options.lend))
 TellsRefused (option.Run numbers) = SaysToPerson reading.Text
 TellsRefused (option.States numbers) = SaysToPerson (reading.Replayed ByBanker)
+
+-- what a person is told of a run that was stopped by its steps
+abbrev pub stopped_run : List ℕ
+stopped_run = codes "limit steps: the run was stopped before its end\n  = hint: --steps N lets it make N steps, at most 10000000; a run that never ends stops here however many it may make\n"
+
+-- what a person is told of a search that was stopped
+abbrev pub stopped_search : List ℕ
+stopped_search = codes "limit search: there may be more than what was found\n  = hint: --states N lets it keep N configurations, at most 4000000\n"
+
+-- what a person is told of a call that was stopped by a limit: how it is raised
+abbrev pub limit_message : Options → List ℕ
+limit_message option.Bank = []
+limit_message (option.Check numbers) = []
+limit_message option.Claims = []
+limit_message option.Dap = []
+limit_message (option.Debug flags) = []
+limit_message (option.Draw options) = []
+limit_message (option.Emit numbers) = []
+limit_message (option.Exec numbers) = stopped_run
+limit_message (option.Explain code) = []
+limit_message option.Migrate = []
+limit_message (option.Outcomes numbers) = stopped_search
+limit_message option.Plan = []
+limit_message (option.Record numbers) = []
+limit_message (option.Replay options) = []
+limit_message (option.Run numbers) = stopped_run
+limit_message (option.States numbers) = []
 
 -- nothing was written to an output
 abbrev pub Untouched : Devices → Devices → Type 0
@@ -90,18 +119,25 @@ abbrev pub Explains : (words : List (Bor Text)) → (bytes : List ℕ) → Devic
 Explains words bytes old new =
     (o : Options) × WordsSay words o × ((told : List ℕ) × TellsRefused o bytes told × Wrote old new told)
 
--- what a person is told of a call, if it is not to be quiet and ends with the status of a refusal: nothing, or
--- what its command says of the bytes that were kept; of any other call nothing
+-- these words say a command, and how its limit is raised was written
+abbrev pub ExplainsLimit : (words : List (Bor Text)) → Devices → Devices → Type 0
+ExplainsLimit words old new = (o : Options) × WordsSay words o × Wrote old new (limit_message o)
+
+-- what a person is told of a call, if it is not to be quiet: nothing; or if it ends with the status of a refusal,
+-- what its command says of the bytes that were kept, and if with that of a limit, how the limit is raised
 abbrev pub TellsPerson : (words heard : List (Bor Text)) → Status → (kept : Option (List ℕ)) → Devices → Devices → Type 0
 TellsPerson words heard status kept old new =
     Untouched old new
-    ⊎ ((IsQuiet words → ⊥) × (status ≡ Refused)
-    × ((bytes : List ℕ) × (kept ≡ Some bytes) × Explains heard bytes old new))
+    ⊎ ((IsQuiet words → ⊥)
+    × ((status ≡ Refused) × ((bytes : List ℕ) × (kept ≡ Some bytes) × Explains heard bytes old new)
+    ⊎ (status ≡ Limit) × ExplainsLimit heard old new))
 
--- what a call writes as JSON lines: those of what it would write to memory, if there is enough, with its status
+-- what a call writes as JSON lines: those of what it would write to memory, if there is enough, in the forms of its
+-- command, with its status
 abbrev pub WritesJson : (words : List (Bor Text)) → (rest old new : Option (List ℕ)) → Status → Type 0
 WritesJson words rest old new status =
-    (bytes : List ℕ) × (given : Status) × CallWrites words rest (Some []) (Some bytes) given × TellsInJson bytes given old new status
+    (bytes : List ℕ) × (given : Status) × CallWrites words rest (Some []) (Some bytes) given
+    × TellsInJson (dialect_of (map (λ word. word.now) words) given) bytes given old new status
 
 -- the answer of a call, as it is or in JSON lines
 abbrev pub Answers : (json : Bool) → (words : List (Bor Text)) → (rest left : Option (List ℕ)) → Devices → Devices → Status → Type 0

@@ -3,6 +3,7 @@
 ghost use Rattle.std.specs.Prelude.{◌≡◌, ◌↔◌, IsTrue, codes};
 ghost use Rattle.pb_explained.specs.Explained.{Answers, AnswersAndExplains, IsFirst, IsWithout};
 
+use crate::explain_limit::explain_limit;
 use crate::explain_refusal::explain_refusal;
 use crate::in_json::answer_in_json;
 use pb_answer::answer::answer;
@@ -13,8 +14,8 @@ use std::alloc::Global;
 use std::sync::Wait;
 use std::thread::Threads;
 
-/// Does what the words of a call say, of which the first is the program's own name, and explains a refusal on
-/// standard error, unless the next word is `--quiet`. If `--json` is the next word, or the one behind `--quiet`, the
+/// Does what the words of a call say, of which the first is the program's own name, and explains a refusal, or how a
+/// limit is raised, on standard error, unless the next word is `--quiet`. If `--json` is the next word, or the one behind `--quiet`, the
 /// answer is JSON lines. Returns the status of the call.
 pub fn answer_and_explain<I: Input, O: Output, E: Output, R: Threads + Wait + Sync>(
     rt: &R,
@@ -35,6 +36,10 @@ pub fn answer_and_explain<I: Input, O: Output, E: Output, R: Threads + Wait + Sy
     let said = without(heard, "--json");
     let status = answer_as(rt, alloc, is_first(heard, "--json"), said, input, output);
     if is_first(words, "--quiet") {
+        return status;
+    }
+    if status == Status::Limit {
+        explain_limit(alloc, said, error);
         return status;
     }
     if let (Status::Refused, Some(bytes)) = (status, input.kept()) {

@@ -6,13 +6,13 @@ ghost use Rattle.pb_explained.specs.Explained.{WritesJson};
 use pb_answer::answer::answer;
 use pb_base::{Input, Output};
 use pb_command_io::Status;
-use pb_json_lines::{Gathered, tell_json};
+use pb_json_lines::{Gathered, dialect_of, tell_json};
 use std::alloc::Global;
 use std::sync::Wait;
 use std::thread::Threads;
 
-/// Does what the words of a call say, and writes the JSON lines of its answer, all of them once it has come to its
-/// end.
+/// Does what the words of a call say, and writes the JSON lines of its answer in the forms of its command, all of them
+/// once it has come to its end.
 pub(crate) fn answer_in_json<I: Input, O: Output, R: Threads + Wait + Sync>(
     rt: &R,
     alloc: Global,
@@ -28,5 +28,5 @@ pub(crate) fn answer_in_json<I: Input, O: Output, R: Threads + Wait + Sync>(
 {
     let mut gathered = Gathered::new(alloc);
     let given = answer(rt, alloc, words, input, &mut gathered);
-    tell_json(alloc, &gathered, given, output)
+    tell_json(alloc, &gathered, given, dialect_of(words, given), output)
 }

@@ -2,6 +2,7 @@
 //! a refusal.
 #![tactic(auto)]
 
+mod explain_limit;
 mod explain_refusal;
 mod explained;
 mod in_json;

@@ -5,7 +5,10 @@ use Rattle.std.specs.List.{find}
 use Rattle.std.proofs.Math.Seq.{drop-cons}
 use Rattle.std.proofs.lemmas.List.{drop_all}
 use Rattle.pb_json_lines.specs.declared.form.Form.{Form}
-use Rattle.pb_json_lines.specs.Forms.{PlainForm, plain_form, parts, forms, other, first_of, form_of, or_else}
+use Rattle.pb_json_lines.specs.Forms.{alone_form, first_of, form_of, or_else}
+use Rattle.pb_json_lines.specs.PlainForms.{PlainForm, plain_form}
+use Rattle.pb_json_lines.specs.ProgramForms.{parts}
+use Rattle.pb_json_lines.specs.declared.form.Dialect.{Dialect}
 use Rattle.pb_json_lines.specs.Patterns.{fits}
 
 module _ (line : List ℕ) where
@@ -32,13 +35,14 @@ module _ (line : List ℕ) where
       ap (or_else otherwise) (sym none ∙ rest)
 
   -- behind the line of an outcome or a deadlock, and elsewhere
-  pub open_form : (is_open : Bool) (alone : PlainForm) → is_open ≡ true → alone ≡ first_of forms other line
-      → first_of parts alone line ≡ form_of is_open line
+  pub open_form : (dialect : Dialect) (is_open : Bool) (alone : PlainForm) → is_open ≡ true → alone ≡ alone_form dialect line
+      → first_of parts alone line ≡ form_of dialect is_open line
   unfolding form_of
-  open_form true alone is same = ap (λ (f : PlainForm). first_of parts f line) same
-  open_form false alone is same = absurd cc
+  open_form dialect true alone is same = ap (λ (f : PlainForm). first_of parts f line) same
+  open_form dialect false alone is same = absurd cc
 
-  pub alone_form : (is_open : Bool) (alone : PlainForm) → is_open ≡ false → alone ≡ first_of forms other line → alone ≡ form_of is_open line
+  pub not_open_form : (dialect : Dialect) (is_open : Bool) (alone : PlainForm) → is_open ≡ false → alone ≡ alone_form dialect line
+      → alone ≡ form_of dialect is_open line
   unfolding form_of
-  alone_form true alone is same = absurd cc
-  alone_form false alone is same = same
+  not_open_form dialect true alone is same = absurd cc
+  not_open_form dialect false alone is same = same

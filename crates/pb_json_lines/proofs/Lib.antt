@@ -1,3 +1,4 @@
+pub mod DialectLemmas
 pub mod FormLemmas
 pub mod LineLemmas
 pub mod ReplyLemmas

@@ -9,6 +9,7 @@ use Rattle.std.proofs.lemmas.Bool.{ltb-false}
 use Rattle.std.proofs.lemmas.List.{drop_all, take_all, take-map}
 use Rattle.std.proofs.lemmas.List.Sums.{prefix_len-le-length}
 use Rattle.pb_base.proofs.Lists.{take_behind}
+use Rattle.pb_json_lines.specs.declared.form.Dialect.TheVariants.{Program}
 use Rattle.pb_json_lines.specs.JsonLines.{lines_of, onto, is_part, parts_of}
 
 -- ---- the first line
@@ -71,14 +72,14 @@ is_all text some found =
 abbrev texts : List (Bor (List ℕ)) → List (List ℕ)
 texts lines = map (λ l. l.now) lines
 
-pub parts_end : (lines : List (Bor (List ℕ))) (i : ℕ) (d : Bor (List ℕ)) → i < length lines → is_part true (get_or lines i d).now ≡ false
-    → prefix_len (is_part true) (texts lines) ≡ i + prefix_len (is_part true) (texts (drop i lines)) → texts (take i lines) ≡ parts_of (texts lines)
+pub parts_end : (lines : List (Bor (List ℕ))) (i : ℕ) (d : Bor (List ℕ)) → i < length lines → is_part Program true (get_or lines i d).now ≡ false
+    → prefix_len (is_part Program true) (texts lines) ≡ i + prefix_len (is_part Program true) (texts (drop i lines)) → texts (take i lines) ≡ parts_of (texts lines)
 parts_end lines i d lt ends rest =
     let next : suc i ≡ i + 1 = omega arith in
     let behind_it = texts (drop (i + 1) lines) in
     let here : drop i lines ≡ get_or lines i d ∷ drop (i + 1) lines = drop-cons lines i d lt ∙ ap (λ k. get_or lines i d ∷ drop k lines) next in
-    let none : prefix_len (is_part true) (texts (drop i lines)) ≡ 0 =
-    ap (λ (ls : List (Bor (List ℕ))). prefix_len (is_part true) (texts ls)) here
-    ∙ ap (λ t. cond t (1 + prefix_len (is_part true) behind_it) 0) ends in
-    let all : prefix_len (is_part true) (texts lines) ≡ i = omega (arith, rest, none) in
+    let none : prefix_len (is_part Program true) (texts (drop i lines)) ≡ 0 =
+    ap (λ (ls : List (Bor (List ℕ))). prefix_len (is_part Program true) (texts ls)) here
+    ∙ ap (λ t. cond t (1 + prefix_len (is_part Program true) behind_it) 0) ends in
+    let all : prefix_len (is_part Program true) (texts lines) ≡ i = omega (arith, rest, none) in
     sym (take-map (λ (l : Bor (List ℕ)). l.now) i lines) ∙ ap (λ k. take k (texts lines)) (sym all)

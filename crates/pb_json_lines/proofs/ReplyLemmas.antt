@@ -5,6 +5,7 @@ use Rattle.pb_command_io.specs.Faults.{Devices, TellsFaults, TellsWriteFaults}
 use Rattle.pb_command_io.specs.declared.status.Status.{Status}
 use Rattle.pb_command_io.specs.declared.status.Status.TheVariants.{Done, Refused, Words, Limit, Fault, Memory, Device}
 use Rattle.pb_command_io.specs.declared.status.Status.TheVariants.{Threads, Deadlock, Unexpected}
+use Rattle.pb_json_lines.specs.declared.form.Dialect.{Dialect}
 use Rattle.pb_json_lines.specs.Replies.{ReadFailed, SaysInJson, TellsInJson}
 
 -- the status is that of a device, or not
@@ -30,7 +31,7 @@ abbrev pub TellsGathered : (old_reads new_reads failures : ℕ) → Status → T
 TellsGathered old_reads new_reads failures given =
     (given ≢ Device → (new_reads ≡ old_reads) × (failures ≡ 0)) × (given ≡ Device → OneFailed old_reads new_reads failures)
 
-module _ (bytes : List ℕ) (given answered : Status) (old_reads new_reads failures : ℕ) (old new : Devices)
+module _ (dialect : Dialect) (bytes : List ℕ) (given answered : Status) (old_reads new_reads failures : ℕ) (old new : Devices)
     (before : old.reads ≡ old_reads) (after : new.reads ≡ new_reads) where
   -- no read failed: the faults are those of the writes
   no_read : new_reads ≡ old_reads → TellsWriteFaults old.writes new.writes answered → TellsFaults old new answered
@@ -47,7 +48,7 @@ module _ (bytes : List ℕ) (given answered : Status) (old_reads new_reads failu
 
   module _ (tells : TellsGathered old_reads new_reads failures given)
       (unread : ReadFailed given failures → (new.writes ≡ old.writes) × (new.written ≡ old.written) × (answered ≡ Device))
-      (text : (ReadFailed given failures → ⊥) → SaysInJson bytes given old.written new.written answered)
+      (text : (ReadFailed given failures → ⊥) → SaysInJson dialect bytes given old.written new.written answered)
       (faults : (ReadFailed given failures → ⊥) → TellsWriteFaults old.writes new.writes answered) where
     pub told_faults : TellsFaults old new answered
     told_faults = elim (is_device given) [
@@ -60,7 +61,7 @@ module _ (bytes : List ℕ) (given answered : Status) (old_reads new_reads failu
       | inr other ↦ no_read (tells.0 other).0 (faults (λ r. other r.device))
     ]
 
-    pub told_text : TellsInJson bytes given old.written new.written answered
+    pub told_text : TellsInJson dialect bytes given old.written new.written answered
     told_text = elim (is_device given) [
       | inl device ↦ elim (tells.1 device) [
         | inl read ↦

@@ -1,5 +1,10 @@
+pub mod Dialects
 pub mod Forms
 pub mod JsonLines
 pub mod Lists
 pub mod Patterns
+pub mod PlainForms
+pub mod ProgramForms
 pub mod Replies
+pub mod SessionForms
+pub mod TextForms

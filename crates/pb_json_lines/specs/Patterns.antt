@@ -1,8 +1,8 @@
--- The patterns of lines. Each byte of a pattern takes some bytes of a line: capital letters take a name, a number
--- or a list, and make a member of an object of it; any other byte takes itself, and makes nothing.
+-- The patterns of lines. Each byte of a pattern takes some bytes of a line: capital letters and digits take a name, a
+-- number or a list, and make a member of an object of it; any other byte takes itself, and makes nothing.
 use Rattle.std.specs.Prelude.{ℕ, Bool, true, false, cond, not, ◌&&◌, ◌||◌, ◌==◌, nat_lt, List, [], ◌∷◌, ◌++◌, length}
 use Rattle.std.specs.Prelude.{take, drop, codes, Option, Some, None}
-use Rattle.std.specs.Char.{is_ascii_alphabetic, is_ascii_digit}
+use Rattle.std.specs.Char.{is_ascii_alphabetic, is_ascii_digit, is_ascii_uppercase}
 use Rattle.std.specs.List.{list_any, position}
 use Rattle.std.specs.Str.{bytes_eq}
 use Rattle.std.specs.Str.Parse.{digits_value}
@@ -12,16 +12,19 @@ use Rattle.pb_json.specs.Strings.{string_text}
 use Rattle.pb_json_lines.specs.Lists.{is_list, list_text}
 use Rattle.pb_json_lines.specs.declared.marker.Marker.{Marker}
 use Rattle.pb_json_lines.specs.declared.marker.Marker.TheVariants.{Itself, Name, Number, Pairs, Numbers, Rest, Plural}
+use Rattle.pb_json_lines.specs.declared.marker.Marker.TheVariants.{Label, Code}
 
 -- what a byte of a pattern stands for
 abbrev pub marker_of : ℕ → Marker
 marker_of p =
-    cond (list_any (λ b. b == p) (codes "PRXCF")) Name (
-    cond (list_any (λ b. b == p) (codes "AVKMGLENODSIQ")) Number (
+    cond (list_any (λ b. b == p) (codes "PRXCFTU2")) Name (
+    cond (list_any (λ b. b == p) (codes "AVKMGLENODSIQJY01567")) Number (
     cond (p == 66) Pairs (
     cond (p == 72) Numbers (
     cond (p == 87) Rest (
-    cond (p == 90) Plural Itself)))))
+    cond (p == 90) Plural (
+    cond (p == 51 || p == 52) Label (
+    cond (p == 56) Code Itself)))))))
 
 -- the key of the member that it makes
 abbrev pub key_of : ℕ → List ℕ
@@ -45,11 +48,28 @@ key_of p =
     cond (p == 78) (codes "number") (
     cond (p == 79) (codes "outcomes") (
     cond (p == 68) (codes "deadlocks") (
-    cond (p == 83) (codes "limit") (codes "text"))))))))))))))))))))
+    cond (p == 83) (codes "limit") (
+    cond (p == 84) (codes "outer") (
+    cond (p == 74) (codes "outer_line") (
+    cond (p == 85) (codes "inner") (
+    cond (p == 89) (codes "inner_line") (
+    cond (p == 48) (codes "place") (
+    cond (p == 49) (codes "line") (
+    cond (p == 50) (codes "holder") (
+    cond (p == 51) (codes "job") (
+    cond (p == 52) (codes "resource") (
+    cond (p == 53) (codes "cash") (
+    cond (p == 54) (codes "needs") (
+    cond (p == 55) (codes "holds") (
+    cond (p == 56) (codes "code") (codes "text")))))))))))))))))))))))))))))))))
 
 -- a digit or a minus sign
 abbrev pub is_number_byte : ℕ → Bool
 is_number_byte b = is_ascii_digit b || b == 45
+
+-- a byte of the name of a job or a resource of a bank
+abbrev pub is_label_byte : ℕ → Bool
+is_label_byte b = is_name_byte b || (b == 45 || b == 46)
 
 -- up to the place of the first other byte, or to the end
 abbrev pub up_to : Option ℕ → List ℕ → ℕ
@@ -72,6 +92,8 @@ taken_by Itself line = one line
 taken_by Name line = up_to (position (λ b. not (is_name_byte b)) line) line
 taken_by Number line = up_to (position (λ b. not (is_number_byte b)) line) line
 taken_by Plural line = plural line
+taken_by Label line = up_to (position (λ b. not (is_label_byte b)) line) line
+taken_by Code line = up_to (position (λ b. not (is_name_byte b)) line) line
 taken_by Pairs line = length line
 taken_by Numbers line = length line
 taken_by Rest line = length line
@@ -89,6 +111,12 @@ abbrev pub is_integer : List ℕ → Bool
 is_integer [] = false
 is_integer (b ∷ bytes) = cond (b == 45) (is_numeral bytes) (is_numeral (b ∷ bytes))
 
+-- a capital letter and a number; or `input` or `output`
+abbrev pub is_code : List ℕ → Bool
+is_code [] = false
+is_code (b ∷ bytes) =
+    (is_ascii_uppercase b && is_numeral bytes) || (bytes_eq (b ∷ bytes) (codes "input") || bytes_eq (b ∷ bytes) (codes "output"))
+
 -- whether the bytes that it took are of its form
 abbrev pub meets_by : Marker → ℕ → List ℕ → Bool
 meets_by Itself p word = bytes_eq word (p ∷ [])
@@ -98,6 +126,8 @@ meets_by Plural p word = true
 meets_by Pairs p word = is_list true word
 meets_by Numbers p word = is_list false word
 meets_by Rest p word = true
+meets_by Label p word = not (length word == 0)
+meets_by Code p word = is_code word
 
 abbrev pub meets : ℕ → List ℕ → Bool
 meets p word = meets_by (marker_of p) p word
@@ -129,6 +159,8 @@ member_by Plural p word = []
 member_by Pairs p word = member_text p (list_text true word)
 member_by Numbers p word = member_text p (list_text false word)
 member_by Rest p word = member_text p (string_text word)
+member_by Label p word = member_text p (string_text word)
+member_by Code p word = member_text p (string_text word)
 
 abbrev pub member : ℕ → List ℕ → List ℕ
 member p word = member_by (marker_of p) p word

@@ -2,8 +2,27 @@
 
 ghost use Rattle.std.specs.Prelude.{◌≡◌, map};
 ghost use Rattle.pb_json_lines.specs.Forms as spec;
+ghost use Rattle.pb_json_lines.specs.PlainForms.{plain_form};
 
 use crate::members::fits;
+use crate::program_forms::{parts, program_forms};
+use crate::session_forms::{bank_forms, debug_forms};
+use crate::text_forms::{explain_forms, record_forms};
+
+/// Whose lines are told: a command has forms of its own, or those of a program.
+#[derive(Clone, Copy, Debug, PartialEq, Eq)]
+pub enum Dialect {
+    /// Those of `run`, `plan`, `outcomes` and most other commands.
+    Program,
+    /// A text with the picks of a run.
+    Record,
+    /// The answers of a debugging session.
+    Debug,
+    /// The answers of a bank.
+    Bank,
+    /// The pages of refusals.
+    Explain,
+}
 
 /// What a line is of an outcome or a deadlock.
 #[derive(Clone, Copy, Debug, PartialEq, Eq)]
@@ -34,282 +53,9 @@ pub struct Form {
     pub section: Section,
     /// The first members of its object.
     pub first: &'static str,
-    /// What stands in it, byte for byte; specs/Patterns.antt says what the capital letters are.
+    /// What stands in it, byte for byte; specs/Patterns.antt says what capital letters and digits are.
     pub pattern: &'static str,
 }
-
-/// The forms of the lines that belong to an outcome or a deadlock.
-static PARTS: [Form; 10] = [
-    Form {
-        section: Section::Processes,
-        first: "\"kind\":\"ended\"",
-        pattern: "P ended",
-    },
-    Form {
-        section: Section::Processes,
-        first: "\"kind\":\"faulted\"",
-        pattern: "P faulted",
-    },
-    Form {
-        section: Section::Processes,
-        first: "\"kind\":\"waits\"",
-        pattern: "P waits",
-    },
-    Form {
-        section: Section::Integers,
-        first: "\"kind\":\"integer\"",
-        pattern: "P.X V",
-    },
-    Form {
-        section: Section::Heading,
-        first: "\"kind\":\"printed\"",
-        pattern: "printed",
-    },
-    Form {
-        section: Section::Prints,
-        first: "\"kind\":\"print\"",
-        pattern: "P.A print V",
-    },
-    Form {
-        section: Section::Holds,
-        first: "\"kind\":\"holds\"",
-        pattern: "P holds M R",
-    },
-    Form {
-        section: Section::Asks,
-        first: "\"kind\":\"asks\"",
-        pattern: "P.A asksB",
-    },
-    Form {
-        section: Section::Heading,
-        first: "\"kind\":\"reached by\"",
-        pattern: "reached by",
-    },
-    Form {
-        section: Section::Picks,
-        first: "\"kind\":\"picks\"",
-        pattern: "P.A Q",
-    },
-];
-
-/// All other forms but the last, in the order in which they are tried.
-static FORMS: [Form; 43] = [
-    Form {
-        section: Section::Alone,
-        first: "\"kind\":\"grant\"",
-        pattern: "P.A grantB",
-    },
-    Form {
-        section: Section::Alone,
-        first: "\"kind\":\"return\"",
-        pattern: "P.A returnB",
-    },
-    Form {
-        section: Section::Alone,
-        first: "\"kind\":\"print\"",
-        pattern: "P.A print V",
-    },
-    Form {
-        section: Section::Alone,
-        first: "\"kind\":\"fault\"",
-        pattern: "P.A fault F",
-    },
-    Form {
-        section: Section::Alone,
-        first: "\"kind\":\"end\"",
-        pattern: "P end",
-    },
-    Form {
-        section: Section::Alone,
-        first: "\"kind\":\"done\"",
-        pattern: "done",
-    },
-    Form {
-        section: Section::Alone,
-        first: "\"kind\":\"open\"",
-        pattern: "open",
-    },
-    Form {
-        section: Section::Alone,
-        first: "\"kind\":\"deadlocked\"",
-        pattern: "deadlock",
-    },
-    Form {
-        section: Section::Alone,
-        first: "\"kind\":\"limit\"",
-        pattern: "limit S",
-    },
-    Form {
-        section: Section::Alone,
-        first: "\"kind\":\"memory\"",
-        pattern: "memory",
-    },
-    Form {
-        section: Section::Alone,
-        first: "\"kind\":\"threads\"",
-        pattern: "threads",
-    },
-    Form {
-        section: Section::Alone,
-        first: "\"kind\":\"ok\"",
-        pattern: "ok",
-    },
-    Form {
-        section: Section::Alone,
-        first: "\"kind\":\"claim\"",
-        pattern: "P claim K R",
-    },
-    Form {
-        section: Section::Alone,
-        first: "\"kind\":\"claim\"",
-        pattern: "P claim K R linesH",
-    },
-    Form {
-        section: Section::Alone,
-        first: "\"kind\":\"resource\"",
-        pattern: "R capital G least L free E",
-    },
-    Form {
-        section: Section::Alone,
-        first: "\"kind\":\"bottleneck\"",
-        pattern: "bottleneck R",
-    },
-    Form {
-        section: Section::Alone,
-        first: "\"kind\":\"no request waits\"",
-        pattern: "no request waits",
-    },
-    Form {
-        section: Section::Alone,
-        first: "\"kind\":\"order\",\"text\":\"\"",
-        pattern: "order",
-    },
-    Form {
-        section: Section::Alone,
-        first: "\"kind\":\"order\"",
-        pattern: "order W",
-    },
-    Form {
-        section: Section::Alone,
-        first: "\"kind\":\"no order\"",
-        pattern: "no order",
-    },
-    Form {
-        section: Section::Alone,
-        first: "\"kind\":\"refused\"",
-        pattern: "refused C",
-    },
-    Form {
-        section: Section::Alone,
-        first: "\"kind\":\"refused\"",
-        pattern: "refused C at I",
-    },
-    Form {
-        section: Section::Alone,
-        first: "\"kind\":\"refused\"",
-        pattern: "refused C P R claim K capital G",
-    },
-    Form {
-        section: Section::Alone,
-        first: "\"kind\":\"refused\"",
-        pattern: "refused C W",
-    },
-    Form {
-        section: Section::Opens,
-        first: "\"kind\":\"outcome\"",
-        pattern: "outcome N",
-    },
-    Form {
-        section: Section::Opens,
-        first: "\"kind\":\"deadlock\"",
-        pattern: "deadlock N",
-    },
-    Form {
-        section: Section::Alone,
-        first: "\"kind\":\"picks\"",
-        pattern: "P.A Q",
-    },
-    Form {
-        section: Section::Alone,
-        first: "\"kind\":\"outcomes\",\"deadlocks\":0,\"endless\":false",
-        pattern: "O outcomeZ",
-    },
-    Form {
-        section: Section::Alone,
-        first: "\"kind\":\"outcomes\",\"deadlocks\":0,\"endless\":true",
-        pattern: "O outcomeZ, some runs do not end",
-    },
-    Form {
-        section: Section::Alone,
-        first: "\"kind\":\"outcomes\",\"endless\":false",
-        pattern: "O outcomeZ, D deadlockZ",
-    },
-    Form {
-        section: Section::Alone,
-        first: "\"kind\":\"outcomes\",\"endless\":true",
-        pattern: "O outcomeZ, D deadlockZ, some runs do not end",
-    },
-    Form {
-        section: Section::Alone,
-        first: "\"kind\":\"others\",\"of\":\"configurations\"",
-        pattern: "more than S configurations, there may be others",
-    },
-    Form {
-        section: Section::Alone,
-        first: "\"kind\":\"others\",\"of\":\"picks\"",
-        pattern: "more than S picks, there may be others",
-    },
-    Form {
-        section: Section::Alone,
-        first: "\"kind\":\"others\",\"of\":\"deadlocks\"",
-        pattern: "first deadlock, there may be others",
-    },
-    Form {
-        section: Section::Alone,
-        first: "\"kind\":\"others\",\"of\":\"configurations\"",
-        pattern: "more than S configurations",
-    },
-    Form {
-        section: Section::Alone,
-        first: "\"kind\":\"others\",\"of\":\"picks\"",
-        pattern: "more than S picks",
-    },
-    Form {
-        section: Section::Alone,
-        first: "\"kind\":\"every fair run ends\"",
-        pattern: "every fair run ends",
-    },
-    Form {
-        section: Section::Alone,
-        first: "\"kind\":\"some fair runs do not end\"",
-        pattern: "some fair runs do not end",
-    },
-    Form {
-        section: Section::Alone,
-        first: "\"kind\":\"others\",\"of\":\"fair runs\"",
-        pattern: "more than S configurations for fair runs",
-    },
-    Form {
-        section: Section::Alone,
-        first: "\"kind\":\"no outcome\"",
-        pattern: "no outcome N",
-    },
-    Form {
-        section: Section::Alone,
-        first: "\"kind\":\"no deadlock\"",
-        pattern: "no deadlock N",
-    },
-    Form {
-        section: Section::Alone,
-        first: "\"kind\":\"as expected\"",
-        pattern: "as expected",
-    },
-    Form {
-        section: Section::Alone,
-        first: "\"kind\":\"not as expected\"",
-        pattern: "not as expected: W",
-    },
-];
 
 /// The form of any other line.
 static OTHER: Form = Form {
@@ -318,30 +64,53 @@ static OTHER: Form = Form {
     pattern: "W",
 };
 
-/// Returns the forms of the lines that belong to an outcome or a deadlock.
-fn parts() -> &'static [Form]
-    ensures { map spec.plain_form result.now ≡ spec.parts }
-{
-    &PARTS
-}
-
-/// Returns the other forms.
-fn forms() -> &'static [Form]
-    ensures { map spec.plain_form result.now ≡ spec.forms }
-{
-    &FORMS
-}
+/// The form of a line of a text.
+static SOURCE: Form = Form {
+    section: Section::Alone,
+    first: "\"kind\":\"source\"",
+    pattern: "W",
+};
 
 /// Returns the form of any other line.
 fn other() -> &'static Form
-    ensures { spec.plain_form result.now ≡ spec.other }
+    ensures { plain_form result.now ≡ spec.other }
 {
     &OTHER
 }
 
+/// Returns the form of a line of a text.
+fn source() -> &'static Form
+    ensures { plain_form result.now ≡ spec.source }
+{
+    &SOURCE
+}
+
+/// Returns the forms of the lines of a command, in the order in which they are tried.
+fn forms_of(dialect: Dialect) -> &'static [Form]
+    ensures { map plain_form result.now ≡ spec.forms_of dialect }
+{
+    match dialect {
+        Dialect::Program => program_forms(),
+        Dialect::Record => record_forms(),
+        Dialect::Debug => debug_forms(),
+        Dialect::Bank => bank_forms(),
+        Dialect::Explain => explain_forms(),
+    }
+}
+
+/// Returns the form of any other line of a command.
+fn other_of(dialect: Dialect) -> &'static Form
+    ensures { plain_form result.now ≡ spec.other_of dialect }
+{
+    match dialect {
+        Dialect::Record => source(),
+        Dialect::Program | Dialect::Debug | Dialect::Bank | Dialect::Explain => other(),
+    }
+}
+
 /// Returns the first of these forms that a line fits, or another one.
 fn first_of(forms: &'static [Form], otherwise: &'static Form, line: &[u8]) -> &'static Form
-    ensures { spec.plain_form result.now ≡ spec.first_of (map spec.plain_form forms.now) (spec.plain_form otherwise.now) line.now }
+    ensures { plain_form result.now ≡ spec.first_of (map plain_form forms.now) (plain_form otherwise.now) line.now }
 {
     for i in 0..forms.len() {
         if fits(forms[i].pattern.as_bytes(), line) {
@@ -351,11 +120,18 @@ fn first_of(forms: &'static [Form], otherwise: &'static Form, line: &[u8]) -> &'
     otherwise
 }
 
-/// Returns the form of a line: `is_open` tells whether it may belong to an outcome or a deadlock before it.
-pub(crate) fn form_of(is_open: bool, line: &[u8]) -> &'static Form
-    ensures { spec.plain_form result.now ≡ spec.form_of is_open line.now }
+/// Returns the form of a line that belongs to no outcome or deadlock.
+fn alone_form(dialect: Dialect, line: &[u8]) -> &'static Form
+    ensures { plain_form result.now ≡ spec.alone_form dialect line.now }
 {
-    let alone = first_of(forms(), other(), line);
+    first_of(forms_of(dialect), other_of(dialect), line)
+}
+
+/// Returns the form of a line: `is_open` tells whether it may belong to an outcome or a deadlock before it.
+pub(crate) fn form_of(dialect: Dialect, is_open: bool, line: &[u8]) -> &'static Form
+    ensures { plain_form result.now ≡ spec.form_of dialect is_open line.now }
+{
+    let alone = alone_form(dialect, line);
     if is_open {
         first_of(parts(), alone, line)
     } else {

@@ -6,6 +6,7 @@ ghost use Rattle.pb_command_io.specs.Faults.{TellsWriteFaults};
 ghost use Rattle.pb_json_lines.specs.JsonLines.{json_lines};
 ghost use Rattle.pb_json_lines.specs.Replies.{ReadFailed, SaysInJson, memory_object};
 
+use crate::form::Dialect;
 use crate::text::json_lines;
 use pb_base::{DeviceFault, Output, write_all};
 use pb_command_io::{Page, Status};
@@ -78,13 +79,19 @@ fn tell_memory<O: Output>(alloc: Global, output: &mut O) -> Status
 }
 
 /// Writes the JSON lines of a text, and returns the status if no write failed.
-fn tell_lines<O: Output>(alloc: Global, text: &[u8], given: Status, output: &mut O) -> Status
+fn tell_lines<O: Output>(
+    alloc: Global,
+    text: &[u8],
+    given: Status,
+    dialect: Dialect,
+    output: &mut O,
+) -> Status
     requires { given ≢ Status.Device }
-    ensures text { Says (O.written output.old) (O.written output.new) (json_lines text.now) given result
+    ensures text { Says (O.written output.old) (O.written output.new) (json_lines dialect text.now) given result
         ⊎ Says (O.written output.old) (O.written output.new) memory_object Status.Memory result }
     ensures faults { TellsWriteFaults (O.failures output.old) (O.failures output.new) result }
 {
-    let Ok(lines) = json_lines(alloc, text) else {
+    let Ok(lines) = json_lines(alloc, dialect, text) else {
         return tell_memory(alloc, output);
     };
     match write_all(output, lines.as_slice()) {
@@ -93,17 +100,18 @@ fn tell_lines<O: Output>(alloc: Global, text: &[u8], given: Status, output: &mut
     }
 }
 
-/// Writes the JSON lines of what a command wrote, and returns its status. If it was out of memory, that is
-/// told; after a failed read nothing is written.
+/// Writes the JSON lines of what a command wrote, in the forms of its lines, and returns its status. If it was out of
+/// memory, that is told; after a failed read nothing is written.
 pub fn tell_json<O: Output>(
     alloc: Global,
     gathered: &Gathered,
     given: Status,
+    dialect: Dialect,
     output: &mut O,
 ) -> Status
     ensures unread { ReadFailed given gathered.now.failures → (output.new ≡ output.old) × (result ≡ Status.Device) }
     ensures text { (ReadFailed given gathered.now.failures → ⊥)
-        → SaysInJson gathered.now.bytes given (O.written output.old) (O.written output.new) result }
+        → SaysInJson dialect gathered.now.bytes given (O.written output.old) (O.written output.new) result }
     ensures faults { (ReadFailed given gathered.now.failures → ⊥)
         → TellsWriteFaults (O.failures output.old) (O.failures output.new) result }
 {
@@ -118,6 +126,6 @@ pub fn tell_json<O: Output>(
         | Status::Memory
         | Status::Threads
         | Status::Deadlock
-        | Status::Unexpected => tell_lines(alloc, gathered.as_slice(), given, output),
+        | Status::Unexpected => tell_lines(alloc, gathered.as_slice(), given, dialect, output),
     }
 }

@@ -27,6 +27,10 @@ pub enum Marker {
     Rest,
     /// An `s`, if there is one.
     Plural,
+    /// The name of a job or a resource of a bank.
+    Label,
+    /// The code of a refusal.
+    Code,
 }
 
 /// Returns whether a byte is one of these.
@@ -40,9 +44,9 @@ fn is_among(bytes: &[u8], byte: u8) -> bool
 pub(crate) fn marker_of(byte: u8) -> Marker
     ensures { result ≡ spec.marker_of byte }
 {
-    if is_among(b"PRXCF", byte) {
+    if is_among(b"PRXCFTU2", byte) {
         Marker::Name
-    } else if is_among(b"AVKMGLENODSIQ", byte) {
+    } else if is_among(b"AVKMGLENODSIQJY01567", byte) {
         Marker::Number
     } else if byte == b'B' {
         Marker::Pairs
@@ -52,6 +56,10 @@ pub(crate) fn marker_of(byte: u8) -> Marker
         Marker::Rest
     } else if byte == b'Z' {
         Marker::Plural
+    } else if byte == b'3' || byte == b'4' {
+        Marker::Label
+    } else if byte == b'8' {
+        Marker::Code
     } else {
         Marker::Itself
     }
@@ -63,6 +71,21 @@ fn name_end(line: &[u8]) -> Option<usize>
     ensures within { IfSome result (λ at. at < length line.now) }
 {
     line.iter().position(|b| !is_name_byte(*b))
+}
+
+/// Returns whether the name of a job or a resource of a bank may have a byte.
+fn is_label_byte(b: u8) -> bool
+    ensures { result ≡ spec.is_label_byte b }
+{
+    is_name_byte(b) || (b == b'-' || b == b'.')
+}
+
+/// Returns the place of the first byte that no such name has.
+fn label_end(line: &[u8]) -> Option<usize>
+    ensures place { result ≡ position (λ b. not (spec.is_label_byte b)) line.now }
+    ensures within { IfSome result (λ at. at < length line.now) }
+{
+    line.iter().position(|b| !is_label_byte(*b))
 }
 
 /// Returns whether a byte is a digit or a minus sign.
@@ -121,7 +144,8 @@ pub(crate) fn taken(marker: Marker, line: &[u8]) -> usize
 {
     match marker {
         Marker::Itself => one(line),
-        Marker::Name => up_to(name_end(line), line),
+        Marker::Name | Marker::Code => up_to(name_end(line), line),
+        Marker::Label => up_to(label_end(line), line),
         Marker::Number => up_to(number_end(line), line),
         Marker::Plural => plural(line),
         Marker::Pairs | Marker::Numbers | Marker::Rest => line.len(),
@@ -149,6 +173,19 @@ fn is_integer(word: &[u8]) -> bool
     }
 }
 
+/// Returns whether a word is a capital letter and a number, or `input` or `output`.
+fn is_code(word: &[u8]) -> bool
+    ensures { result ≡ spec.is_code word.now }
+{
+    match word {
+        [] => false,
+        [first, rest @ ..] => {
+            (first.is_ascii_uppercase() && is_numeral(rest))
+                || (word == b"input".as_slice() || word == b"output".as_slice())
+        }
+    }
+}
+
 /// Returns whether the bytes that a byte of a pattern took are of its form.
 pub(crate) fn meets(marker: Marker, byte: u8, word: &[u8]) -> bool
     ensures { result ≡ spec.meets_by marker byte word.now }
@@ -156,6 +193,8 @@ pub(crate) fn meets(marker: Marker, byte: u8, word: &[u8]) -> bool
     match marker {
         Marker::Itself => word == [byte].as_slice(),
         Marker::Name => begins_with_letter(word),
+        Marker::Label => !word.is_empty(),
+        Marker::Code => is_code(word),
         Marker::Number => is_integer(word),
         Marker::Pairs => is_list(true, word),
         Marker::Numbers => is_list(false, word),

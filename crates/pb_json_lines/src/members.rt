@@ -79,6 +79,32 @@ fn key_of(byte: u8) -> &'static str
         "deadlocks"
     } else if byte == b'S' {
         "limit"
+    } else if byte == b'T' {
+        "outer"
+    } else if byte == b'J' {
+        "outer_line"
+    } else if byte == b'U' {
+        "inner"
+    } else if byte == b'Y' {
+        "inner_line"
+    } else if byte == b'0' {
+        "place"
+    } else if byte == b'1' {
+        "line"
+    } else if byte == b'2' {
+        "holder"
+    } else if byte == b'3' {
+        "job"
+    } else if byte == b'4' {
+        "resource"
+    } else if byte == b'5' {
+        "cash"
+    } else if byte == b'6' {
+        "needs"
+    } else if byte == b'7' {
+        "holds"
+    } else if byte == b'8' {
+        "code"
     } else {
         "text"
     }
@@ -169,7 +195,9 @@ fn put_member(out: &mut Vec<u8>, marker: Marker, byte: u8, word: &[u8]) -> Resul
 {
     match marker {
         Marker::Itself | Marker::Plural => Ok(()),
-        Marker::Name | Marker::Rest => put_string_member(out, byte, word),
+        Marker::Name | Marker::Rest | Marker::Label | Marker::Code => {
+            put_string_member(out, byte, word)
+        }
         Marker::Number => put_number_member(out, byte, word),
         Marker::Pairs => put_list_member(out, byte, true, word),
         Marker::Numbers => put_list_member(out, byte, false, word),

@@ -6,7 +6,7 @@ ghost use Rattle.pb_json.specs.Values.{comma};
 ghost use Rattle.pb_json_lines.specs.Forms as forms;
 ghost use Rattle.pb_json_lines.specs.JsonLines as spec;
 
-use crate::form::{Section, form_of};
+use crate::form::{Dialect, Section, form_of};
 use crate::lines::lines_of;
 use crate::members::put_members;
 use pb_base::NoMemory;
@@ -16,21 +16,26 @@ use std::alloc::Global;
 
 /// Appends what the object of a line says, without its braces.
 #[tactic(auto, unfolding(crate::specs::Forms::said_by))]
-fn put_said(out: &mut Vec<u8>, is_open: bool, text: &[u8]) -> Result<(), NoMemory>
-    ensures { OnOk result (out.new.items ≡ out.old.items ++ forms.said_by (forms.form_of is_open text.now) text.now) }
+fn put_said(out: &mut Vec<u8>, dialect: Dialect, is_open: bool, text: &[u8]) -> Result<(), NoMemory>
+    ensures { OnOk result (out.new.items ≡ out.old.items ++ forms.said_by (forms.form_of dialect is_open text.now) text.now) }
 {
-    let form = form_of(is_open, text);
+    let form = form_of(dialect, is_open, text);
     put(out, form.first.as_bytes())?;
     put_members(out, form.pattern.as_bytes(), text)
 }
 
 /// Appends the object of a line.
 #[tactic(auto, unfolding(crate::specs::JsonLines::object_of))]
-fn put_object(out: &mut Vec<u8>, is_open: bool, text: &[u8]) -> Result<(), NoMemory>
-    ensures { OnOk result (out.new.items ≡ out.old.items ++ spec.object_of is_open text.now) }
+fn put_object(
+    out: &mut Vec<u8>,
+    dialect: Dialect,
+    is_open: bool,
+    text: &[u8],
+) -> Result<(), NoMemory>
+    ensures { OnOk result (out.new.items ≡ out.old.items ++ spec.object_of dialect is_open text.now) }
 {
     put(out, b"{")?;
-    put_said(out, is_open, text)?;
+    put_said(out, dialect, is_open, text)?;
     put(out, b"}")
 }
 
@@ -52,24 +57,24 @@ fn place_of(section: Section) -> u8
 }
 
 /// Returns the section of a line.
-fn section_of(is_open: bool, text: &[u8]) -> Section
-    ensures { result ≡ forms.section_of is_open text.now }
+fn section_of(dialect: Dialect, is_open: bool, text: &[u8]) -> Section
+    ensures { result ≡ forms.section_of dialect is_open text.now }
 {
-    form_of(is_open, text).section
+    form_of(dialect, is_open, text).section
 }
 
 /// Returns whether a part of an outcome or a deadlock is of a section.
 fn is_of(section: Section, text: &[u8]) -> bool
     ensures { result ≡ spec.is_of section text.now }
 {
-    place_of(section_of(true, text)) == place_of(section)
+    place_of(section_of(Dialect::Program, true, text)) == place_of(section)
 }
 
 /// Returns whether a line is that of an outcome or a deadlock.
-fn opens(is_open: bool, text: &[u8]) -> bool
-    ensures { result ≡ spec.opens is_open text.now }
+fn opens(dialect: Dialect, is_open: bool, text: &[u8]) -> bool
+    ensures { result ≡ spec.opens dialect is_open text.now }
 {
-    match section_of(is_open, text) {
+    match section_of(dialect, is_open, text) {
         Section::Opens => true,
         Section::Alone
         | Section::Heading
@@ -83,10 +88,10 @@ fn opens(is_open: bool, text: &[u8]) -> bool
 }
 
 /// Returns whether a line belongs to the outcome or the deadlock before it.
-fn is_part(is_open: bool, text: &[u8]) -> bool
-    ensures { result ≡ spec.is_part is_open text.now }
+fn is_part(dialect: Dialect, is_open: bool, text: &[u8]) -> bool
+    ensures { result ≡ spec.is_part dialect is_open text.now }
 {
-    match section_of(is_open, text) {
+    match section_of(dialect, is_open, text) {
         Section::Opens | Section::Alone => false,
         Section::Heading
         | Section::Processes
@@ -100,10 +105,10 @@ fn is_part(is_open: bool, text: &[u8]) -> bool
 
 /// Appends the object of a part behind others, with the comma before it.
 fn put_item(out: &mut Vec<u8>, before: usize, text: &[u8]) -> Result<(), NoMemory>
-    ensures { OnOk result (out.new.items ≡ out.old.items ++ (comma before ++ spec.object_of true text.now)) }
+    ensures { OnOk result (out.new.items ≡ out.old.items ++ (comma before ++ spec.object_of Dialect.Program true text.now)) }
 {
     put_comma(out, before)?;
-    put_object(out, true, text)
+    put_object(out, Dialect::Program, true, text)
 }
 
 /// Appends the objects of those lines that are of a section.
@@ -154,7 +159,7 @@ fn parts_of<'s, 't>(lines: &'s [&'t [u8]]) -> &'s [&'t [u8]]
     ensures { map (λ l. l.now) result.now ≡ spec.parts_of (map (λ l. l.now) lines.now) }
 {
     for i in 0..lines.len() {
-        if !is_part(true, lines[i]) {
+        if !is_part(Dialect::Program, true, lines[i]) {
             return &lines[..i];
         }
     }
@@ -165,59 +170,66 @@ fn parts_of<'s, 't>(lines: &'s [&'t [u8]]) -> &'s [&'t [u8]]
 #[tactic(auto, unfolding(crate::specs::JsonLines::block_of))]
 fn put_block(
     out: &mut Vec<u8>,
+    dialect: Dialect,
     is_open: bool,
     first: &[u8],
     lines: &[&[u8]],
 ) -> Result<(), NoMemory>
-    ensures { OnOk result (out.new.items ≡ out.old.items ++ spec.block_of is_open first.now (map (λ l. l.now) lines.now)) }
+    ensures { OnOk result (out.new.items ≡ out.old.items ++ spec.block_of dialect is_open first.now (map (λ l. l.now) lines.now)) }
 {
     put(out, b"{")?;
-    put_said(out, is_open, first)?;
+    put_said(out, dialect, is_open, first)?;
     put_lists(out, parts_of(lines))?;
     put(out, b"}")
 }
 
 /// Appends what is written for a line.
-fn put_for(out: &mut Vec<u8>, is_open: bool, text: &[u8], lines: &[&[u8]]) -> Result<(), NoMemory>
-    ensures { OnOk result (out.new.items ≡ out.old.items ++ spec.said_of is_open text.now (map (λ l. l.now) lines.now)) }
+fn put_for(
+    out: &mut Vec<u8>,
+    dialect: Dialect,
+    is_open: bool,
+    text: &[u8],
+    lines: &[&[u8]],
+) -> Result<(), NoMemory>
+    ensures { OnOk result (out.new.items ≡ out.old.items ++ spec.said_of dialect is_open text.now (map (λ l. l.now) lines.now)) }
 {
-    if opens(is_open, text) {
-        put_block(out, is_open, text, lines)?;
+    if opens(dialect, is_open, text) {
+        put_block(out, dialect, is_open, text, lines)?;
         return put(out, b"\n");
     }
-    if is_part(is_open, text) {
+    if is_part(dialect, is_open, text) {
         return Ok(());
     }
-    put_object(out, is_open, text)?;
+    put_object(out, dialect, is_open, text)?;
     put(out, b"\n")
 }
 
 /// Returns whether the next line may belong to an outcome or a deadlock.
-fn stays_open(is_open: bool, text: &[u8]) -> bool
-    ensures { result ≡ spec.opens is_open text.now || spec.is_part is_open text.now }
+fn stays_open(dialect: Dialect, is_open: bool, text: &[u8]) -> bool
+    ensures { result ≡ spec.opens dialect is_open text.now || spec.is_part dialect is_open text.now }
 {
-    opens(is_open, text) || is_part(is_open, text)
+    opens(dialect, is_open, text) || is_part(dialect, is_open, text)
 }
 
 /// Appends the objects of lines.
-fn put_objects(out: &mut Vec<u8>, lines: &[&[u8]]) -> Result<(), NoMemory>
-    ensures { OnOk result (out.new.items ≡ out.old.items ++ spec.objects false (map (λ l. l.now) lines.now)) }
+fn put_objects(out: &mut Vec<u8>, dialect: Dialect, lines: &[&[u8]]) -> Result<(), NoMemory>
+    ensures { OnOk result (out.new.items ≡ out.old.items ++ spec.objects dialect false (map (λ l. l.now) lines.now)) }
 {
     let mut is_open = false;
     for i in 0..lines.len() {
-        put_for(out, is_open, lines[i], lines.split_at(i + 1).1)?;
-        is_open = stays_open(is_open, lines[i]);
+        put_for(out, dialect, is_open, lines[i], lines.split_at(i + 1).1)?;
+        is_open = stays_open(dialect, is_open, lines[i]);
     }
     Ok(())
 }
 
-/// Returns the JSON lines of a text.
+/// Returns the JSON lines of a text that a command wrote.
 #[tactic(auto, unfolding(crate::specs::JsonLines::json_lines))]
-pub fn json_lines(alloc: Global, text: &[u8]) -> Result<Vec<u8>, NoMemory>
-    ensures { IfOk result (λ lines. lines.items ≡ spec.json_lines text.now) }
+pub fn json_lines(alloc: Global, dialect: Dialect, text: &[u8]) -> Result<Vec<u8>, NoMemory>
+    ensures { IfOk result (λ lines. lines.items ≡ spec.json_lines dialect text.now) }
 {
     let lines = lines_of(alloc, text)?;
     let mut out = Vec::new(alloc);
-    put_objects(&mut out, lines.as_slice())?;
+    put_objects(&mut out, dialect, lines.as_slice())?;
     Ok(out)
 }

@@ -1,6 +1,6 @@
 //! Texts of commands, and the JSON lines that are made of them.
 
-use pb_json_lines::json_lines;
+use pb_json_lines::{Dialect, json_lines};
 use std::alloc::Global;
 
 /// A text, and its JSON lines.
@@ -65,9 +65,44 @@ const OUTCOMES: [Case; 3] = [
     },
 ];
 
+/// What `plan` writes behind `no order`.
+const CIRCLES: [Case; 1] = [Case {
+    text: b"no order\norder holds tape line 7 around disk line 8\nb holds disk line 11 around tape line 12\norder tape disk\n",
+    lines: b"{\"kind\":\"no order\"}\n{\"kind\":\"nest\",\"process\":\"order\",\"outer\":\"tape\",\"outer_line\":7,\"inner\":\"disk\",\"inner_line\":8}\n{\"kind\":\"nest\",\"process\":\"b\",\"outer\":\"disk\",\"outer_line\":11,\"inner\":\"tape\",\"inner_line\":12}\n{\"kind\":\"order\",\"text\":\"tape disk\"}\n",
+}];
+
+/// What `record` and `explain` write.
+const TEXTS: [Case; 1] = [Case {
+    text: b"process p // \xff\x22\nbegin\n  ok\ndone\n%%\np.0 12\nq.1 3\n",
+    lines: b"{\"kind\":\"source\",\"text\":\"process p // \\u00ff\\\"\"}\n{\"kind\":\"source\",\"text\":\"begin\"}\n{\"kind\":\"source\",\"text\":\"  ok\"}\n{\"kind\":\"source\",\"text\":\"done\"}\n{\"kind\":\"picks follow\"}\n{\"kind\":\"picks\",\"process\":\"p\",\"arm\":0,\"count\":12}\n{\"kind\":\"picks\",\"process\":\"q\",\"arm\":1,\"count\":3}\n",
+}];
+
+const PAGES: [Case; 1] = [Case {
+    text: b"N3: a name that is not declared\ninput: the input is too long\nrange: an object has\nrefused N3 at 4\n",
+    lines: b"{\"kind\":\"code\",\"code\":\"N3\",\"text\":\"a name that is not declared\"}\n{\"kind\":\"code\",\"code\":\"input\",\"text\":\"the input is too long\"}\n{\"kind\":\"line\",\"text\":\"range: an object has\"}\n{\"kind\":\"line\",\"text\":\"refused N3 at 4\"}\n",
+}];
+
+/// What `debug` writes.
+const SESSIONS: [Case; 2] = [
+    Case {
+        text: b"at 3\nat 4 p.0 grant 1 tape\nat 5 p.0 print -2\nat 6 p end\nat 7 p.1 line 12\nat 8 p.1 line none\nno event\nx -5\n0 idle\n1 at 7\n2 ended\nfaulted\nstack\nstack 7 -3\n",
+        lines: b"{\"kind\":\"at\",\"at\":3}\n{\"kind\":\"at\",\"event\":\"grant\",\"at\":4,\"process\":\"p\",\"arm\":0,\"amounts\":[{\"amount\":1,\"resource\":\"tape\"}]}\n{\"kind\":\"at\",\"event\":\"print\",\"at\":5,\"process\":\"p\",\"arm\":0,\"value\":-2}\n{\"kind\":\"at\",\"event\":\"end\",\"at\":6,\"process\":\"p\"}\n{\"kind\":\"wrote\",\"at\":7,\"process\":\"p\",\"arm\":1,\"line\":12}\n{\"kind\":\"wrote\",\"at\":8,\"process\":\"p\",\"arm\":1}\n{\"kind\":\"no event\"}\n{\"kind\":\"variable\",\"integer\":\"x\",\"value\":-5}\n{\"kind\":\"arm\",\"state\":\"idle\",\"arm\":0}\n{\"kind\":\"arm\",\"state\":\"at\",\"arm\":1,\"place\":7}\n{\"kind\":\"arm\",\"state\":\"ended\",\"arm\":2}\n{\"kind\":\"faulted\"}\n{\"kind\":\"stack\",\"text\":\"\"}\n{\"kind\":\"stack\",\"text\":\"7 -3\"}\n",
+    },
+    Case {
+        text: b"p holds 1 tape claim 2\ncash 0 tape\np.0 asks 1 tape\np.0 waits tape holder q\nline 4\nline none\n4|   x := \x7f;\norder p q\nrest q\nrefused G3\nrefused N3 at 4\n",
+        lines: b"{\"kind\":\"loan\",\"process\":\"p\",\"amount\":1,\"resource\":\"tape\",\"claim\":2}\n{\"kind\":\"cash\",\"amount\":0,\"resource\":\"tape\"}\n{\"kind\":\"asks\",\"process\":\"p\",\"arm\":0,\"amounts\":[{\"amount\":1,\"resource\":\"tape\"}]}\n{\"kind\":\"waits for\",\"process\":\"p\",\"arm\":0,\"resource\":\"tape\",\"holder\":\"q\"}\n{\"kind\":\"source line\",\"line\":4}\n{\"kind\":\"source line\"}\n{\"kind\":\"source\",\"line\":4,\"text\":\"  x := \\u007f;\"}\n{\"kind\":\"order\",\"text\":\"p q\"}\n{\"kind\":\"rest\",\"text\":\"q\"}\n{\"kind\":\"refused\",\"code\":\"G3\"}\n{\"kind\":\"refused\",\"code\":\"N3\",\"at\":4}\n",
+    },
+];
+
+/// What `bank` writes.
+const BANKS: [Case; 1] = [Case {
+    text: b"granted\ngranted 1-a.b 1 tape, 2 disk\nover claim tape-1\nwait cash tape 3\nwait rest a b\norder\norder a b\nlacks a tape\nresource tape capital 4 cash 3\njob a tape claim 3 holds 1 needs 2\nwish a 1 tape\nrefused B4 no such resource\nready\n",
+    lines: b"{\"kind\":\"granted\"}\n{\"kind\":\"granted\",\"job\":\"1-a.b\",\"text\":\"1 tape, 2 disk\"}\n{\"kind\":\"over claim\",\"resource\":\"tape-1\"}\n{\"kind\":\"wait cash\",\"resource\":\"tape\",\"cash\":3}\n{\"kind\":\"wait rest\",\"text\":\"a b\"}\n{\"kind\":\"order\",\"text\":\"\"}\n{\"kind\":\"order\",\"text\":\"a b\"}\n{\"kind\":\"lacks\",\"job\":\"a\",\"resource\":\"tape\"}\n{\"kind\":\"resource\",\"resource\":\"tape\",\"capital\":4,\"cash\":3}\n{\"kind\":\"job\",\"job\":\"a\",\"resource\":\"tape\",\"claim\":3,\"holds\":1,\"needs\":2}\n{\"kind\":\"wish\",\"job\":\"a\",\"text\":\"1 tape\"}\n{\"kind\":\"refused\",\"code\":\"B4\",\"text\":\"no such resource\"}\n{\"kind\":\"ready\"}\n",
+}];
+
 /// Returns whether the JSON lines of a case are made.
-fn makes(alloc: Global, case: &Case) -> bool {
-    match json_lines(alloc, case.text) {
+fn makes(alloc: Global, dialect: Dialect, case: &Case) -> bool {
+    match json_lines(alloc, dialect, case.text) {
         Ok(lines) => lines.as_slice() == case.lines,
         Err(_) => false,
     }
@@ -76,27 +111,62 @@ fn makes(alloc: Global, case: &Case) -> bool {
 #[test]
 fn events_are_objects(rt: HostRuntime) {
     for case in &EVENTS {
-        assert!(rt; makes(rt.alloc(), case));
+        assert!(rt; makes(rt.alloc(), Dialect::Program, case));
     }
 }
 
 #[test]
 fn claims_and_refusals_are_objects(rt: HostRuntime) {
     for case in &CLAIMS {
-        assert!(rt; makes(rt.alloc(), case));
+        assert!(rt; makes(rt.alloc(), Dialect::Program, case));
     }
 }
 
 #[test]
 fn names_make_no_line_another_one(rt: HostRuntime) {
     for case in &NAMES {
-        assert!(rt; makes(rt.alloc(), case));
+        assert!(rt; makes(rt.alloc(), Dialect::Program, case));
     }
 }
 
 #[test]
 fn an_outcome_is_one_object(rt: HostRuntime) {
     for case in &OUTCOMES {
-        assert!(rt; makes(rt.alloc(), case));
+        assert!(rt; makes(rt.alloc(), Dialect::Program, case));
+    }
+}
+
+#[test]
+fn circles_are_objects(rt: HostRuntime) {
+    for case in &CIRCLES {
+        assert!(rt; makes(rt.alloc(), Dialect::Program, case));
+    }
+}
+
+#[test]
+fn recorded_runs_are_objects(rt: HostRuntime) {
+    for case in &TEXTS {
+        assert!(rt; makes(rt.alloc(), Dialect::Record, case));
+    }
+}
+
+#[test]
+fn pages_are_objects(rt: HostRuntime) {
+    for case in &PAGES {
+        assert!(rt; makes(rt.alloc(), Dialect::Explain, case));
+    }
+}
+
+#[test]
+fn sessions_are_objects(rt: HostRuntime) {
+    for case in &SESSIONS {
+        assert!(rt; makes(rt.alloc(), Dialect::Debug, case));
+    }
+}
+
+#[test]
+fn banks_are_objects(rt: HostRuntime) {
+    for case in &BANKS {
+        assert!(rt; makes(rt.alloc(), Dialect::Bank, case));
     }
 }

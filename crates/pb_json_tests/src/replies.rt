@@ -2,7 +2,7 @@
 
 use pb_base::{MemoryOutput, NoMemory, write_all};
 use pb_command_io::Status;
-use pb_json_lines::{Gathered, tell_json};
+use pb_json_lines::{Dialect, Gathered, tell_json};
 use std::alloc::Global;
 
 /// What a command wrote, its status, and what is told.
@@ -38,7 +38,7 @@ fn tells(alloc: Global, case: &Case) -> Result<bool, NoMemory> {
         return Ok(false);
     };
     let mut output = MemoryOutput::new(alloc, 1_000)?;
-    let status = tell_json(alloc, &gathered, case.given, &mut output);
+    let status = tell_json(alloc, &gathered, case.given, Dialect::Program, &mut output);
     Ok(status == case.given && output.as_slice() == case.told)
 }
 
@@ -56,7 +56,13 @@ fn is_device(alloc: Global) -> Result<bool, NoMemory> {
         return Ok(false);
     };
     let mut output = MemoryOutput::new(alloc, 3)?;
-    let status = tell_json(alloc, &gathered, Status::Done, &mut output);
+    let status = tell_json(
+        alloc,
+        &gathered,
+        Status::Done,
+        Dialect::Program,
+        &mut output,
+    );
     Ok(status == Status::Device && output.as_slice() == b"{\"k".as_slice())
 }
 

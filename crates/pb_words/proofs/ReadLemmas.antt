@@ -20,7 +20,7 @@ use Rattle.pb_words.specs.Read.{HasDebugOptions, HasDrawLend, HasLend, HasOption
 use Rattle.pb_words.specs.Read.{HasRecordNumbers, HasRunNumbers}
 use Rattle.pb_words.specs.Read.{IsReadFrom, IsReadFromMatches}
 use Rattle.pb_words.specs.declared.words.Options.{Options}
-use Rattle.pb_words.specs.declared.words.Options.TheVariants.{Bank, Check, Claims, Debug, Draw, Emit, Exec, Explain}
+use Rattle.pb_words.specs.declared.words.Options.TheVariants.{Bank, Check, Claims, Dap, Debug, Draw, Emit, Exec, Explain}
 use Rattle.pb_words.specs.declared.words.Options.TheVariants.{Migrate, Outcomes, Plan, Record, Replay, Run, States}
 use Rattle.pb_options.specs.declared.options.CheckOptions.{CheckOptions}
 use Rattle.pb_options.specs.declared.options.DebugOptions.{DebugOptions}
@@ -112,6 +112,8 @@ no_check rows none Claims says =
     let m : 104 ≡ 108 = ap (λ (l : Text). get_or l 1 0) says in omega (arith, m)
 no_check rows none (Debug o) says =
     let m : 99 ≡ 100 = ap (λ (l : Text). get_or l 0 0) says.0 in omega (arith, m)
+no_check rows none Dap says =
+    let m : 99 ≡ 100 = ap (λ (l : Text). get_or l 0 0) says in omega (arith, m)
 no_check rows none (Draw o) says =
     let m : 99 ≡ 100 = ap (λ (l : Text). get_or l 0 0) says.0 in omega (arith, m)
 no_check rows none (Emit o) says =
@@ -179,6 +181,8 @@ no_emit rows none Claims says =
     let m : 101 ≡ 99 = ap (λ (l : Text). get_or l 0 0) says in omega (arith, m)
 no_emit rows none (Debug o) says =
     let m : 101 ≡ 100 = ap (λ (l : Text). get_or l 0 0) says.0 in omega (arith, m)
+no_emit rows none Dap says =
+    let m : 101 ≡ 100 = ap (λ (l : Text). get_or l 0 0) says in omega (arith, m)
 no_emit rows none (Draw o) says =
     let m : 101 ≡ 100 = ap (λ (l : Text). get_or l 0 0) says.0 in omega (arith, m)
 no_emit rows none (Emit o) says = none o says.1
@@ -212,6 +216,8 @@ no_run rows none Claims says =
     let m : 114 ≡ 99 = ap (λ (l : Text). get_or l 0 0) says in omega (arith, m)
 no_run rows none (Debug o) says =
     let m : 114 ≡ 100 = ap (λ (l : Text). get_or l 0 0) says.0 in omega (arith, m)
+no_run rows none Dap says =
+    let m : 114 ≡ 100 = ap (λ (l : Text). get_or l 0 0) says in omega (arith, m)
 no_run rows none (Draw o) says =
     let m : 114 ≡ 100 = ap (λ (l : Text). get_or l 0 0) says.0 in omega (arith, m)
 no_run rows none (Emit o) says =
@@ -245,6 +251,8 @@ no_record rows none Claims says =
     let m : 114 ≡ 99 = ap (λ (l : Text). get_or l 0 0) says in omega (arith, m)
 no_record rows none (Debug o) says =
     let m : 114 ≡ 100 = ap (λ (l : Text). get_or l 0 0) says.0 in omega (arith, m)
+no_record rows none Dap says =
+    let m : 114 ≡ 100 = ap (λ (l : Text). get_or l 0 0) says in omega (arith, m)
 no_record rows none (Draw o) says =
     let m : 114 ≡ 100 = ap (λ (l : Text). get_or l 0 0) says.0 in omega (arith, m)
 no_record rows none (Emit o) says =
@@ -278,6 +286,8 @@ no_exec rows none Claims says =
     let m : 101 ≡ 99 = ap (λ (l : Text). get_or l 0 0) says in omega (arith, m)
 no_exec rows none (Debug o) says =
     let m : 101 ≡ 100 = ap (λ (l : Text). get_or l 0 0) says.0 in omega (arith, m)
+no_exec rows none Dap says =
+    let m : 101 ≡ 100 = ap (λ (l : Text). get_or l 0 0) says in omega (arith, m)
 no_exec rows none (Draw o) says =
     let m : 101 ≡ 100 = ap (λ (l : Text). get_or l 0 0) says.0 in omega (arith, m)
 no_exec rows none (Emit o) says =
@@ -311,6 +321,8 @@ no_explain rows none Claims says =
     let m : 101 ≡ 99 = ap (λ (l : Text). get_or l 0 0) says in omega (arith, m)
 no_explain rows none (Debug o) says =
     let m : 101 ≡ 100 = ap (λ (l : Text). get_or l 0 0) says.0 in omega (arith, m)
+no_explain rows none Dap says =
+    let m : 101 ≡ 100 = ap (λ (l : Text). get_or l 0 0) says in omega (arith, m)
 no_explain rows none (Draw o) says =
     let m : 101 ≡ 100 = ap (λ (l : Text). get_or l 0 0) says.0 in omega (arith, m)
 no_explain rows none (Emit o) says =
@@ -344,6 +356,8 @@ no_outcomes rows none Claims says =
     let m : 111 ≡ 99 = ap (λ (l : Text). get_or l 0 0) says in omega (arith, m)
 no_outcomes rows none (Debug o) says =
     let m : 111 ≡ 100 = ap (λ (l : Text). get_or l 0 0) says.0 in omega (arith, m)
+no_outcomes rows none Dap says =
+    let m : 111 ≡ 100 = ap (λ (l : Text). get_or l 0 0) says in omega (arith, m)
 no_outcomes rows none (Draw o) says =
     let m : 111 ≡ 100 = ap (λ (l : Text). get_or l 0 0) says.0 in omega (arith, m)
 no_outcomes rows none (Emit o) says =
@@ -377,6 +391,8 @@ no_states rows none Claims says =
     let m : 115 ≡ 99 = ap (λ (l : Text). get_or l 0 0) says in omega (arith, m)
 no_states rows none (Debug o) says =
     let m : 115 ≡ 100 = ap (λ (l : Text). get_or l 0 0) says.0 in omega (arith, m)
+no_states rows none Dap says =
+    let m : 115 ≡ 100 = ap (λ (l : Text). get_or l 0 0) says in omega (arith, m)
 no_states rows none (Draw o) says =
     let m : 115 ≡ 100 = ap (λ (l : Text). get_or l 0 0) says.0 in omega (arith, m)
 no_states rows none (Emit o) says =

@@ -100,6 +100,7 @@ abbrev pub IsReadFrom : Text → List Row → Options → Type 0
 IsReadFrom name rows option.Bank = name ≡ codes "bank"
 IsReadFrom name rows (option.Check o) = (name ≡ codes "check") × HasCheckNumbers rows o
 IsReadFrom name rows option.Claims = name ≡ codes "claims"
+IsReadFrom name rows option.Dap = name ≡ codes "dap"
 IsReadFrom name rows (option.Debug o) = (name ≡ codes "debug") × HasDebugOptions rows o
 IsReadFrom name rows (option.Draw o) = (name ≡ codes "draw") × HasDrawLend rows o
 IsReadFrom name rows (option.Emit o) = (name ≡ codes "emit") × HasEmitNumber rows o

@@ -244,6 +244,7 @@ fn read_matches(matches: &ArgMatches<'_>) -> Option<Options>
         "bank" => Some(Options::Bank),
         "check" => Some(Options::Check(check_options(inner)?)),
         "claims" => Some(Options::Claims),
+        "dap" => Some(Options::Dap),
         "debug" => Some(Options::Debug(debug_options(inner)?)),
         "draw" => Some(Options::Draw(draw_options(inner)?)),
         "emit" => Some(Options::Emit(emit_options(inner)?)),

@@ -12,6 +12,7 @@ pub enum Options {
     Bank,
     Check(CheckOptions),
     Claims,
+    Dap,
     Debug(DebugOptions),
     Draw(DrawOptions),
     Emit(EmitOptions),

@@ -1,5 +1,5 @@
 use Rattle.std.proofs.Common.{IfSome, inl, inr, subst, rules}
-use Rattle.pb_words.specs.declared.words.Options.TheVariants.{Bank, Check, Debug, Emit, Exec, Explain, Outcomes, Record}
+use Rattle.pb_words.specs.declared.words.Options.TheVariants.{Bank, Check, Dap, Debug, Emit, Exec, Explain, Outcomes, Record}
 use Rattle.pb_words.specs.declared.words.Options.TheVariants.{Run, States}
 use Rattle.pb_command_io.specs.Answers.{Tells}
 use Rattle.pb_command_io.specs.Inputs.{SaysOfInput}
@@ -74,7 +74,17 @@ returns-in-Ok-Bank-clause-text g c =
 pub returns-in-Ok-Bank-clause-faults : goal.returns-in-Ok-Bank-clause-faults
 returns-in-Ok-Bank-clause-faults g c =
     let read = subst (WordsSay c.args.words.now) c.in-Ok-Bank.field-0-is c.in-Ok-Bank.ensures.read in
-    inr (inr (read, (c.bank_engine.ensures.faults, c.bank_engine.ensures.answered)))
+    inr (inr (inl (read, (c.bank_engine.ensures.faults, c.bank_engine.ensures.answered))))
+
+pub returns-in-Ok-Dap-clause-text : goal.returns-in-Ok-Dap-clause-text
+returns-in-Ok-Dap-clause-text g c =
+    let read = subst (WordsSay c.args.words.now) c.in-Ok-Dap.field-0-is c.in-Ok-Dap.ensures.read in
+    inl (Dap, read, c.adapter_engine.ensures.text)
+
+pub returns-in-Ok-Dap-clause-faults : goal.returns-in-Ok-Dap-clause-faults
+returns-in-Ok-Dap-clause-faults g c =
+    let read = subst (WordsSay c.args.words.now) c.in-Ok-Dap.field-0-is c.in-Ok-Dap.ensures.read in
+    inr (inr (inr (read, c.adapter_engine.ensures.faults)))
 
 pub returns-in-Ok-States-clause-text : goal.returns-in-Ok-States-clause-text
 returns-in-Ok-States-clause-text g c =

@@ -1,5 +1,5 @@
 use Rattle.std.proofs.Common.{List, ℕ, sym, ap, ◌∙◌, arith}
-use Rattle.pb_json_lines.specs.Forms.{plain_form}
+use Rattle.pb_json_lines.specs.PlainForms.{plain_form}
 use Rattle.pb_json_lines.specs.Patterns.{fits}
 use Rattle.pb_json_lines.proofs.FormLemmas.{form_found, form_missing}
 use Rattle.pb_json_lines.proofs.form.first_of.Goals as goal

@@ -1,6 +1,6 @@
 use Rattle.std.proofs.Common.{◌≡◌, drop, map}
 use Rattle.std.specs.List.{find}
-use Rattle.pb_json_lines.specs.Forms.{PlainForm, plain_form}
+use Rattle.pb_json_lines.specs.PlainForms.{PlainForm, plain_form}
 use Rattle.pb_json_lines.specs.Patterns as spec
 use Rattle.pb_json_lines.proofs.form.first_of.Given as goal
 

@@ -1,0 +1,3 @@
+pub mod ArmLemmas
+pub mod FloatFree
+pub mod ReplyLemmas

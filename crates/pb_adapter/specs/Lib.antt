@@ -1,0 +1,4 @@
+pub mod Answers
+pub mod Moves
+pub mod Sessions
+pub mod Values

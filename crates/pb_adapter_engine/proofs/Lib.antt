@@ -1,0 +1,3 @@
+pub mod AdapterLemmas
+pub mod LaunchLemmas
+pub mod WaitingLemmas

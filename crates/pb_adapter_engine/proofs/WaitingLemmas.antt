@@ -1,0 +1,114 @@
+-- What is answered before a text is launched.
+use Rattle.std.proofs.Common.{◌≡◌, ℕ, List, Option, Some, None, true, codes, refl, sym, subst}
+use Rattle.std.proofs.lemmas.Option.{none-some}
+use Rattle.serde_json.specs.Data.{Data, null}
+use Rattle.pb_base.specs.declared.lending.Lending.{Lending}
+use Rattle.pb_conversations.specs.Conversations.{AnswersContent, AreFloatFree, Conversation, asked, no_request, no_json, none_answered, one_answered}
+use Rattle.pb_adapter.proofs.FloatFree.{refused_free, shown_free}
+use Rattle.pb_adapter_requests.specs.Kinds.{kind_of}
+use Rattle.pb_adapter_requests.specs.Requests.{Asked, text_of}
+use Rattle.pb_adapter_requests.specs.declared.kind.Kind.{Kind}
+use Rattle.pb_adapter_requests.specs.declared.kind.Kind.TheVariants as kind
+use Rattle.pb_adapter_engine.specs.Waiting.{AnswersWaiting, AnswersWaitingKind, LaunchedText, Launches, LaunchesText, WaitingValue}
+use Rattle.pb_adapter_engine.specs.Waiting.{launched, lending_said, nobody, unfit}
+
+-- ---- no message has a number that is no integer
+
+text_free : (s next : WaitingValue) (seq : ℕ) (r : Asked) (words : List ℕ) (lending : Lending) (told : List Data)
+    → LaunchesText s seq r words lending told next → AreFloatFree told
+text_free s _ seq r words lending _ (launched l is) = (refl, refl, tt)
+text_free s _ seq r words lending _ (unfit refusal is) = (refl, tt)
+
+launch_free : (s next : WaitingValue) (seq : ℕ) (r : Asked) (words : Option (List ℕ)) (lending : Option Lending) (told : List Data)
+    → Launches s seq r words lending told next → AreFloatFree told
+launch_free s next seq r None lending told is = refused_free seq r _ told is.0
+launch_free s next seq r (Some words) None told is = refused_free seq r _ told is.0
+launch_free s next seq r (Some words) (Some lending) told is = text_free s next seq r words lending told is
+
+pub waiting_free : (of : Kind) (s next : WaitingValue) (seq : ℕ) (r : Asked) (told : List Data)
+    → AnswersWaitingKind of s seq r told next → AreFloatFree told
+waiting_free kind.Initialize s next seq r told is = shown_free seq r _ told refl is.0
+waiting_free kind.Launch s next seq r told is =
+    launch_free s next seq r (text_of (codes "text") r) (lending_said (text_of (codes "lend") r)) told is
+waiting_free kind.SetBreakpoints s next seq r told is = refused_free seq r _ told is.0
+waiting_free kind.ConfigurationDone s next seq r told is = refused_free seq r _ told is.0
+waiting_free kind.SetEvents s next seq r told is = refused_free seq r _ told is.0
+waiting_free kind.Disconnect s next seq r told is = shown_free seq r null told refl is.0
+waiting_free kind.Terminate s next seq r told is = refused_free seq r _ told is.0
+waiting_free kind.Threads s next seq r told is = refused_free seq r _ told is.0
+waiting_free kind.StackTrace s next seq r told is = refused_free seq r _ told is.0
+waiting_free kind.Scopes s next seq r told is = refused_free seq r _ told is.0
+waiting_free kind.Variables s next seq r told is = refused_free seq r _ told is.0
+waiting_free kind.Evaluate s next seq r told is = refused_free seq r _ told is.0
+waiting_free kind.Continue s next seq r told is = refused_free seq r _ told is.0
+waiting_free kind.ReverseContinue s next seq r told is = refused_free seq r _ told is.0
+waiting_free kind.Step s next seq r told is = refused_free seq r _ told is.0
+waiting_free kind.StepBack s next seq r told is = refused_free seq r _ told is.0
+waiting_free kind.Restart s next seq r told is = refused_free seq r _ told is.0
+waiting_free kind.Pause s next seq r told is = refused_free seq r _ told is.0
+waiting_free kind.Unknown s next seq r told is = refused_free seq r _ told is.0
+
+-- ---- what answers a request
+
+-- a launch with a text, under somebody who lends
+pub launches_as : (s next : WaitingValue) (seq : ℕ) (r : Asked) (words : Option (List ℕ)) (lending : Option Lending) (told : List Data)
+    → (text : List ℕ) (lends : Lending) → words ≡ Some text → lending ≡ Some lends → LaunchesText s seq r text lends told next
+    → Launches s seq r words lending told next
+launches_as s next seq r words lending told text lends is of launch =
+    subst (λ (o : Option (List ℕ)). Launches s seq r o lending told next) (sym is)
+    (subst (λ (o : Option Lending). Launches s seq r (Some text) o told next) (sym of) launch)
+
+-- ---- once a text is launched, nothing more is answered here
+
+-- a state at which that holds
+abbrev pub EndsAtLaunch : WaitingValue → Type 0
+EndsAtLaunch s = (l : LaunchedText) → s.launched ≡ Some l → s.over ≡ true
+
+same_ends : (s next : WaitingValue) → next ≡ s → EndsAtLaunch s → EndsAtLaunch next
+same_ends s next is ends = subst EndsAtLaunch (sym is) ends
+
+text_ends : (s next : WaitingValue) (seq : ℕ) (r : Asked) (words : List ℕ) (lending : Lending) (told : List Data)
+    → LaunchesText s seq r words lending told next → EndsAtLaunch s → EndsAtLaunch next
+text_ends s _ seq r words lending _ (launched l is) ends = λ l' same. refl
+text_ends s _ seq r words lending _ (unfit refusal is) ends = ends
+
+launch_ends : (s next : WaitingValue) (seq : ℕ) (r : Asked) (words : Option (List ℕ)) (lending : Option Lending) (told : List Data)
+    → Launches s seq r words lending told next → EndsAtLaunch s → EndsAtLaunch next
+launch_ends s next seq r None lending told is ends = same_ends s next is.1 ends
+launch_ends s next seq r (Some words) None told is ends = same_ends s next is.1 ends
+launch_ends s next seq r (Some words) (Some lending) told is ends = text_ends s next seq r words lending told is ends
+
+kind_ends : (of : Kind) (s next : WaitingValue) (seq : ℕ) (r : Asked) (told : List Data)
+    → AnswersWaitingKind of s seq r told next → EndsAtLaunch s → EndsAtLaunch next
+kind_ends kind.Initialize s next seq r told is ends = same_ends s next is.1 ends
+kind_ends kind.Launch s next seq r told is ends =
+    launch_ends s next seq r (text_of (codes "text") r) (lending_said (text_of (codes "lend") r)) told is ends
+kind_ends kind.Disconnect s next seq r told is ends = subst EndsAtLaunch (sym is.1) (λ l same. refl)
+kind_ends kind.SetBreakpoints s next seq r told is ends = same_ends s next is.1 ends
+kind_ends kind.ConfigurationDone s next seq r told is ends = same_ends s next is.1 ends
+kind_ends kind.SetEvents s next seq r told is ends = same_ends s next is.1 ends
+kind_ends kind.Terminate s next seq r told is ends = same_ends s next is.1 ends
+kind_ends kind.Threads s next seq r told is ends = same_ends s next is.1 ends
+kind_ends kind.StackTrace s next seq r told is ends = same_ends s next is.1 ends
+kind_ends kind.Scopes s next seq r told is ends = same_ends s next is.1 ends
+kind_ends kind.Variables s next seq r told is ends = same_ends s next is.1 ends
+kind_ends kind.Evaluate s next seq r told is ends = same_ends s next is.1 ends
+kind_ends kind.Continue s next seq r told is ends = same_ends s next is.1 ends
+kind_ends kind.ReverseContinue s next seq r told is ends = same_ends s next is.1 ends
+kind_ends kind.Step s next seq r told is ends = same_ends s next is.1 ends
+kind_ends kind.StepBack s next seq r told is ends = same_ends s next is.1 ends
+kind_ends kind.Restart s next seq r told is ends = same_ends s next is.1 ends
+kind_ends kind.Pause s next seq r told is ends = same_ends s next is.1 ends
+kind_ends kind.Unknown s next seq r told is ends = same_ends s next is.1 ends
+
+content_ends : (s next : WaitingValue) (seq : ℕ) (content : List ℕ) (told : List Data)
+    → AnswersContent AnswersWaiting s seq content told next → EndsAtLaunch s → EndsAtLaunch next
+content_ends s next seq content told (asked _ _ said r reads is answers) ends = kind_ends (kind_of r.command) s next seq r told answers ends
+content_ends s _ seq content _ (no_request said reads is) ends = ends
+content_ends s _ seq content _ (no_json none) ends = ends
+
+pub launch_is_last : (contents : List (List ℕ)) (messages : List Data) (after : WaitingValue)
+    → Conversation AnswersWaiting (λ s. s.over) nobody 1 contents messages after → EndsAtLaunch after
+launch_is_last _ _ _ none_answered = λ l same. absurd (none-some l same)
+launch_is_last _ _ _ (one_answered contents messages mid content told after before on answers) =
+    content_ends mid after _ content told answers (launch_is_last contents messages mid before)

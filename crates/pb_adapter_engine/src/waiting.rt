@@ -1,0 +1,193 @@
+//! Requests before a text is launched.
+
+ghost use Rattle.std.specs.Prelude.{◌≡◌, ◌+◌, ◌<◌, ◌^◌, ◌∷◌, [], IfOk, codes, option_map};
+ghost use Rattle.std.specs.Str.{bytes_eq};
+ghost use Rattle.std.specs.Str.Lossy.{utf8_lossy};
+ghost use Rattle.serde_json.specs.Data.{null};
+ghost use Rattle.pb_adapter_engine.specs.Waiting.{AnswersWaiting, AnswersWaitingKind, Launches, LaunchesText};
+ghost use Rattle.pb_adapter_engine.specs.Waiting.{lending_said, nobody, path_of as path_asked};
+ghost use Rattle.pb_adapter_requests.specs.Requests.{request_view, text_of as text_asked};
+ghost use Rattle.pb_adapter_requests.specs.Responses.{done_data, event_data, refused_data, told_by};
+
+use crate::launch::launch_of;
+use crate::launched::{Launch, Launched};
+use pb_adapter_requests::{
+    Kind, Reply, Request, answered, done, event, kind_of, number_of, refused, text_of, with_event,
+};
+use pb_adapter_values::capabilities;
+use pb_base::{Lending, NoMemory};
+use pb_conversations::Adapter;
+use serde_json::Value;
+use std::alloc::Global;
+use std::marker::Model;
+
+/// What answers requests until a text is launched.
+#[derive(Drop)]
+pub struct Waiting {
+    pub launched: Option<Launched>,
+    pub over: bool,
+}
+
+impl Model for Waiting {
+    ghost use Rattle.std.specs.Prelude.{option_map};
+    ghost use Rattle.pb_adapter_engine.specs.Waiting.{WaitingValue, launched_view};
+
+    ghost Value = { WaitingValue };
+
+    ghost view = { λ s. record { launched = option_map launched_view s.launched; over = s.over } };
+}
+
+// Returns whether a word is this text.
+fn is(word: &str, text: &str) -> bool
+    ensures { result ≡ bytes_eq word.now text.now }
+{
+    word.as_bytes() == text.as_bytes()
+}
+
+// Returns who lends: the banker, if nobody is named; nobody, if another word is given.
+fn lending_of(word: Option<&str>) -> Option<Lending>
+    ensures { result ≡ lending_said (option_map (λ t. t.now) word.entry) }
+{
+    let Some(word) = word else {
+        return Some(Lending::ByBanker);
+    };
+    if is(word, "banker") {
+        Some(Lending::ByBanker)
+    } else if is(word, "cash") {
+        Some(Lending::ByCash)
+    } else {
+        None
+    }
+}
+
+// Returns the path that a request names; none if it names none.
+fn path_of<'v>(request: Request<'v>) -> &'v str
+    ensures { result.now ≡ path_asked (request_view request.entry) }
+{
+    match text_of(request, "program") {
+        Some(path) => path,
+        None => "",
+    }
+}
+
+// Returns the reply that a request is refused.
+fn refuse(alloc: Global, seq: u64, request: Request<'_>, message: &str) -> Result<Reply, NoMemory>
+    ensures { IfOk result (λ reply. told_by reply ≡ refused_data seq (request_view request.entry) message.now ∷ []) }
+{
+    Ok(refused(alloc, seq, request, message)?)
+}
+
+// Returns the reply that a text is launched.
+fn tell_launched(alloc: Global, seq: u64, request: Request<'_>) -> Result<Reply, NoMemory>
+    requires few { seq < 2 ^ 63 }
+    ensures { IfOk result (λ reply. told_by reply ≡ done_data seq (request_view request.entry) null
+        ∷ event_data (seq + 1) (codes "initialized") null ∷ []) }
+{
+    let response = done(alloc, seq, request, Value::Null)?;
+    let event = event(alloc, seq + 1, "initialized", Value::Null)?;
+    Ok(with_event(response, event))
+}
+
+// Returns the reply that a launch is refused, with this line.
+fn tell_unfit(alloc: Global, seq: u64, request: Request<'_>, line: &[u8]) -> Result<Reply, NoMemory>
+    ensures { IfOk result (λ reply. told_by reply ≡ refused_data seq (request_view request.entry) (utf8_lossy line.now) ∷ []) }
+{
+    let shown = String::from_utf8_lossy(alloc, line)?;
+    refuse(alloc, seq, request, &shown)
+}
+
+impl Waiting {
+    /// Returns what answers while nothing is launched.
+    pub fn new() -> Waiting
+        ensures { result ≡ nobody }
+    {
+        Waiting {
+            launched: None,
+            over: false,
+        }
+    }
+
+    // Answers a launch of a text, with pick lines behind it if no seed is given, under a lending.
+    fn launch_text(
+        &mut self,
+        alloc: Global,
+        seq: u64,
+        request: Request<'_>,
+        words: &str,
+        lending: Lending,
+    ) -> Result<Reply, NoMemory>
+        requires few { seq < 2 ^ 63 }
+        ensures { IfOk result (λ reply. LaunchesText self.old seq (request_view request.entry) words.now lending (told_by reply) self.new) }
+    {
+        let seed = number_of(request, "seed");
+        let launch = launch_of(alloc, words.as_bytes(), seed, lending, path_of(request))?;
+        match launch {
+            Launch::Fit(launched) => {
+                let reply = tell_launched(alloc, seq, request)?;
+                self.launched = Some(launched);
+                self.over = true;
+                Ok(reply)
+            }
+            Launch::Unfit(line) => tell_unfit(alloc, seq, request, &line),
+        }
+    }
+
+    // Answers a launch.
+    fn answer_launch(
+        &mut self,
+        alloc: Global,
+        seq: u64,
+        request: Request<'_>,
+    ) -> Result<Reply, NoMemory>
+        requires few { seq < 2 ^ 63 }
+        ensures { IfOk result (λ reply. Launches self.old seq (request_view request.entry)
+            (text_asked (codes "text") (request_view request.entry))
+            (lending_said (text_asked (codes "lend") (request_view request.entry))) (told_by reply) self.new) }
+    {
+        let Some(words) = text_of(request, "text") else {
+            return refuse(alloc, seq, request, "there is no text");
+        };
+        match lending_of(text_of(request, "lend")) {
+            Some(lending) => self.launch_text(alloc, seq, request, words, lending),
+            None => refuse(alloc, seq, request, "lend is banker or cash"),
+        }
+    }
+
+    // Answers a request of a kind.
+    fn answer_kind(
+        &mut self,
+        alloc: Global,
+        seq: u64,
+        request: Request<'_>,
+        kind: Kind,
+    ) -> Result<Reply, NoMemory>
+        requires few { seq < 2 ^ 63 }
+        ensures { IfOk result (λ reply. AnswersWaitingKind kind self.old seq (request_view request.entry) (told_by reply) self.new) }
+    {
+        match kind {
+            Kind::Initialize => Ok(answered(alloc, seq, request, capabilities(alloc)?)?),
+            Kind::Launch => self.answer_launch(alloc, seq, request),
+            Kind::Disconnect => {
+                let reply = answered(alloc, seq, request, Value::Null)?;
+                self.launched = None;
+                self.over = true;
+                Ok(reply)
+            }
+            _ => refuse(alloc, seq, request, "no text is launched"),
+        }
+    }
+}
+
+impl Adapter for Waiting {
+    ghost Answers = { AnswersWaiting };
+
+    ghost over = { λ s. s.over };
+
+    fn answer(&mut self, alloc: Global, seq: u64, request: Request<'_>) -> Result<Reply, NoMemory> {
+        self.answer_kind(alloc, seq, request, kind_of(request.command))
+    }
+
+    fn is_over(&self) -> bool {
+        self.over
+    }
+}
