@@ -32,6 +32,7 @@ COMMANDS = {
     "who": Command("who R", "shows who holds some of a resource, and who asks for it", "who tape"),
     "circle": Command("circle", "shows processes that wait for one another in a circle", "circle"),
     "why": Command("why P.a", "says why an arm waits, or why its request can be granted", "why b.0"),
+    "stack": Command("stack P.a", "shows the values that an arm has read or computed and not used yet", "stack p.1"),
     "save": Command("save FILE", "writes the text with all picks, those that were tried too, for replay", "save my.run"),
     "help": Command("help [COMMAND]", "lists the commands, or says more of one", "help until"),
     "quit": Command("quit", "ends the session; so does Ctrl-D", "quit"),

@@ -232,6 +232,11 @@ class Prompt(Completion, cmd.Cmd):
         """Carries out `text P.a`."""
         self.say(f"  {self.session.ask(f'text {self.arm(words)}')}")
 
+    def do_stack(self, words: str) -> None:
+        """Carries out `stack P.a`."""
+        values = self.session.ask(f"stack {self.arm(words)}").split()[1:]
+        self.say(f"  {' '.join(values)}" if values else "  nothing read or computed waits to be used")
+
     def do_save(self, words: str) -> None:
         """Carries out `save FILE`."""
         if not words:

@@ -9,7 +9,7 @@ ghost use Rattle.pb_names.specs.View.{resolved_view};
 ghost use Rattle.pb_command_io.specs.Faults.{TellsWriteFaults};
 
 use crate::cause::{lex_cause, parse_cause};
-use crate::refusal::{claims_text, names_text, refusal_text};
+use crate::refusal::{names_text, over_capital_text, refusal_text};
 use bumpalo::Bump;
 use pb_base::limits::MAX_INPUT;
 use pb_base::{NoMemory, Output};
@@ -36,7 +36,7 @@ fn fault_line(alloc: Global, fault: CompileFault) -> Result<Vec<u8>, NoMemory>
         CompileFault::Lex(fault) => refusal_text(alloc, lex_cause(fault)),
         CompileFault::Parse(fault) => refusal_text(alloc, parse_cause(fault)),
         CompileFault::Names(fault) => names_text(alloc, fault),
-        CompileFault::Claims(fault) => claims_text(alloc, &fault),
+        CompileFault::Claims(fault) => over_capital_text(alloc, &fault),
         CompileFault::Memory => Err(NoMemory),
     }
 }

@@ -79,7 +79,7 @@ pub(crate) fn names_text(alloc: Global, fault: NameFault) -> Result<Vec<u8>, NoM
 }
 
 /// Returns the line of a claim that is over its capital.
-pub(crate) fn claims_text(alloc: Global, fault: &ClaimsFault) -> Result<Vec<u8>, NoMemory>
+pub(crate) fn over_capital_text(alloc: Global, fault: &ClaimsFault) -> Result<Vec<u8>, NoMemory>
     ensures { IfOk result (λ text. text.items ≡ claims_line fault.now) }
 {
     let cause = Cause {

@@ -1,6 +1,6 @@
 -- Lines that come in parts.
 use Rattle.std.proofs.Common.{◌≡◌, inl, inr, ℕ, ◌+◌, ◌-◌, ◌<◌, ◌≤◌, ◌++◌, eqb, false, List, []}
-use Rattle.std.proofs.Common.{◌∷◌, length, take, drop, Option, Some, None, refl, sym, ap, ◌∙◌, subst, arith}
+use Rattle.std.proofs.Common.{◌∷◌, length, take, drop, Option, Some, refl, sym, ap, ◌∙◌, subst, arith}
 use Rattle.std.proofs.Common.{append_assoc, append-nil}
 use Rattle.std.proofs.Common.{Result, Ok, Err}
 use Rattle.std.specs.Prelude.{OnOk, OnErr}
@@ -16,25 +16,11 @@ use Rattle.pb_bank_engine.specs.Sessions.{StopsAt, WritesBefore, Fed, FedSome}
 use Rattle.pb_bank_engine.specs.declared.session.Stop.{Stop}
 use Rattle.pb_bank_engine.specs.declared.session.Stop.TheVariants.{Memory, Device}
 use Rattle.pb_debug_commands.proofs.Cutting.{cut-append, first_lines, cut_end, cut_byte}
+use Rattle.pb_debug_commands.proofs.Outputs.{appended_none, prefix_more, whole_prefix}
 use Rattle.pb_bank_engine.proofs.Kept.{kept_again, kept_answers, kept_nothing}
 use Rattle.pb_base.proofs.DeviceLemmas.{appended-appended}
 
 -- ---- outputs
-
-pub appended_none : (old : Option (List ℕ)) → appended old [] ≡ old
-appended_none None = refl
-appended_none (Some held) = ap Some (append-nil held)
-
-pub prefix_more : (old mid new : Option (List ℕ)) (a b : List ℕ) → mid ≡ appended old a → AddsPrefix mid new b → AddsPrefix old new (a ++ b)
-prefix_more old mid new a b e (done, left, parts, written) = (
-  a ++ done,
-  left,
-  ap (λ (t : List ℕ). a ++ t) parts ∙ sym (append_assoc a done left),
-  written ∙ (ap (λ o. appended o done) e ∙ appended-appended old a done),
-)
-
-pub whole_prefix : (old new : Option (List ℕ)) (a : List ℕ) → new ≡ appended old a → AddsPrefix old new a
-whole_prefix old new a e = (a, [], sym (append-nil a), e)
 
 -- what is left of a text behind what is written
 pub leaves_more : (stop : Stop) (old mid new : Option (List ℕ)) (a b : List ℕ) → mid ≡ appended old a → WritesBefore

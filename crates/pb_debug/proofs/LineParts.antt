@@ -18,6 +18,7 @@ use Rattle.pb_debug.specs.declared.fault.DebugFault.{DebugFault}
 use Rattle.pb_debug.specs.declared.fault.DebugFault.TheVariants.{PastEnd, NoProcess, NoArm, BadCommand, NoMemory}
 use Rattle.pb_debug.specs.declared.fault.DebugFault.TheVariants.{Device}
 use Rattle.pb_debug_commands.proofs.Cutting.{cut-append, first_lines, cut_end, cut_byte}
+use Rattle.pb_debug_commands.proofs.Outputs.{appended_none, prefix_more, whole_prefix}
 use Rattle.pb_debug_commands.proofs.Kept.{kept_again, kept_says, kept_nothing}
 use Rattle.pb_base.proofs.DeviceLemmas.{appended-appended, next-bytes}
 
@@ -27,21 +28,6 @@ pub kept_answers : (d : Debugging) (line said : List ℕ) (next : Debugging) →
 kept_answers d line said next h = subst (λ (c : Option Command). AnswersRead d c said next) (kept_says line) h
 
 -- ---- outputs
-
-pub appended_none : (old : Option (List ℕ)) → appended old [] ≡ old
-appended_none None = refl
-appended_none (Some held) = ap Some (append-nil held)
-
-pub prefix_more : (old mid new : Option (List ℕ)) (a b : List ℕ) → mid ≡ appended old a → AddsPrefix mid new b → AddsPrefix old new (a ++ b)
-prefix_more old mid new a b e (done, left, parts, written) = (
-  a ++ done,
-  left,
-  ap (λ (t : List ℕ). a ++ t) parts ∙ sym (append_assoc a done left),
-  written ∙ (ap (λ o. appended o done) e ∙ appended-appended old a done),
-)
-
-pub whole_prefix : (old new : Option (List ℕ)) (a : List ℕ) → new ≡ appended old a → AddsPrefix old new a
-whole_prefix old new a e = (a, [], sym (append-nil a), e)
 
 -- what is left of a text behind what is written
 pub leaves_more : (fault : DebugFault) (old mid new : Option (List ℕ)) (a b : List ℕ) → mid ≡ appended old a → WritesBeforeFault

@@ -1,7 +1,7 @@
 //! What a session answers to a line.
 
 ghost use Rattle.std.specs.Prelude.{◌≡◌, ◌++◌, ◌<◌, ◌≤◌, ℕ, List, length, map, slice_get, Some, OnOk, OnErr, IfSome, IfNone};
-ghost use Rattle.pb_debug.specs.Answers.{shown_names, HasNoName, OfProcess, SaysVars, SaysThreads, SaysLine, SaysText, SaysWho, SaysWhy};
+ghost use Rattle.pb_debug.specs.Answers.{shown_names, HasNoName, OfProcess, SaysVars, SaysThreads, SaysLine, SaysStack, SaysText, SaysWho, SaysWhy};
 ghost use Rattle.pb_debug.specs.Answers.{AnswersLine, AnswersCommand, AnswersNext, AnswersPick, AnswersPrev};
 ghost use Rattle.pb_debug.specs.Answers.{AnswersUntil, SaysEvent, SaysWrite, SaysWrote, ShowsAny};
 ghost use Rattle.pb_debug_texts.specs.Circles.{SaysCircle};
@@ -17,7 +17,7 @@ use pb_debug_commands::{ArmWord, Command, IntegerWord, StopWord, read_command};
 use pb_debug_positions::{Watch, line_of_arm};
 use pb_debug_texts::{
     put_at, put_circle, put_event, put_help, put_loans, put_never, put_no_event, put_not_reached,
-    put_source, put_source_line, put_threads, put_vars, put_who, put_why, put_wrote,
+    put_source, put_source_line, put_stack, put_threads, put_vars, put_who, put_why, put_wrote,
 };
 
 /// Returns the number of a name among others.
@@ -232,6 +232,24 @@ impl<'c> Debugger<'c> {
         }
     }
 
+    fn say_stack(&self, text: &mut Vec<u8>, word: ArmWord) -> Result<(), NoMemory>
+        ensures { OnOk result ((said : List ℕ)
+            × OfProcess (shown_names self.now) word.entry.process.now (SaysStack self.now word.entry.arm said) said
+            × (text.new.items ≡ text.old.items ++ said)) }
+    {
+        let Some(p) = self.process(word.process) else {
+            return put_refusal(text, DebugFault::NoProcess);
+        };
+        let Ok(process) = self.threads(p) else {
+            unreachable!()
+        };
+        let arm = word.arm as usize;
+        if process.arms() <= arm {
+            return put_refusal(text, DebugFault::NoArm);
+        }
+        put_stack(text, process.thread(arm))
+    }
+
     fn say_why(&self, text: &mut Vec<u8>, word: ArmWord) -> Result<(), NoMemory>
         ensures { OnOk result ((said : List ℕ)
             × OfProcess (shown_names self.now) word.entry.process.now (SaysWhy self.now word.entry.arm said) said
@@ -301,6 +319,7 @@ impl<'c> Debugger<'c> {
             Command::Line(word) => self.say_line(text, word),
             Command::Text(word) => self.say_text(text, word),
             Command::Why(word) => self.say_why(text, word),
+            Command::Stack(word) => self.say_stack(text, word),
             Command::Pick(word) => self.say_pick(text, word),
         }
     }

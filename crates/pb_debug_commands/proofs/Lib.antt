@@ -1,4 +1,6 @@
 pub mod Cutting
 pub mod Kept
 pub mod NumberedLines
+pub mod Outputs
 pub mod Spellings
+pub mod Trims

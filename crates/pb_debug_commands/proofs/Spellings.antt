@@ -18,10 +18,10 @@ use Rattle.pb_code.proofs.NumeralLemmas.{own, numeral_is, is_numeral_decimal}
 use Rattle.pb_code.specs.Names.{is_name_byte}
 use Rattle.pb_code.specs.Numerals.{is_numeral}
 use Rattle.pb_debug_commands.specs.Commands.{Command, To, Step, Back, Vars, Threads, Wrote, Until, Loans, Next, Prev}
-use Rattle.pb_debug_commands.specs.Commands.{Help, Circle, Line, Text, Why, Pick, Who, arm_at, arm_of, both_of, integer_at, integer_of}
+use Rattle.pb_debug_commands.specs.Commands.{Help, Circle, Line, Text, Why, Stack, Pick, Who, arm_at, arm_of, both_of, integer_at, integer_of}
 use Rattle.pb_debug_commands.specs.Commands.{stop_at, stop_from, stop_of, command_of, looks_like_name, keyed, number_of}
-use Rattle.pb_debug_commands.specs.Commands.{parted, word_of}
-use Rattle.pb_debug_commands.specs.Spellings.{CommandsBySpelling, IsProper, command_spelling}
+use Rattle.pb_debug_commands.specs.Commands.{parted, said_by, trimmed, word_of}
+use Rattle.pb_debug_commands.specs.Spellings.{CommandsBySpelling, IsOneStep, IsProper, command_spelling}
 
 -- ---- numbers
 
@@ -372,9 +372,12 @@ module _ (key word : List ℕ) (c : Command) where
                           | inl s ↦ armed (codes "why") (λ p. Why p.0 p.1) (λ x. refl) (λ x e lt. (e, lt)) s.0 s.1
                           | inr h ↦ elim (chosen (bytes_eq key (codes "who")) _ _ c h) [
                             | inl s ↦ named (codes "who") Who (λ w. refl) (λ w e. e) s.0 s.1
-                            | inr h ↦ elim (chosen (bytes_eq key (codes "pick")) _ _ c h) [
-                              | inl s ↦ armed (codes "pick") (λ p. Pick p.0 p.1) (λ x. refl) (λ x e lt. (e, lt)) s.0 s.1
-                              | inr h ↦ absurd cc
+                            | inr h ↦ elim (chosen (bytes_eq key (codes "stack")) _ _ c h) [
+                              | inl s ↦ armed (codes "stack") (λ p. Stack p.0 p.1) (λ x. refl) (λ x e lt. (e, lt)) s.0 s.1
+                              | inr h ↦ elim (chosen (bytes_eq key (codes "pick")) _ _ c h) [
+                                | inl s ↦ armed (codes "pick") (λ p. Pick p.0 p.1) (λ x. refl) (λ x e lt. (e, lt)) s.0 s.1
+                                | inr h ↦ absurd cc
+                              ]
                             ]
                           ]
                         ]
@@ -397,30 +400,43 @@ short_line : (b : Bool) (x : Option Command) (c : Command) → cond b None x ≡
 short_line true x c h = absurd cc
 short_line false x c h = (refl, h)
 
-alone : (line text : List ℕ) (d c : Command) → bytes_eq line text ≡ true → Some d ≡ Some c → text ≡ command_spelling d → IsProper d → length line ≤ 256
-    → (line ≡ command_spelling c) × IsProper c × (length line ≤ 256)
-alone line text d c h e spelled proper short =
-    let same : d ≡ c = cc in
-    subst (λ (x : Command). (line ≡ command_spelling x) × IsProper x × (length line ≤ 256)) same (bytes_same line text h ∙ spelled, proper, short)
+abbrev SaysSo : List ℕ → Command → Type 0
+SaysSo line c = ((line ≡ command_spelling c) ⊎ IsOneStep line c) × IsProper c
 
-says_what : (line : List ℕ) (c : Command) → command_of line ≡ Some c → (line ≡ command_spelling c) × IsProper c × (length line ≤ 256)
-unfolding command_of
+alone : (line text : List ℕ) (d c : Command) → bytes_eq line text ≡ true → Some d ≡ Some c → text ≡ command_spelling d → IsProper d
+    → SaysSo line c
+alone line text d c h e spelled proper =
+    let same : d ≡ c = cc in
+    subst (SaysSo line) same (inl (bytes_same line text h ∙ spelled), proper)
+
+once : (line text : List ℕ) (d c : Command) → bytes_eq line text ≡ true → Some d ≡ Some c → IsProper d
+    → (line ≡ text → IsOneStep line d) → SaysSo line c
+once line text d c h e proper one =
+    let same : d ≡ c = cc in
+    subst (SaysSo line) same (inr (one (bytes_same line text h)), proper)
+
+says_what : (line : List ℕ) (c : Command) → said_by line ≡ Some c → SaysSo line c
+unfolding said_by
 says_what line c h =
-    let s = short_line (ltb 256 (length line)) _ c h in
-    let short : length line ≤ 256 = ltb-false 256 (length line) s.0 in
-    elim (chosen (bytes_eq line (codes "loans")) _ _ c s.1) [
-      | inl l ↦ alone line (codes "loans") Loans c l.0 l.1 refl tt short
+    elim (chosen (bytes_eq line (codes "loans")) _ _ c h) [
+      | inl l ↦ alone line (codes "loans") Loans c l.0 l.1 refl tt
       | inr p ↦ elim (chosen (bytes_eq line (codes "next")) _ _ c p) [
-        | inl l ↦ alone line (codes "next") Next c l.0 l.1 refl tt short
+        | inl l ↦ alone line (codes "next") Next c l.0 l.1 refl tt
         | inr p ↦ elim (chosen (bytes_eq line (codes "prev")) _ _ c p) [
-          | inl l ↦ alone line (codes "prev") Prev c l.0 l.1 refl tt short
+          | inl l ↦ alone line (codes "prev") Prev c l.0 l.1 refl tt
           | inr p ↦ elim (chosen (bytes_eq line (codes "help")) _ _ c p) [
-            | inl l ↦ alone line (codes "help") Help c l.0 l.1 refl tt short
+            | inl l ↦ alone line (codes "help") Help c l.0 l.1 refl tt
             | inr p ↦ elim (chosen (bytes_eq line (codes "circle")) _ _ c p) [
-              | inl l ↦ alone line (codes "circle") Circle c l.0 l.1 refl tt short
-              | inr p ↦ (
-                  let r = parted_is line (first_at 32 line) c refl (subst (λ (o : Option ℕ). parted line o ≡ Some c) (position_is 32 line) p) in
-                  (r.0, r.1, short))
+              | inl l ↦ alone line (codes "circle") Circle c l.0 l.1 refl tt
+              | inr p ↦ elim (chosen (bytes_eq line (codes "step")) _ _ c p) [
+                | inl l ↦ once line (codes "step") (Step 1) c l.0 l.1 (omega arith) (λ e. inl (e, refl))
+                | inr p ↦ elim (chosen (bytes_eq line (codes "back")) _ _ c p) [
+                  | inl l ↦ once line (codes "back") (Back 1) c l.0 l.1 (omega arith) (λ e. inr (e, refl))
+                  | inr p ↦ (
+                      let r = parted_is line (first_at 32 line) c refl (subst (λ (o : Option ℕ). parted line o ≡ Some c) (position_is 32 line) p) in
+                      (inl r.0, r.1))
+                ]
+              ]
             ]
           ]
         ]
@@ -429,50 +445,71 @@ says_what line c h =
 
 -- ---- spellings are read again
 
-said_short : (line : List ℕ) (c : Command) → length line ≤ 256 → bytes_eq line (codes "loans") ≡ false
-    → bytes_eq line (codes "next") ≡ false → bytes_eq line (codes "prev") ≡ false → bytes_eq line (codes "help") ≡
-    false → bytes_eq line (codes "circle") ≡ false → parted line (first_at 32 line) ≡ Some c
-    → command_of line ≡ Some c
-unfolding command_of
-said_short line c short loans next prev help circle h =
-    let s : ltb 256 (length line) ≡ false = le-ltb 256 (length line) short in
+said_short : (line : List ℕ) (c : Command) → bytes_eq line (codes "loans") ≡ false
+    → bytes_eq line (codes "next") ≡ false → bytes_eq line (codes "prev") ≡ false → bytes_eq line (codes "help") ≡ false
+    → bytes_eq line (codes "circle") ≡ false → bytes_eq line (codes "step") ≡ false → bytes_eq line (codes "back") ≡ false
+    → parted line (first_at 32 line) ≡ Some c → said_by line ≡ Some c
+unfolding said_by
+said_short line c loans next prev help circle step back h =
     let p : parted line (position (λ b. eqb b 32) line) ≡ Some c = ap (parted line) (position_is 32 line) ∙ h in
-    rw (s, loans, next, prev, help, circle, p) refl
+    rw (loans, next, prev, help, circle, step, back, p) refl
 
-said_again : (c : Command) → IsProper c → length (command_spelling c) ≤ 256 → command_of (command_spelling c) ≡ Some c
-unfolding command_of keyed
-said_again (To n) lt short = said_short (command_spelling (To n)) (To n) short refl refl refl refl refl (ap (option_map To) (number_again n lt))
-said_again (Step n) lt short = said_short (command_spelling (Step n)) (Step n) short refl refl refl refl refl (ap (option_map Step) (number_again n lt))
-said_again (Back n) lt short = said_short (command_spelling (Back n)) (Back n) short refl refl refl refl refl (ap (option_map Back) (number_again n lt))
-said_again (Vars p) word short = said_short (command_spelling (Vars p)) (Vars p) short refl refl refl refl refl (ap (option_map Vars) (word_again p word))
-said_again (Threads p) word short =
-    said_short (command_spelling (Threads p)) (Threads p) short refl refl refl refl refl (ap (option_map Threads) (word_again p word))
-said_again (Wrote p x) proper short =
-    said_short (command_spelling (Wrote p x)) (Wrote p x) short refl refl refl refl refl
+said_again : (c : Command) → IsProper c → said_by (command_spelling c) ≡ Some c
+unfolding said_by keyed
+said_again (To n) lt = said_short (command_spelling (To n)) (To n) refl refl refl refl refl refl refl (ap (option_map To) (number_again n lt))
+said_again (Step n) lt = said_short (command_spelling (Step n)) (Step n) refl refl refl refl refl refl refl (ap (option_map Step) (number_again n lt))
+said_again (Back n) lt = said_short (command_spelling (Back n)) (Back n) refl refl refl refl refl refl refl (ap (option_map Back) (number_again n lt))
+said_again (Vars p) word = said_short (command_spelling (Vars p)) (Vars p) refl refl refl refl refl refl refl (ap (option_map Vars) (word_again p word))
+said_again (Threads p) word =
+    said_short (command_spelling (Threads p)) (Threads p) refl refl refl refl refl refl refl (ap (option_map Threads) (word_again p word))
+said_again (Wrote p x) proper =
+    said_short (command_spelling (Wrote p x)) (Wrote p x) refl refl refl refl refl refl refl
     (ap (option_map (λ (y : IntegerWord). Wrote y.0 y.1)) (integer_again p x proper.0 proper.1))
-said_again (Until p a n) proper short =
-    said_short (command_spelling (Until p a n)) (Until p a n) short refl refl refl refl refl (stop_again p a n proper.0 proper.1 proper.2)
-said_again Loans proper short = refl
-said_again Circle proper short = refl
-said_again Next proper short = refl
-said_again Prev proper short = refl
-said_again Help proper short = refl
-said_again (Who r) word short = said_short (command_spelling (Who r)) (Who r) short refl refl refl refl refl (ap (option_map Who) (word_again r word))
-said_again (Line p a) proper short =
-    said_short (command_spelling (Line p a)) (Line p a) short refl refl refl refl refl
+said_again (Until p a n) proper =
+    said_short (command_spelling (Until p a n)) (Until p a n) refl refl refl refl refl refl refl (stop_again p a n proper.0 proper.1 proper.2)
+said_again Loans proper = refl
+said_again Circle proper = refl
+said_again Next proper = refl
+said_again Prev proper = refl
+said_again Help proper = refl
+said_again (Who r) word = said_short (command_spelling (Who r)) (Who r) refl refl refl refl refl refl refl (ap (option_map Who) (word_again r word))
+said_again (Line p a) proper =
+    said_short (command_spelling (Line p a)) (Line p a) refl refl refl refl refl refl refl
     (ap (option_map (λ (x : ArmWord). Line x.0 x.1)) (arm_again p a proper.0 proper.1))
-said_again (Text p a) proper short =
-    said_short (command_spelling (Text p a)) (Text p a) short refl refl refl refl refl
+said_again (Text p a) proper =
+    said_short (command_spelling (Text p a)) (Text p a) refl refl refl refl refl refl refl
     (ap (option_map (λ (x : ArmWord). Text x.0 x.1)) (arm_again p a proper.0 proper.1))
-said_again (Why p a) proper short =
-    said_short (command_spelling (Why p a)) (Why p a) short refl refl refl refl refl
+said_again (Why p a) proper =
+    said_short (command_spelling (Why p a)) (Why p a) refl refl refl refl refl refl refl
     (ap (option_map (λ (x : ArmWord). Why x.0 x.1)) (arm_again p a proper.0 proper.1))
-said_again (Pick p a) proper short =
-    said_short (command_spelling (Pick p a)) (Pick p a) short refl refl refl refl refl
+said_again (Stack p a) proper =
+    said_short (command_spelling (Stack p a)) (Stack p a) refl refl refl refl refl refl refl
+    (ap (option_map (λ (x : ArmWord). Stack x.0 x.1)) (arm_again p a proper.0 proper.1))
+said_again (Pick p a) proper =
+    said_short (command_spelling (Pick p a)) (Pick p a) refl refl refl refl refl refl refl
     (ap (option_map (λ (x : ArmWord). Pick x.0 x.1)) (arm_again p a proper.0 proper.1))
+
+said_once : (line : List ℕ) (c : Command) → IsOneStep line c → said_by line ≡ Some c
+unfolding said_by
+said_once line c (inl one) = rw (one.0, one.1) refl
+said_once line c (inr one) = rw (one.0, one.1) refl
+
+said_so : (line : List ℕ) (c : Command) → SaysSo line c → said_by line ≡ Some c
+said_so line c (inl spelled, proper) = subst (λ (l : List ℕ). said_by l ≡ Some c) (sym spelled) (said_again c proper)
+said_so line c (inr one, proper) = said_once line c one
+
+in_limits : (line : List ℕ) (c : Command) → command_of line ≡ Some c → (said_by (trimmed line) ≡ Some c) × (length line ≤ 256)
+unfolding command_of
+in_limits line c h =
+    let s = short_line (ltb 256 (length line)) _ c h in
+    (s.1, ltb-false 256 (length line) s.0)
+
+within_limits : (line : List ℕ) (c : Command) → length line ≤ 256 → said_by (trimmed line) ≡ Some c → command_of line ≡ Some c
+unfolding command_of
+within_limits line c short h = let s : ltb 256 (length line) ≡ false = le-ltb 256 (length line) short in rw (s, h) refl
 
 pub commands_by_spelling : CommandsBySpelling
 commands_by_spelling line c = (
-  says_what line c,
-  λ s. subst (λ (l : List ℕ). command_of l ≡ Some c) (sym s.0) (said_again c s.1 (subst (λ (l : List ℕ). length l ≤ 256) s.0 s.2)),
+  λ h. (let l = in_limits line c h in let r = says_what (trimmed line) c l.0 in (r.0, r.1, l.1)),
+  λ s. within_limits line c s.2 (said_so (trimmed line) c (s.0, s.1)),
 )

@@ -1,7 +1,7 @@
 -- What a line of a session says.
 use Rattle.std.specs.Prelude.{ℕ, ◌+◌, Bool, false, cond, ◌&&◌, nat_lt, ◌==◌, List, [], ◌∷◌, length, take, drop, codes}
 use Rattle.std.specs.Prelude.{Option, Some, None, option_map}
-use Rattle.std.specs.Char.{is_ascii_alphabetic}
+use Rattle.std.specs.Char.{is_ascii_alphabetic, is_ascii_whitespace}
 use Rattle.std.specs.List.{list_all, position}
 use Rattle.std.specs.Str.{bytes_eq}
 use Rattle.std.specs.Str.Parse.{digits_value}
@@ -15,7 +15,7 @@ pub data Command : Type 0 where
   Until : (process : List ℕ) (arm line : ℕ) → Command
   Loans Circle Next Prev Help : Command
   Who : (resource : List ℕ) → Command
-  Line Text Why Pick : (process : List ℕ) (arm : ℕ) → Command
+  Line Text Why Stack Pick : (process : List ℕ) (arm : ℕ) → Command
 
 -- one to eight digits, with no zero before others
 abbrev pub number_of : List ℕ → Option ℕ
@@ -78,18 +78,34 @@ keyed key word =
     cond (bytes_eq key (codes "text")) (option_map (λ p. Text p.0 p.1) (arm_of word)) (
     cond (bytes_eq key (codes "why")) (option_map (λ p. Why p.0 p.1) (arm_of word)) (
     cond (bytes_eq key (codes "who")) (option_map Who (word_of word)) (
-    cond (bytes_eq key (codes "pick")) (option_map (λ p. Pick p.0 p.1) (arm_of word)) None)))))))))))
+    cond (bytes_eq key (codes "stack")) (option_map (λ p. Stack p.0 p.1) (arm_of word)) (
+    cond (bytes_eq key (codes "pick")) (option_map (λ p. Pick p.0 p.1) (arm_of word)) None))))))))))))
 
 abbrev pub parted : List ℕ → Option ℕ → Option Command
 parted line None = None
 parted line (Some space) = keyed (take space line) (drop (space + 1) line)
 
--- the command of a line without its line feed, of at most 256 bytes
-unfoldable pub command_of : List ℕ → Option Command
-command_of line =
-    cond (nat_lt 256 (length line)) None (
+-- a byte before others, without it if it is white space and nothing follows
+abbrev pub before : ℕ → List ℕ → List ℕ
+before b [] = cond (is_ascii_whitespace b) [] (b ∷ [])
+before b (next ∷ rest) = b ∷ next ∷ rest
+
+-- a line without the white space at its end
+abbrev pub trimmed : List ℕ → List ℕ
+trimmed [] = []
+trimmed (b ∷ bs) = before b (trimmed bs)
+
+-- the command of a line that does not end in white space; `step` and `back` alone are one step
+unfoldable pub said_by : List ℕ → Option Command
+said_by line =
     cond (bytes_eq line (codes "loans")) (Some Loans) (
     cond (bytes_eq line (codes "next")) (Some Next) (
     cond (bytes_eq line (codes "prev")) (Some Prev) (
     cond (bytes_eq line (codes "help")) (Some Help) (
-    cond (bytes_eq line (codes "circle")) (Some Circle) (parted line (position (λ b. b == 32) line)))))))
+    cond (bytes_eq line (codes "circle")) (Some Circle) (
+    cond (bytes_eq line (codes "step")) (Some (Step 1)) (
+    cond (bytes_eq line (codes "back")) (Some (Back 1)) (parted line (position (λ b. b == 32) line))))))))
+
+-- the command of a line without its line feed, of at most 256 bytes
+unfoldable pub command_of : List ℕ → Option Command
+command_of line = cond (nat_lt 256 (length line)) None (said_by (trimmed line))

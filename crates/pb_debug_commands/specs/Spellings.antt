@@ -1,8 +1,8 @@
 -- How each command is spelled.
-use Rattle.std.specs.Prelude.{◌≡◌, ◌↔◌, ℕ, ◌<◌, ◌≤◌, true, List, ◌∷◌, ◌++◌, length, codes, Some, ⊤}
+use Rattle.std.specs.Prelude.{◌≡◌, ◌↔◌, ◌⊎◌, ℕ, ◌<◌, ◌≤◌, true, List, ◌∷◌, ◌++◌, length, codes, Some, ⊤}
 use Rattle.std.specs.Fmt.{decimal}
 use Rattle.pb_debug_commands.specs.Commands.{Command, To, Step, Back, Vars, Threads, Wrote, Until, Loans, Next, Prev}
-use Rattle.pb_debug_commands.specs.Commands.{Help, Circle, Line, Text, Why, Pick, Who, command_of, looks_like_name}
+use Rattle.pb_debug_commands.specs.Commands.{Help, Circle, Line, Text, Why, Stack, Pick, Who, command_of, looks_like_name, trimmed}
 
 -- the bytes of a command: a word, and behind a space a number, a name, or a process and an arm with a point
 -- between
@@ -23,6 +23,7 @@ command_spelling (Who resource) = codes "who " ++ resource
 command_spelling (Line process arm) = codes "line " ++ (process ++ 46 ∷ decimal arm)
 command_spelling (Text process arm) = codes "text " ++ (process ++ 46 ∷ decimal arm)
 command_spelling (Why process arm) = codes "why " ++ (process ++ 46 ∷ decimal arm)
+command_spelling (Stack process arm) = codes "stack " ++ (process ++ 46 ∷ decimal arm)
 command_spelling (Pick process arm) = codes "pick " ++ (process ++ 46 ∷ decimal arm)
 
 -- its numbers have at most eight digits, and its names look like names
@@ -43,10 +44,16 @@ IsProper (Who resource) = looks_like_name resource ≡ true
 IsProper (Line process arm) = (looks_like_name process ≡ true) × (arm < 100000000)
 IsProper (Text process arm) = (looks_like_name process ≡ true) × (arm < 100000000)
 IsProper (Why process arm) = (looks_like_name process ≡ true) × (arm < 100000000)
+IsProper (Stack process arm) = (looks_like_name process ≡ true) × (arm < 100000000)
 IsProper (Pick process arm) = (looks_like_name process ≡ true) × (arm < 100000000)
 
--- a line of at most 256 bytes says a command exactly if it is its spelling
+-- one step, without its number
+abbrev pub IsOneStep : List ℕ → Command → Type 0
+IsOneStep line c = ((line ≡ codes "step") × (c ≡ Step 1)) ⊎ ((line ≡ codes "back") × (c ≡ Back 1))
+
+-- a line of at most 256 bytes says a command exactly if it is its spelling, but for white space at its end
 abbrev pub CommandsBySpelling : Type 0
 CommandsBySpelling =
     (line : List ℕ) (c : Command)
-    → (command_of line ≡ Some c) ↔ ((line ≡ command_spelling c) × IsProper c × (length line ≤ 256))
+    → (command_of line ≡ Some c)
+    ↔ (((trimmed line ≡ command_spelling c) ⊎ IsOneStep (trimmed line) c) × IsProper c × (length line ≤ 256))

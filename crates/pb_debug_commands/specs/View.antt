@@ -5,7 +5,7 @@ use Rattle.pb_debug_commands.specs.declared.command.Command.TheVariants as given
 use Rattle.pb_debug_commands.specs.declared.words.ArmWord.{ArmWord}
 use Rattle.pb_debug_commands.specs.declared.words.IntegerWord.{IntegerWord}
 use Rattle.pb_debug_commands.specs.Commands.{Command, To, Step, Back, Vars, Threads, Wrote, Until, Loans, Next, Prev}
-use Rattle.pb_debug_commands.specs.Commands.{Help, Circle, Line, Text, Why, Pick, Who}
+use Rattle.pb_debug_commands.specs.Commands.{Help, Circle, Line, Text, Why, Stack, Pick, Who}
 
 abbrev pub arm_view : ArmWord → List ℕ × ℕ
 arm_view word = (word.process.now, word.arm)
@@ -30,4 +30,5 @@ command_view (given.Who word) = Who word.now
 command_view (given.Line word) = Line word.process.now word.arm
 command_view (given.Text word) = Text word.process.now word.arm
 command_view (given.Why word) = Why word.process.now word.arm
+command_view (given.Stack word) = Stack word.process.now word.arm
 command_view (given.Pick word) = Pick word.process.now word.arm

@@ -15,9 +15,9 @@ use crate::words::{
 pub enum Command<'t> {
     /// `to I`
     To(u32),
-    /// `step N`
+    /// `step N`, or `step`, which is one step
     Step(u32),
-    /// `back N`
+    /// `back N`, or `back`
     Back(u32),
     /// `vars P`
     Vars(&'t [u8]),
@@ -45,6 +45,8 @@ pub enum Command<'t> {
     Text(ArmWord<'t>),
     /// `why P.a`
     Why(ArmWord<'t>),
+    /// `stack P.a`
+    Stack(ArmWord<'t>),
     /// `pick P.a`
     Pick(ArmWord<'t>),
 }
@@ -75,7 +77,8 @@ fn keyed_arm<'t>(key: &[u8], word: &'t [u8]) -> Option<Command<'t>>
         cond (bytes_eq key.now (codes "text")) (option_map (λ p. spec.Text p.0 p.1) (spec.arm_of word.entry.now)) (
         cond (bytes_eq key.now (codes "why")) (option_map (λ p. spec.Why p.0 p.1) (spec.arm_of word.entry.now)) (
         cond (bytes_eq key.now (codes "who")) (option_map spec.Who (spec.word_of word.entry.now)) (
-        cond (bytes_eq key.now (codes "pick")) (option_map (λ p. spec.Pick p.0 p.1) (spec.arm_of word.entry.now)) None)))) }
+        cond (bytes_eq key.now (codes "stack")) (option_map (λ p. spec.Stack p.0 p.1) (spec.arm_of word.entry.now)) (
+        cond (bytes_eq key.now (codes "pick")) (option_map (λ p. spec.Pick p.0 p.1) (spec.arm_of word.entry.now)) None))))) }
 {
     if is(key, "line") {
         Some(Command::Line(arm_word(word)?))
@@ -85,6 +88,8 @@ fn keyed_arm<'t>(key: &[u8], word: &'t [u8]) -> Option<Command<'t>>
         Some(Command::Why(arm_word(word)?))
     } else if is(key, "who") {
         Some(Command::Who(name_word(word)?))
+    } else if is(key, "stack") {
+        Some(Command::Stack(arm_word(word)?))
     } else if is(key, "pick") {
         Some(Command::Pick(arm_word(word)?))
     } else {
@@ -103,7 +108,8 @@ fn keyed_name<'t>(key: &[u8], word: &'t [u8]) -> Option<Command<'t>>
         cond (bytes_eq key.now (codes "text")) (option_map (λ p. spec.Text p.0 p.1) (spec.arm_of word.entry.now)) (
         cond (bytes_eq key.now (codes "why")) (option_map (λ p. spec.Why p.0 p.1) (spec.arm_of word.entry.now)) (
         cond (bytes_eq key.now (codes "who")) (option_map spec.Who (spec.word_of word.entry.now)) (
-        cond (bytes_eq key.now (codes "pick")) (option_map (λ p. spec.Pick p.0 p.1) (spec.arm_of word.entry.now)) None)))))))) }
+        cond (bytes_eq key.now (codes "stack")) (option_map (λ p. spec.Stack p.0 p.1) (spec.arm_of word.entry.now)) (
+        cond (bytes_eq key.now (codes "pick")) (option_map (λ p. spec.Pick p.0 p.1) (spec.arm_of word.entry.now)) None))))))))) }
 {
     if is(key, "vars") {
         Some(Command::Vars(name_word(word)?))
@@ -134,14 +140,18 @@ fn keyed<'t>(key: &[u8], word: &'t [u8]) -> Option<Command<'t>>
     }
 }
 
-/// Returns the command of a line, which is given without its line feed.
-#[tactic(auto, unfolding(crate::specs::Commands::command_of))]
-pub fn read_command(line: &[u8]) -> Option<Command>
-    ensures { option_map command_view result ≡ spec.command_of line.now }
+/// Returns the line without the white space at its end.
+fn trimmed(line: &[u8]) -> &[u8]
+    ensures { result.now ≡ spec.trimmed line.now }
 {
-    if MAX_COMMAND < line.len() {
-        return None;
-    }
+    line.trim_ascii_end()
+}
+
+/// Returns the command of a line that does not end in white space.
+#[tactic(auto, unfolding(crate::specs::Commands::said_by))]
+fn said_by(line: &[u8]) -> Option<Command>
+    ensures { option_map command_view result ≡ spec.said_by line.now }
+{
     if is(line, "loans") {
         return Some(Command::Loans);
     }
@@ -157,6 +167,24 @@ pub fn read_command(line: &[u8]) -> Option<Command>
     if is(line, "circle") {
         return Some(Command::Circle);
     }
+    if is(line, "step") {
+        return Some(Command::Step(1));
+    }
+    if is(line, "back") {
+        return Some(Command::Back(1));
+    }
     let space = find(line, b' ')?;
     keyed(&line[..space], &line[space + 1..])
+}
+
+/// Returns the command of a line, which is given without its line feed. White space at its end is no part of
+/// the command. `None` if it is none, or the line is longer than `MAX_COMMAND` bytes.
+#[tactic(auto, unfolding(crate::specs::Commands::command_of))]
+pub fn read_command(line: &[u8]) -> Option<Command>
+    ensures { option_map command_view result ≡ spec.command_of line.now }
+{
+    if MAX_COMMAND < line.len() {
+        return None;
+    }
+    said_by(trimmed(line))
 }

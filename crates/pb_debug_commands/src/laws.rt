@@ -2,8 +2,8 @@
 
 ghost use Rattle.pb_debug_commands.specs.Spellings.{CommandsBySpelling};
 
-/// A line says a command exactly if it is the command's spelling, of at most 256 bytes, with numbers of at
-/// most eight digits.
+/// A line of at most 256 bytes says a command exactly if it is the command's spelling, with numbers of at most
+/// eight digits, but for white space at its end; `step` and `back` alone are one step.
 pub fn commands_are_read_by_their_spelling()
     ensures { CommandsBySpelling }
 {}

@@ -1,5 +1,5 @@
 -- The lines that a session answers, each with its line feed.
-use Rattle.std.specs.Prelude.{ℕ, ℤ, pos, cond, List, ◌++◌, length, slice_index, slice_index_or}
+use Rattle.std.specs.Prelude.{ℕ, ℤ, pos, cond, List, ◌++◌, length, reverse, slice_index, slice_index_or}
 use Rattle.std.specs.Prelude.{Option, Some, None, codes, All, ◌<◌, ⊤}
 use Rattle.std.specs.Fmt.{decimal, signed_decimal}
 use Rattle.pb_base.specs.Banker.{BankerState, processes, resources, claim, loan, cash}
@@ -11,6 +11,7 @@ use Rattle.pb_code.specs.Code.{CodeProcess, Thread, Idle, Live, Ended, thread}
 use Rattle.pb_debug_commands.specs.Lines.{line_numbered}
 use Rattle.pb_debug_texts.specs.declared.why.Why.{Why}
 use Rattle.pb_debug_texts.specs.declared.why.Why.TheVariants.{NotAsking, Cash, Order, Rest, Granted}
+use Rattle.pb_machine.specs.Views.{operands_of_thread}
 
 -- `at I`
 abbrev pub at_text : ℕ → List ℕ
@@ -45,8 +46,8 @@ help_text =
     line (codes "to I") ++ line (codes "step N") ++ line (codes "back N") ++ line (codes "next") ++ line (codes "prev")
     ++ line (codes "vars P") ++ line (codes "wrote P X") ++ line (codes "until P.a N") ++ line (codes "threads P") ++
     line (codes "loans") ++ line (codes "who R") ++ line (codes "circle")
-    ++ line (codes "line P.a") ++ line (codes "text P.a") ++ line (codes "why P.a") ++ line (codes "pick P.a")
-    ++ line (codes "help")
+    ++ line (codes "line P.a") ++ line (codes "text P.a") ++ line (codes "why P.a")
+    ++ line (codes "stack P.a") ++ line (codes "pick P.a") ++ line (codes "help")
 
 -- `NAME V`
 abbrev pub var_text : List ℕ → ℤ → List ℕ
@@ -69,6 +70,14 @@ abbrev pub threads_text : CodeProcess → List ℕ
 threads_text process =
     cond process.faulted (line (codes "faulted"))
     (each_below (λ a. thread_text a (thread process.threads a)) (length process.threads))
+
+-- numbers, each after a space
+abbrev pub values_text : List ℤ → List ℕ
+values_text values = each_below (λ k. codes " " ++ signed_decimal (slice_index_or values k (pos 0))) (length values)
+
+-- `stack V ..`: the operands of an arm, the last one on top; none of an arm that is not live
+abbrev pub stack_text : Thread → List ℕ
+stack_text t = line (codes "stack" ++ values_text (reverse (operands_of_thread t)))
 
 -- `P holds K R claim C`
 abbrev pub loan_text : NameTable → BankerState → ℕ → ℕ → List ℕ

@@ -12,7 +12,7 @@ pub use circle::put_circle;
 pub use source::put_source;
 pub use text::{
     put_at, put_event, put_help, put_loans, put_never, put_no_event, put_not_reached,
-    put_source_line, put_threads, put_vars, put_why, put_wrote,
+    put_source_line, put_stack, put_threads, put_vars, put_why, put_wrote,
 };
 pub use who::put_who;
 pub use why::{Why, asked, reason};

@@ -104,7 +104,7 @@ pub fn put_help(text: &mut Vec<u8>) -> Result<(), NoMemory>
 {
     put(
         text,
-        b"to I\nstep N\nback N\nnext\nprev\nvars P\nwrote P X\nuntil P.a N\nthreads P\nloans\nwho R\ncircle\nline P.a\ntext P.a\nwhy P.a\npick P.a\nhelp\n",
+        b"to I\nstep N\nback N\nnext\nprev\nvars P\nwrote P X\nuntil P.a N\nthreads P\nloans\nwho R\ncircle\nline P.a\ntext P.a\nwhy P.a\nstack P.a\npick P.a\nhelp\n",
     )
 }
 
@@ -153,6 +153,25 @@ pub fn put_threads(text: &mut Vec<u8>, process: &Proc) -> Result<(), NoMemory>
         put_thread(text, arm, process.thread(arm))?;
     }
     Ok(())
+}
+
+/// Appends numbers to a text, each after a space.
+fn put_values(text: &mut Vec<u8>, values: &[i64]) -> Result<(), NoMemory>
+    ensures { OnOk result (text.new.items ≡ text.old.items ++ said.values_text values.now) }
+{
+    for i in 0..values.len() {
+        put_number(text, b" ", values[i])?;
+    }
+    Ok(())
+}
+
+/// Appends the line of the operands of an arm to a text, the last one on top.
+pub fn put_stack(text: &mut Vec<u8>, thread: &Thread) -> Result<(), NoMemory>
+    ensures { OnOk result (text.new.items ≡ text.old.items ++ said.stack_text (thread_view thread.now)) }
+{
+    put(text, b"stack")?;
+    put_values(text, thread.operands())?;
+    put(text, b"\n")
 }
 
 /// Appends the line of a loan to a text.

@@ -93,8 +93,8 @@ const CASES: [Case; 10] = [
     Case {
         text: PRINT,
         picks: &[A],
-        commands: b"step 1\nthreads p\nline p.0\nstep 1\nwhy p.1\nuntil p.0 1\nuntil p.1 1\nuntil q.0 1\n",
-        said: b"at 1\n0 at 1\nline 1\nrefused G1\nrefused G3\nnot reached\nrefused G3\nrefused G2\n",
+        commands: b"stack p.0\nstep \t\r\nback\r\nstep\nstack p.0 \nstack p.1\nstack q.0\nstack p\nthreads p\nline p.0\nstep 1\nwhy p.1\nuntil p.0 1\nuntil p.1 1\nuntil q.0 1\n",
+        said: b"stack\nat 1\nat 0\nat 1\nstack 1\nrefused G3\nrefused G2\nrefused G4\n0 at 1\nline 1\nrefused G1\nrefused G3\nnot reached\nrefused G3\nrefused G2\n",
     },
     Case {
         text: TURNS,
@@ -112,13 +112,13 @@ const CASES: [Case; 10] = [
         text: TWICE,
         picks: &[A, A, A, A, A],
         commands: b"until p.0 2\nuntil p.0 2\nback 2\nprev\nnext\nnext\nnext\nnext\nprev\nprev\nprev\nhelp\n",
-        said: b"at 2\nnot reached\nat 0\nno event\nat 2 p.0 print 1\nat 4 p.0 print 2\nat 5 p end\nno event\nat 4 p.0 print 2\nat 2 p.0 print 1\nno event\nto I\nstep N\nback N\nnext\nprev\nvars P\nwrote P X\nuntil P.a N\nthreads P\nloans\nwho R\ncircle\nline P.a\ntext P.a\nwhy P.a\npick P.a\nhelp\n",
+        said: b"at 2\nnot reached\nat 0\nno event\nat 2 p.0 print 1\nat 4 p.0 print 2\nat 5 p end\nno event\nat 4 p.0 print 2\nat 2 p.0 print 1\nno event\nto I\nstep N\nback N\nnext\nprev\nvars P\nwrote P X\nuntil P.a N\nthreads P\nloans\nwho R\ncircle\nline P.a\ntext P.a\nwhy P.a\nstack P.a\npick P.a\nhelp\n",
     },
     Case {
         text: PRINT,
         picks: &[A],
         commands: b"vars q\nline q.0\nvars 1\n\nto 01\nto 123456789\nto 12345678\nwhy p\nstep -1\n to 1\nto 1 \nloans p\nvars p\nstep 0\n",
-        said: b"refused G2\nrefused G2\nrefused G4\nrefused G4\nrefused G4\nrefused G4\nrefused G1\nrefused G4\nrefused G4\nrefused G4\nrefused G4\nrefused G4\nat 0\n",
+        said: b"refused G2\nrefused G2\nrefused G4\nrefused G4\nrefused G4\nrefused G4\nrefused G1\nrefused G4\nrefused G4\nrefused G4\nat 1\nrefused G4\nat 1\n",
     },
 ];
 

@@ -41,7 +41,7 @@ returns-in-Names-clause-early c text is before =
 
 pub returns-in-Claims-clause-any : goal.returns-in-Claims-clause-any
 returns-in-Claims-clause-any c text is =
-    refuses_claims (λ v. v.items) c.claims_text.result text _ c.claims_text.ensures
+    refuses_claims (λ v. v.items) c.over_capital_text.result text _ c.over_capital_text.ensures
     (by_claims c.in-Claims.fault (subst (IsRefused text) c.in-Claims.is is))
 
 pub returns-in-Claims-clause-early : goal.returns-in-Claims-clause-early

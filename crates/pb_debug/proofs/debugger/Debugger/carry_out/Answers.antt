@@ -41,6 +41,12 @@ returns-in-Why-clause-answer c =
     on_ok c.say_why.result _ _ c.say_why.ensures
     (λ s. (s.0, subst (λ (k : Command). AnswersCommand d k s.0 d) (sym (ap command_view c.in-Why.is)) (s.1, refl), s.2))
 
+pub returns-in-Stack-clause-answer : goal.returns-in-Stack-clause-answer
+returns-in-Stack-clause-answer c =
+    let d = c.args.self.now in
+    on_ok c.say_stack.result _ _ c.say_stack.ensures
+    (λ s. (s.0, subst (λ (k : Command). AnswersCommand d k s.0 d) (sym (ap command_view c.in-Stack.is)) (s.1, refl), s.2))
+
 pub returns-in-Who-clause-answer : goal.returns-in-Who-clause-answer
 returns-in-Who-clause-answer c =
     let d = c.args.self.now in
