@@ -76,7 +76,8 @@ DEBUG: list[tuple[str, dict[str, Any]]] = [
     ("cash <amount> <resource>", {"kind": "cash"}), ("<process>.<arm> asks<amounts>", {"kind": "asks"}),
     ("<process>.<arm> waits <resource> holder <holder>", {"kind": "waits for"}), ("line <line>", {"kind": "source line"}),
     ("line none", {"kind": "source line"}), (r"<line>\| <text>", {"kind": "source"}), ("order <text>", {"kind": "order"}),
-    ("rest <text>", {"kind": "rest"}), ("memory", {"kind": "memory"}), *REFUSALS, ("<integer> <value>", {"kind": "variable"}), LINE,
+    ("rest <text>", {"kind": "rest"}), ("stack", {"kind": "stack", "text": ""}), ("stack <text>", {"kind": "stack"}),
+    ("memory", {"kind": "memory"}), *REFUSALS, ("<integer> <value>", {"kind": "variable"}), LINE,
 ]
 BANK: list[tuple[str, dict[str, Any]]] = [
     *((words, {"kind": words}) for words in ("ready", "granted", "held", "allowed", "queued", "finishes", "memory")),
@@ -225,7 +226,7 @@ def calls() -> list[tuple[list[str], bytes]]:
              b"process bottleneck begin integer x; hold 1 of refused do x := 1 div 0 od end process refused begin skip end\n")
     nothing = b"process refused begin print 1 end\n"
     odd = b"process p // \t\"\\<%%\r\nbegin integer ok, memory;\nok\n:= 1;\nmemory\n:= 2; print ok end\n"
-    asks = (b"to 2\nvars p\nthreads p\nloans\nwho tape\ncircle\nline p.0\ntext p.0\nwhy p.0\nnext\nprev\nwrote p ok\nuntil p.0 3\n"
+    asks = (b"to 2\nvars p\nthreads p\nloans\nwho tape\ncircle\nline p.0\ntext p.0\nwhy p.0\nnext\nprev\nwrote p ok\nstack p.0\nuntil p.0 3\n"
             b"pick p.0\nhelp\nto 99\nvars q\nthreads p\nnonsense\n")
     jobs = (b"resource tape-1 4\nresource 2.d 2\njob a 3 tape-1, 1 2.d\njob 1-b 4 tape-1\nask a 2 tape-1\nask a 2 tape-1\nask 1-b 4 tape-1\n"
             b"want 1-b 3 tape-1\nwhy a 1 2.d\norder\norder a 1-b\norder 1-b a\norder a a\norder a\nstate\ngive a 2 tape-1\nhelp\n"

@@ -34,6 +34,8 @@ debug_forms =
     ∷ form Alone (codes "granted") (codes "granted")
     ∷ form Alone (codes "order") (codes "order W")
     ∷ form Alone (codes "rest") (codes "rest W")
+    ∷ form_with (codes "stack") (codes "\"text\":\"\"") (codes "stack")
+    ∷ form Alone (codes "stack") (codes "stack W")
     ∷ form Alone (codes "memory") (codes "memory")
     ∷ form Alone (codes "refused") (codes "refused C")
     ∷ form Alone (codes "refused") (codes "refused C at I")

@@ -7,7 +7,7 @@ ghost use Rattle.pb_json_lines.specs.SessionForms.{bank_forms, debug_forms};
 use crate::form::{Form, Section};
 
 /// The forms of the answers of a debugging session, and of refusals, in the order in which they are tried.
-static DEBUG: [Form; 34] = [
+static DEBUG: [Form; 36] = [
     Form {
         section: Section::Alone,
         first: "\"kind\":\"at\"",
@@ -147,6 +147,16 @@ static DEBUG: [Form; 34] = [
         section: Section::Alone,
         first: "\"kind\":\"rest\"",
         pattern: "rest W",
+    },
+    Form {
+        section: Section::Alone,
+        first: "\"kind\":\"stack\",\"text\":\"\"",
+        pattern: "stack",
+    },
+    Form {
+        section: Section::Alone,
+        first: "\"kind\":\"stack\"",
+        pattern: "stack W",
     },
     Form {
         section: Section::Alone,
