@@ -18,7 +18,7 @@ use Rattle.pb_adapter.specs.Values.{has_arm}
 pub small_process : (d : Debugging) → IsPosition d → (p : ℕ) → p < length (state_of d).processes → p < 64
 small_process d h p within =
     let many = as_many d h in
-    let few = ((h.verified.annotated OutOfLimits).some_processes).1 in
+    let few = ((h.verified.faultless OutOfLimits).some_processes).1 in
     omega (arith, many, few, within)
 
 -- and that of an arm

@@ -15,7 +15,7 @@ use Rattle.pb_adapter_requests.specs.Requests.{Asked, Place, number_of, place_of
 use Rattle.pb_adapter_requests.specs.Responses.{done_data, list_below, refused_data}
 use Rattle.pb_adapter_requests.specs.declared.kind.Kind.{Kind}
 use Rattle.pb_adapter_requests.specs.declared.kind.Kind.TheVariants as kind
-use Rattle.pb_adapter_values.specs.Values.{arm_name, arms_below, arms_of, cash_list, is_idle, loans_list, scopes_if, thread_data, thread_if, thread_number}
+use Rattle.pb_adapter_values.specs.Values.{arm_name, arms_below, arms_of, cash_list, is_idle, loans_list, result_data, scopes_if, thread_data, thread_if, thread_number}
 use Rattle.pb_adapter.specs.Answers.{AnswersKind, Client, ContinuesTo, Evaluates, GoesTo, StaysIf}
 use Rattle.pb_adapter.specs.Moves.{end_data, is_event_first, saying_data, stopped_data, tried_reason}
 use Rattle.pb_adapter.specs.Values.{frames_if, integers_at, stack_data, threads_below, threads_data, variables_data, variables_list, vars_of}
@@ -36,9 +36,9 @@ append_free (d ∷ first) more one two =
 one_free : (d : Data) → has_float d ≡ false → AreFree (d ∷ [])
 one_free d free = or_from (has_float d) false free refl
 
-cond_free : (b : Bool) (yes no : List Data) → AreFree yes → AreFree no → AreFree (cond b yes no)
-cond_free true yes no one two = one
-cond_free false yes no one two = two
+cond_free : (b : Bool) (first other : List Data) → AreFree first → AreFree other → AreFree (cond b first other)
+cond_free true first other one two = one
+cond_free false first other one two = two
 
 below_free : (told : ℕ → Data) → ((i : ℕ) → has_float (told i) ≡ false) → (n : ℕ) → AreFree (list_below told n)
 below_free told each zero = refl
@@ -71,7 +71,7 @@ frames_free : (there : Bool) (frame : Data) → has_float frame ≡ false → Ar
 frames_free true frame free = one_free frame free
 frames_free false frame free = refl
 
-operands_of : Debugging → Place → List ℤ
+abbrev operands_of : Debugging → Place → List ℤ
 operands_of d at = operands_in (slice_get (state_of d).processes at.process) at.arm
 
 variables_free : (d : Debugging) (n : ℕ) → AreFree (variables_list d n)
@@ -107,19 +107,19 @@ refused_free seq r message told is = subst AreFloatFree (sym is) (refl, tt)
 -- a response and an event
 pub told_free : (seq : ℕ) (r : Asked) (body event : Data) (told : List Data) → has_float body ≡ false → has_float event ≡ false
     → told ≡ done_data seq r body ∷ event ∷ [] → AreFloatFree told
-told_free seq r body event told free free' is = subst AreFloatFree (sym is) (done_free seq r body free, free', tt)
+told_free seq r body event told free free' is = subst AreFloatFree (sym is) (done_free seq r body free, (free', tt))
 
 moved_free : (b : Bool) (seq : ℕ) (r : Asked) (body event : Data) → has_float body ≡ false → has_float event ≡ false
     → AreFloatFree (done_data seq r body ∷ cond b [] (event ∷ []))
 moved_free true seq r body event free free' = (done_free seq r body free, tt)
-moved_free false seq r body event free free' = (done_free seq r body free, free', tt)
+moved_free false seq r body event free free' = (done_free seq r body free, (free', tt))
 
 evaluated_free : (d next : Debugging) (c c' : Client) (seq : ℕ) (r : Asked) (words : Option (List ℕ)) (told : List Data)
     → Evaluates d c seq r words told next c' → AreFloatFree told
 evaluated_free d next c c' seq r None told is = refused_free seq r _ told is.0
 evaluated_free d next c c' seq r (Some words) told (text, session, same, is) =
     subst AreFloatFree (sym is)
-    (moved_free (nat_eq d.position next.position) seq r _ (stopped_data (seq + 1) next (codes "goto")) refl refl)
+    (moved_free (nat_eq d.position next.position) seq r (result_data text) (stopped_data (seq + 1) next (codes "goto")) refl refl)
 
 goes_free : (d next : Debugging) (seq : ℕ) (r : Asked) (found : Option ℕ) (told : List Data) → GoesTo d seq r found told next → AreFloatFree told
 goes_free d next seq r (Some k) told (moved, is) = told_free seq r null (stopped_data (seq + 1) next (codes "breakpoint")) told refl refl is

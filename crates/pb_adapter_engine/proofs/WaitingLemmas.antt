@@ -16,7 +16,7 @@ use Rattle.pb_adapter_engine.specs.Waiting.{launched, lending_said, nobody, unfi
 
 text_free : (s next : WaitingValue) (seq : ℕ) (r : Asked) (words : List ℕ) (lending : Lending) (told : List Data)
     → LaunchesText s seq r words lending told next → AreFloatFree told
-text_free s _ seq r words lending _ (launched l is) = (refl, refl, tt)
+text_free s _ seq r words lending _ (launched l is) = (refl, (refl, tt))
 text_free s _ seq r words lending _ (unfit refusal is) = (refl, tt)
 
 launch_free : (s next : WaitingValue) (seq : ℕ) (r : Asked) (words : Option (List ℕ)) (lending : Option Lending) (told : List Data)

@@ -14,25 +14,25 @@ returns-in-Continue c =
     let d = c.args.debugger.now in
     let r = request_view c.args.request in
     let next = c.continue_on.new.debugger in
-    let set = c.client-in-Continue.inside in
-    let after : Client = record { lines = set.lines.items; events = set.events; path = set.path.bytes.items } in
-    subst (λ (k : Kind). IfOk c.continue_on.result (λ reply. AnswersKind k d c.args.client.now c.args.seq r (told_by reply) next after))
+    let client = c.args.client.now in
+    let same = c.client-in-Continue.view_is in
+    subst (λ (k : Kind). IfOk c.continue_on.result (λ reply. AnswersKind k d client c.args.seq r (told_by reply) next client))
     (sym c.in-Continue.is)
-    (continues c.continue_on.result d next c.args.client.now after c.args.seq r c.deref.result.now c.deref.ensures.value
-    c.client-in-Continue.view_is c.continue_on.ensures)
+    (continues c.continue_on.result d next client c.args.seq r c.deref.result.now c.client-in-Continue.inside.events
+    (c.deref.ensures.value ∙ ap (λ (x : Client). x.lines) same) (ap (λ (x : Client). x.events) same) c.continue_on.ensures)
 
 pub returns-in_ok-stop-in-ReverseContinue : goal.returns-in_ok-stop-in-ReverseContinue
 returns-in_ok-stop-in-ReverseContinue c =
     let d = c.args.debugger.now in
     let r = request_view c.args.request in
     let next = c.go.new.debugger in
-    let set = c.client-in-ReverseContinue.inside in
-    let after : Client = record { lines = set.lines.items; events = set.events; path = set.path.bytes.items } in
+    let client = c.args.client.now in
     let at = place_of (number_of (codes "threadId") r) in
-    subst (λ (k : Kind). IfOk c.go.result (λ reply. AnswersKind k d c.args.client.now c.args.seq r (told_by reply) next after))
+    subst (λ (k : Kind). IfOk c.go.result (λ reply. AnswersKind k d client c.args.seq r (told_by reply) next client))
     (sym c.in-ReverseContinue.is)
-    (goes_on c.go.result d next c.args.client.now after c.args.seq r kind.ReverseContinue c.deref-in-ReverseContinue.result.now at
-    (stop_view c.in_ok-stop-in-ReverseContinue.stop) c.deref-in-ReverseContinue.ensures.value c.client-in-ReverseContinue.view_is refl
+    (goes_on c.go.result d next client c.args.seq r kind.ReverseContinue c.deref-in-ReverseContinue.result.now at
+    (stop_view c.in_ok-stop-in-ReverseContinue.stop)
+    (c.deref-in-ReverseContinue.ensures.value ∙ ap (λ (x : Client). x.lines) c.client-in-ReverseContinue.view_is) refl
     (c.in_ok-stop-in-ReverseContinue.ensures at) (c.go.ensures.moved, c.go.ensures.told))
 
 pub returns-in-Step : goal.returns-in-Step
@@ -53,7 +53,7 @@ returns-in_ok-stop-in-StepBack c =
     let client = c.args.client.now in
     subst (λ (k : Kind). IfOk c.go-in-StepBack.result (λ reply. AnswersKind k d client c.args.seq r (told_by reply) next client))
     (sym c.in-StepBack.is)
-    (goes_on c.go-in-StepBack.result d next client client c.args.seq r kind.StepBack client.lines
-    (record { process = c.place_of-at.result.process; arm = c.place_of-at.result.arm }) (stop_view c.in_ok-stop-in-StepBack.stop) refl refl
+    (goes_on c.go-in-StepBack.result d next client c.args.seq r kind.StepBack client.lines
+    (record { process = c.place_of-at.result.process; arm = c.place_of-at.result.arm }) (stop_view c.in_ok-stop-in-StepBack.stop) refl
     (c.place_of-at.ensures ∙ ap place_of c.number_of.ensures) (c.in_ok-stop-in-StepBack.ensures client.lines)
     (c.go-in-StepBack.ensures.moved, c.go-in-StepBack.ensures.told))

@@ -1,13 +1,18 @@
-use Rattle.std.proofs.Common.{◌≡◌, ◌∙◌, ℕ, List, ap, refl, subst}
-use Rattle.pb_adapter.specs.Answers.{Says}
-use Rattle.pb_adapter.specs.Moves.{pick_words}
+use Rattle.std.proofs.Common.{◌≡◌, ◌∙◌, unwrap_or}
+use Rattle.serde_json.specs.View.{view}
+use Rattle.pb_adapter_requests.specs.Requests.{request_view}
+use Rattle.pb_adapter_requests.specs.Responses.{told_by}
+use Rattle.pb_adapter.proofs.ReplyLemmas.{tried}
 use Rattle.pb_adapter.proofs.tries.try_arm.Goals as goal
 
 pub returns : goal.returns
 returns c client =
-    let d = c.args.debugger.now in
-    let next = c.answer_lines.new.debugger in
-    let text = c.in_ok-said.said.bytes in
-    let asked : c.as_str.result.now ≡ c.in_ok-words.words.bytes.items = cc in
-    let words = asked ∙ (c.in_ok-words.ensures ∙ ap (pick_words d) c.place_of.ensures) in
-    (text, subst (λ (w : List ℕ). Says d w text next) words c.in_ok-said.ensures, refl, cc)
+    let words : c.as_str.result.now ≡ c.in_ok-words.words.bytes.items = cc in
+    let whose : c.unwrap_or-of.result ≡ unwrap_or c.args.thread 0 = cc in
+    let said : c.as_slice.result.now ≡ c.in_ok-said.said.bytes = cc in
+    tried c.args.debugger.now c.answer_lines.new.debugger client c.args.seq (request_view c.args.request) c.args.thread c.as_str.result.now
+    c.in_ok-said.said.bytes c.as_slice.result.now c.tried_reason-reason.result.now
+    (record { process = c.place_of.result.process; arm = c.place_of.result.arm }) c.unwrap_or-of.result c.position-before.result
+    c.position.result (view c.in_ok-response.response) (view c.in_ok-event.event) (told_by c.with_event.result)
+    (words ∙ c.in_ok-words.ensures) c.place_of.ensures c.in_ok-said.ensures c.in_ok-response.ensures c.in_ok-event.ensures
+    c.tried_reason-reason.ensures c.position-before.ensures.position c.position.ensures.position whose said c.with_event.ensures
