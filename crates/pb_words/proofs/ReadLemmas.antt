@@ -12,7 +12,7 @@ use Rattle.pb_command_line.specs.CommandLine.{command_line, with_text_commands, 
 use Rattle.pb_command_line.specs.CommandLine.{with_other_commands, with_pick_commands, check_command, claims_command}
 use Rattle.pb_command_line.specs.CommandLine.{debug_command, draw_command, emit_command, exec_command, explain_command}
 use Rattle.pb_command_line.specs.CommandLine.{migrate_command, outcomes_command, plan_command, record_command, replay_command, run_command}
-use Rattle.pb_command_line.specs.CommandLine.{bank_command, states_command, with_bank_commands, with_run_rules}
+use Rattle.pb_command_line.specs.CommandLine.{bank_command, dap_command, states_command, with_bank_commands, with_run_rules}
 use Rattle.clap.specs.declared.parser.matches.Found.{Found}
 use Rattle.clap.proofs.WalkLemmas.{one_text-rows}
 use Rattle.pb_words.specs.Read.{BlamesWords, HasCheckNumbers, HasCode, HasEmitNumber, HasFlag, HasNumber, HasNumberIn}
@@ -146,6 +146,8 @@ no_debug rows none (Check o) says =
     let m : 100 ≡ 99 = ap (λ (l : Text). get_or l 0 0) says.0 in omega (arith, m)
 no_debug rows none Claims says =
     let m : 100 ≡ 99 = ap (λ (l : Text). get_or l 0 0) says in omega (arith, m)
+no_debug rows none Dap says =
+    let m : 101 ≡ 97 = ap (λ (l : Text). get_or l 1 0) says in omega (arith, m)
 no_debug rows none (Debug o) says = none o says.1
 no_debug rows none (Draw o) says =
     let m : 101 ≡ 114 = ap (λ (l : Text). get_or l 1 0) says.0 in omega (arith, m)
@@ -424,6 +426,8 @@ no_replay rows none (Check o) says =
     let m : 114 ≡ 99 = ap (λ (l : Text). get_or l 0 0) says.0 in omega (arith, m)
 no_replay rows none Claims says =
     let m : 114 ≡ 99 = ap (λ (l : Text). get_or l 0 0) says in omega (arith, m)
+no_replay rows none Dap says =
+    let m : 114 ≡ 100 = ap (λ (l : Text). get_or l 0 0) says in omega (arith, m)
 no_replay rows none (Debug o) says =
     let m : 114 ≡ 100 = ap (λ (l : Text). get_or l 0 0) says.0 in omega (arith, m)
 no_replay rows none (Draw o) says =
@@ -457,6 +461,8 @@ no_draw rows none (Check o) says =
     let m : 100 ≡ 99 = ap (λ (l : Text). get_or l 0 0) says.0 in omega (arith, m)
 no_draw rows none Claims says =
     let m : 100 ≡ 99 = ap (λ (l : Text). get_or l 0 0) says in omega (arith, m)
+no_draw rows none Dap says =
+    let m : 114 ≡ 97 = ap (λ (l : Text). get_or l 1 0) says in omega (arith, m)
 no_draw rows none (Debug o) says =
     let m : 114 ≡ 101 = ap (λ (l : Text). get_or l 1 0) says.0 in omega (arith, m)
 no_draw rows none (Draw o) says = none o says.1
@@ -580,14 +586,14 @@ pub is_simple_command_line : is_simple command_line ≡ true
 unfolding command_line with_text_commands with_code_commands with_object_commands with_pick_commands check_command
     claims_command debug_command draw_command emit_command exec_command migrate_command outcomes_command
     plan_command record_command replay_command run_command with_other_commands explain_command with_run_rules
-    with_bank_commands states_command bank_command clap_on_literals
+    with_bank_commands states_command bank_command dap_command clap_on_literals
 is_simple_command_line = refl
 
 pub is_free_command_line : is_simple_and_free command_line ≡ true
 unfolding command_line with_text_commands with_code_commands with_object_commands with_pick_commands check_command
     claims_command debug_command draw_command emit_command exec_command migrate_command outcomes_command
     plan_command record_command replay_command run_command with_other_commands explain_command with_run_rules
-    with_bank_commands states_command bank_command clap_on_literals
+    with_bank_commands states_command bank_command dap_command clap_on_literals
 is_free_command_line = refl
 
 -- a fact that holds anyway holds if there is no value
