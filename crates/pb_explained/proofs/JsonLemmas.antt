@@ -4,7 +4,7 @@ use Rattle.std.specs.Borrow.{Bor}
 use Rattle.clap.specs.Words.{Text}
 use Rattle.pb_answer.specs.Calls.{CallTellsFaults}
 use Rattle.pb_command_io.specs.declared.status.Status.{Status}
-use Rattle.pb_json_lines.proofs.ReplyLemmas.{OneFailed, TellsGathered}
+use Rattle.pb_json_lines.proofs.ReplyLemmas.{TellsGathered}
 
 -- of an output in memory that no write had failed of, whichever command it was
 pub gathered_faults : (words : List (Bor Text)) (rest left : Option (List ℕ)) (old_reads new_reads failures : ℕ) (bytes : List ℕ) (given : Status)

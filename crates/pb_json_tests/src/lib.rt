@@ -2,6 +2,8 @@
 #![tactic(auto)]
 
 #[cfg(test)]
+mod dialects;
+#[cfg(test)]
 mod lines;
 #[cfg(test)]
 mod replies;

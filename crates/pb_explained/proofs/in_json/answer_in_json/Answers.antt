@@ -1,4 +1,4 @@
-use Rattle.std.proofs.Common.{Option, List, ℕ, Some, map, refl, ap, subst}
+use Rattle.std.proofs.Common.{Some, map, refl, ap, subst}
 use Rattle.std.specs.Borrow.{Bor}
 use Rattle.clap.specs.Words.{Text}
 use Rattle.pb_answer.specs.Calls.{CallTellsFaults, CallWrites}
