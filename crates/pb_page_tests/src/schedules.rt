@@ -1,12 +1,9 @@
 //! Texts, and the documents of all their schedules.
 
-use pb_accept::compile_text;
+use pb_base::limits::MAX_INPUT;
 use pb_base::{Lending, MemoryOutput};
 use pb_command_io::Status;
-use pb_object::write_object2;
 use pb_page_engine::tell_schedules;
-use pb_page_graph::schedules_document;
-use pb_search::KeepFault;
 use std::alloc::Global;
 
 /// A text, who lends, and what is written of all its schedules.
@@ -14,21 +11,6 @@ struct Case {
     text: &'static [u8],
     lending: Lending,
     said: &'static [u8],
-}
-
-/// Returns the document of a text, if it is one of a program with at most this number of configurations.
-fn document(
-    alloc: Global,
-    text: &[u8],
-    lending: Lending,
-    states: u32,
-) -> Result<Vec<u8>, KeepFault> {
-    let Ok(compiled) = compile_text(alloc, text) else {
-        return Ok(Vec::new(alloc));
-    };
-    let verified = compiled.verified();
-    let object = write_object2(alloc, verified.code(), compiled.labels())?;
-    schedules_document(alloc, verified, lending, states, text, &object)
 }
 
 /// One process, which prints.
@@ -66,49 +48,6 @@ const LOOP: Case = Case {
     said: b"{\"parbegin\":1,\"kind\":\"schedules\",\"text\":\"process p begin while 1 = 1 do skip od end\\n\",\"object\":\"PBO 2\\nresources 0\\nprocesses 1\\nprocess p\\nvars 0\\narms 1\\nclaims\\narm 0\\ncode 6\\n1 push 1\\n1 push 1\\n1 eq\\n1 jzero 5\\n1 jump 0\\n0 end\\n\",\"lend\":\"banker\",\"start\":[0,[],0,[0]],\"nodes\":[[[0,0,1,0,1,1,[1]]],[[0,0,2,0,2,1,[1,1]]],[[0,0,3,0,3,1,[1]]],[[0,0,4,0,4,1,[]]],[[0,0,0]]],\"outcomes\":[],\"deadlocks\":[],\"endless\":true}\n",
 };
 
-/// Returns whether exactly what a case says is written.
-fn says(alloc: Global, case: &Case) -> bool {
-    match document(alloc, case.text, case.lending, 1000) {
-        Ok(said) => said.as_slice() == case.said,
-        Err(_) => false,
-    }
-}
-
-/// Returns whether there are more configurations than this number.
-fn is_over(alloc: Global, case: &Case, states: u32) -> bool {
-    match document(alloc, case.text, case.lending, states) {
-        Err(KeepFault::TooMany) => true,
-        Ok(_) | Err(KeepFault::NoMemory) => false,
-    }
-}
-
-#[test]
-fn each_node_has_its_rows(rt: HostRuntime) {
-    assert!(rt; says(rt.alloc(), &TINY));
-    assert!(rt; says(rt.alloc(), &DEVICES));
-}
-
-#[test]
-fn deadlocks_are_told(rt: HostRuntime) {
-    assert!(rt; says(rt.alloc(), &DEADLOCK));
-}
-
-#[test]
-fn each_outcome_is_told(rt: HostRuntime) {
-    assert!(rt; says(rt.alloc(), &LOST));
-}
-
-#[test]
-fn a_run_that_never_ends_is_told(rt: HostRuntime) {
-    assert!(rt; says(rt.alloc(), &LOOP));
-}
-
-#[test]
-fn a_limit_is_told(rt: HostRuntime) {
-    assert!(rt; is_over(rt.alloc(), &TINY, 3));
-    assert!(rt; !is_over(rt.alloc(), &TINY, 4));
-}
-
 /// The process of `TINY`, if at most three configurations are allowed.
 const TINY_LIMIT: Case = Case {
     text: b"process p begin print 1 end\n",
@@ -125,14 +64,42 @@ const REFUSED: Case = Case {
 
 /// Returns whether this is written of a text, with this status.
 fn tells(alloc: Global, case: &Case, states: u32, status: Status) -> Option<bool> {
-    let mut output = MemoryOutput::new(alloc, 4_096).ok()?;
+    if case.text.len() > MAX_INPUT {
+        return None;
+    }
+    let mut output = MemoryOutput::new(alloc, 16_384).ok()?;
     let told = tell_schedules(alloc, case.lending, states, case.text, &mut output);
     Some(told == status && output.as_slice() == case.said)
 }
 
 #[test]
-fn the_document_is_written(rt: HostRuntime) {
+fn each_node_has_its_rows(rt: HostRuntime) {
+    assert!(rt; tells(rt.alloc(), &TINY, 1000, Status::Done) == Some(true));
+    assert!(rt; tells(rt.alloc(), &DEVICES, 1000, Status::Done) == Some(true));
+}
+
+#[test]
+fn deadlocks_are_told(rt: HostRuntime) {
+    assert!(rt; tells(rt.alloc(), &DEADLOCK, 1000, Status::Done) == Some(true));
+}
+
+#[test]
+fn each_outcome_is_told(rt: HostRuntime) {
+    assert!(rt; tells(rt.alloc(), &LOST, 1000, Status::Done) == Some(true));
+}
+
+#[test]
+fn a_run_that_never_ends_is_told(rt: HostRuntime) {
+    assert!(rt; tells(rt.alloc(), &LOOP, 1000, Status::Done) == Some(true));
+}
+
+#[test]
+fn a_limit_is_told(rt: HostRuntime) {
     assert!(rt; tells(rt.alloc(), &TINY, 4, Status::Done) == Some(true));
     assert!(rt; tells(rt.alloc(), &TINY_LIMIT, 3, Status::Limit) == Some(true));
+}
+
+#[test]
+fn refused_texts_are_told(rt: HostRuntime) {
     assert!(rt; tells(rt.alloc(), &REFUSED, 3, Status::Refused) == Some(true));
 }
