@@ -28,7 +28,7 @@ pub text_of_stop : (why : Stop) (first : ℕ) (rest : List ℕ) (messages : List
 text_of_stop stop.Broken first rest messages old new is =
     (_, (is.fault, is.of_bytes, is.is, refl), is.written)
 text_of_stop stop.Memory first rest messages old new is = (texts messages, refl, is)
-text_of_stop stop.Device first rest messages old new (fault, done, left, is, wrote) = (done, (fault, left, is), wrote)
+text_of_stop stop.Device first rest messages old new (fault, (done, left, is, wrote)) = (done, (fault, left, is), wrote)
 
 -- why nothing more is answered
 end_of : {S : Type 0} (Answers : S → ℕ → Asked → List Data → S → Type 0) (over : S → Bool) (s : S) (first : ℕ) (bytes : List ℕ)

@@ -1,8 +1,8 @@
-use Rattle.std.proofs.Common.{◌≡◌, subst}
+use Rattle.std.proofs.Common.{◌≡◌, ◌∙◌, ℕ, List, ap, false, subst}
 use Rattle.std.proofs.lemmas.Option.{IfSome_then}
 use Rattle.pb_code.specs.View.{labels_view}
 use Rattle.pb_command_io.proofs.InputLemmas.{IfSome-of}
-use Rattle.pb_debug.specs.Value.{IsPosition}
+use Rattle.pb_debug.specs.Value.{Debugging, IsPosition}
 use Rattle.pb_adapter_engine.specs.Adapters.{opened}
 use Rattle.pb_adapter_engine.specs.Waiting.{launched_view}
 use Rattle.pb_adapter_engine.proofs.AdapterLemmas.{launched_known, no_launch, opened_debugger}
@@ -13,15 +13,18 @@ returns-in-Ok-clause-text g c =
     let l = launched_view c.args.launched in
     let is : c.with_source-shown.result ≡ (opened l).debugger =
     opened_debugger c.args.launched.lending c.args.launched.compiled.verified c.verified.result.now c.args.launched.compiled.labels
-    (labels_view c.labels-labels.result.now) c.args.launched.picks.items c.deref.result.now c.args.launched.source.items c.deref-2.result.now
+    (labels_view c.labels-labels.result.now) c.args.launched.picks.items c.deref.result.now c.args.launched.source.items c.deref-in-Ok.result.now
     c.args.launched.path.bytes.items c.in-Ok.debugger c.with_source-shown.result c.verified.ensures c.labels-labels.ensures.labels
-    c.deref.ensures.value c.deref-2.ensures.value c.in-Ok.ensures.opened c.with_source-shown.ensures.shown in
-    let same : c.new-session.result ≡ opened l = cc in
+    c.deref.ensures.value c.deref-in-Ok.ensures.value c.in-Ok.ensures.opened c.with_source-shown.ensures.shown in
+    let same : c.new-session.result ≡ opened l =
+    c.new-session.ensures
+    ∙ (ap (λ (lines : List ℕ). record { debugger = c.with_source-shown.result; client = record { lines = lines; events = false; path = l.path }; over = false }) c.new.ensures.items
+    ∙ ap (λ (d : Debugging). record { debugger = d; client = (opened l).client; over = false }) is) in
     IfSome_then (g.I.Input.rest c.args.input.now) c.answer_session.ensures.text
     (λ bytes. launched_known l c.args.first bytes c.new-session.result _ _ c.answer_session.result same
     (subst IsPosition is c.with_source-shown.ensures.placed))
 
-pub returns-in-Err-clause-text : goal.returns-in-Err-clause-text
-returns-in-Err-clause-text g c =
+pub returns-clause-text : goal.returns-clause-text
+returns-clause-text g c =
     IfSome-of (g.I.Input.rest c.args.input.now) _
     (λ bytes. no_launch (launched_view c.args.launched) c.args.first bytes (g.O.Output.written c.args.output.now))

@@ -15,7 +15,7 @@ returns-in_ok-reply-in-Fit c =
     let l = launched_view c.in-Fit.launched in
     let comes =
     comes_to c.args.words.now c.as_bytes.result.now (number_of (codes "seed") r) c.number_of-seed.result c.args.lending (path_of r)
-    c.path_of.result.now (Fit c.in-Fit.launched) c.in_ok-launch.launch c.as_bytes.ensures c.number_of-seed.ensures c.path_of.ensures c.in-Fit.is
+    c.path_of.result.now (Fit c.in-Fit.launched) c.in_ok-launch.launch c.as_bytes.ensures.value c.number_of-seed.ensures c.path_of.ensures c.in-Fit.is
     c.in_ok-launch.ensures in
     subst (λ (told : List Data). LaunchesText c.args.self.now c.args.seq r c.args.words.now c.args.lending told
     (record { launched = Some l; over = true })) (sym c.in_ok-reply-in-Fit.ensures) (launched l comes)
@@ -27,7 +27,7 @@ returns-in-Unfit c =
     let line = c.in-Unfit.line in
     let comes =
     comes_to c.args.words.now c.as_bytes.result.now (number_of (codes "seed") r) c.number_of-seed.result c.args.lending (path_of r)
-    c.path_of.result.now (Unfit line) c.in_ok-launch.launch c.as_bytes.ensures c.number_of-seed.ensures c.path_of.ensures c.in-Unfit.is
+    c.path_of.result.now (Unfit line) c.in_ok-launch.launch c.as_bytes.ensures.value c.number_of-seed.ensures c.path_of.ensures c.in-Unfit.is
     c.in_ok-launch.ensures in
     told_known c.tell_unfit.result (refused_data c.args.seq r (utf8_lossy line.items) ∷ [])
     (λ told. LaunchesText s c.args.seq r c.args.words.now c.args.lending told s)
