@@ -50,14 +50,6 @@ waiting_free kind.Unknown s next seq r told is = refused_free seq r _ told is.0
 
 -- ---- what answers a request
 
--- a launch with a text, under somebody who lends
-pub launches_as : (s next : WaitingValue) (seq : ℕ) (r : Asked) (words : Option (List ℕ)) (lending : Option Lending) (told : List Data)
-    → (text : List ℕ) (lends : Lending) → words ≡ Some text → lending ≡ Some lends → LaunchesText s seq r text lends told next
-    → Launches s seq r words lending told next
-launches_as s next seq r words lending told text lends is of launch =
-    subst (λ (o : Option (List ℕ)). Launches s seq r o lending told next) (sym is)
-    (subst (λ (o : Option Lending). Launches s seq r (Some text) o told next) (sym of) launch)
-
 -- ---- once a text is launched, nothing more is answered here
 
 -- a state at which that holds
