@@ -27,29 +27,3 @@ returns-in-Refused-Some g c =
         inr (loud, inl (search rules, (c.in-Refused-Some.bytes.now, search rules, explains))),
       )
     ]
-
-pub returns-then-status-eq-Limit : goal.returns-then-status-eq-Limit
-returns-then-status-eq-Limit g c =
-    let loud : IsQuiet c.args.words.now → ⊥ = λ quiet. let same = c.if-is_first.ensures.1 quiet in cc in
-    elim c.explain_limit.ensures [
-      | inl untouched ↦ (
-        c.without-heard.result.now,
-        c.without-said.result.now,
-        c.is_first.result,
-        c.without-heard.ensures,
-        c.without-said.ensures,
-        c.is_first.ensures,
-        c.answer_as-status.ensures,
-        inl untouched,
-      )
-      | inr explains ↦ (
-        c.without-heard.result.now,
-        c.without-said.result.now,
-        c.is_first.result,
-        c.without-heard.ensures,
-        c.without-said.ensures,
-        c.is_first.ensures,
-        c.answer_as-status.ensures,
-        inr (loud, inr (search rules, explains)),
-      )
-    ]
