@@ -46,28 +46,28 @@ impl Model for Client {
     ghost view = { λ c. record { lines = c.lines.items; events = c.events; path = c.path.bytes.items } };
 }
 
-// Returns the reply that a request is carried out, with what it asks for.
+/// Returns the reply that a request is carried out, with what it asks for.
 fn show(alloc: Global, seq: u64, request: Request<'_>, body: Value) -> Result<Reply, NoMemory>
     ensures { IfOk result (λ reply. told_by reply ≡ done_data seq (request_view request.entry) (view body) ∷ []) }
 {
     Ok(answered(alloc, seq, request, body)?)
 }
 
-// Returns the reply that a request is refused.
+/// Returns the reply that a request is refused.
 fn refuse(alloc: Global, seq: u64, request: Request<'_>, message: &str) -> Result<Reply, NoMemory>
     ensures { IfOk result (λ reply. told_by reply ≡ refused_data seq (request_view request.entry) message.now ∷ []) }
 {
     Ok(refused(alloc, seq, request, message)?)
 }
 
-// Returns the stop at a position.
+/// Returns the stop at a position.
 fn stop_here(position: u32, reason: &'static str) -> Stop
     ensures { stop_view result ≡ stop_at position reason.now }
 {
     Stop { position, reason }
 }
 
-// Moves the run, and says so.
+/// Moves the run, and says so.
 fn go(
     alloc: Global,
     seq: u64,
@@ -90,7 +90,7 @@ fn go(
     }
 }
 
-// Says that the run is over.
+/// Says that the run is over.
 fn end_run(alloc: Global, seq: u64, request: Request<'_>) -> Result<Reply, NoMemory>
     requires few { seq < 2 ^ 63 }
     ensures told { IfOk result (λ reply. told_by reply ≡ done_data seq (request_view request.entry) null
@@ -101,7 +101,7 @@ fn end_run(alloc: Global, seq: u64, request: Request<'_>) -> Result<Reply, NoMem
     Ok(with_event(response, event))
 }
 
-// Says what a session answers to an expression, and where the run stands if that has moved it.
+/// Says what a session answers to an expression, and where the run stands if that has moved it.
 fn tell_evaluated(
     alloc: Global,
     seq: u64,
@@ -125,7 +125,7 @@ fn tell_evaluated(
     Ok(with_event(response, event))
 }
 
-// Answers an expression.
+/// Answers an expression.
 fn answer_evaluate(
     alloc: Global,
     seq: u64,
@@ -142,7 +142,7 @@ fn answer_evaluate(
     }
 }
 
-// Moves the run to where an arm is at another line; where the picks end, by a pick of the arm.
+/// Moves the run to where an arm is at another line; where the picks end, by a pick of the arm.
 fn step_on(
     alloc: Global,
     seq: u64,
@@ -161,7 +161,7 @@ fn step_on(
     go(alloc, seq, debugger, request, stop)
 }
 
-// Sets the lines to stop at.
+/// Sets the lines to stop at.
 fn set_breakpoints(
     alloc: Global,
     seq: u64,
@@ -180,7 +180,7 @@ fn set_breakpoints(
     Ok(reply)
 }
 
-// Sets whether to stop at events.
+/// Sets whether to stop at events.
 fn set_events(
     alloc: Global,
     seq: u64,
@@ -195,7 +195,7 @@ fn set_events(
     Ok(reply)
 }
 
-// Answers a request of a kind.
+/// Answers a request of a kind.
 fn answer_kind(
     alloc: Global,
     seq: u64,

@@ -18,7 +18,7 @@ use pb_debug::Debugger;
 use serde_json::Value;
 use std::alloc::Global;
 
-// Appends the arms of a process at the position to a list.
+/// Appends the arms of a process at the position to a list.
 fn list_process(
     alloc: Global,
     list: &mut Vec<Value>,
@@ -47,13 +47,14 @@ pub fn threads(alloc: Global, debugger: &Debugger<'_>) -> Result<Value, NoMemory
     Ok(threads_body(alloc, list)?)
 }
 
-// Returns the line of an arm, 0 for none; nothing if there is no such arm.
+/// Returns the line of an arm, 0 for none; nothing if there is no such arm.
 fn line_of(debugger: &Debugger<'_>, p: usize, arm: usize) -> Option<u32>
     ensures some { IfSome result (λ line. (spec.has_arm (slice_get (state_of debugger.now).processes p) arm ≡ true)
         × (line ≡ spec.line_or_none (line_in (slice_get debugger.now.labels p) (slice_get (state_of debugger.now).processes p) arm))) }
     ensures none { IfNone result (spec.has_arm (slice_get (state_of debugger.now).processes p) arm ≡ false) }
     ensures small { IfSome result (λ _. (p < 64) × (arm < 64)) }
 {
+    // Called for its contract alone, which the proof needs.
     let _ = debugger.position();
     match debugger.line(p, arm) {
         Ok(Some(line)) => Some(line),
@@ -62,7 +63,7 @@ fn line_of(debugger: &Debugger<'_>, p: usize, arm: usize) -> Option<u32>
     }
 }
 
-// Returns the frame of an arm at the position, which is at this line.
+/// Returns the frame of an arm at the position, which is at this line.
 fn frame_of(
     alloc: Global,
     debugger: &Debugger<'_>,

@@ -18,7 +18,7 @@ use pb_debug::Debugger;
 use serde_json::Value;
 use std::alloc::Global;
 
-// Returns why the run stops where the picks end.
+/// Returns why the run stops where the picks end.
 fn end_reason(text: &[u8]) -> &'static str
     ensures { result.now ≡ spec.end_reason text.now }
 {
@@ -29,7 +29,7 @@ fn end_reason(text: &[u8]) -> &'static str
     }
 }
 
-// Moves the run to just after a pick, and says so.
+/// Moves the run to just after a pick, and says so.
 fn go_after(
     alloc: Global,
     seq: u64,
@@ -53,7 +53,7 @@ fn go_after(
     }
 }
 
-// Says that the picks end at the position, and a circular wait if there is one.
+/// Says that the picks end at the position, and a circular wait if there is one.
 fn say_end(
     alloc: Global,
     seq: u64,
@@ -73,7 +73,7 @@ fn say_end(
     Ok(with_event(response, event))
 }
 
-// Moves the run to the last position, and says a circular wait there, if there is one.
+/// Moves the run to the last position, and says a circular wait there, if there is one.
 fn go_to_end(
     alloc: Global,
     seq: u64,
@@ -89,7 +89,7 @@ fn go_to_end(
     }
 }
 
-// Moves the run to just after a pick that was looked for; if there is none, to the last position.
+/// Moves the run to just after a pick that was looked for; if there is none, to the last position.
 fn go_on(
     alloc: Global,
     seq: u64,
@@ -107,7 +107,7 @@ fn go_on(
     }
 }
 
-// Returns whether the run has moved to just after an event, and no pick that was looked for comes before that.
+/// Returns whether the run has moved to just after an event, and no pick that was looked for comes before that.
 fn is_event_first(before: u32, after: u32, found: Option<u32>) -> bool
     requires pick { IfSome found (λ k. k < 2 ^ 31) }
     ensures { result ≡ spec.is_event_first before after found }
@@ -121,7 +121,7 @@ fn is_event_first(before: u32, after: u32, found: Option<u32>) -> bool
     }
 }
 
-// Says the event just before the position.
+/// Says the event just before the position.
 fn say_event(
     alloc: Global,
     seq: u64,
@@ -140,7 +140,7 @@ fn say_event(
     Ok(with_event(response, event))
 }
 
-// Moves the run to just after the next event, if no pick that was looked for comes before it, and says so.
+/// Moves the run to just after the next event, if no pick that was looked for comes before it, and says so.
 fn go_to_event(
     alloc: Global,
     seq: u64,
@@ -176,6 +176,7 @@ pub fn continue_on(
         × IsFirst (spec.Comes debugger.old lines.now) debugger.old.position (length debugger.old.picks) found
         × ContinuesTo events debugger.old seq (request_view request.entry) found (told_by reply) debugger.new) }
 {
+    // Called for its contract alone, which the proof needs.
     let _ = debugger.len();
     let found = debugger.next_stop(lines)?;
     if events {

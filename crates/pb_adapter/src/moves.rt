@@ -37,7 +37,7 @@ pub fn end_stop(debugger: &Debugger<'_>) -> Stop
     }
 }
 
-// Returns the stop just after a pick that was looked for; another if there is none.
+/// Returns the stop just after a pick that was looked for; another if there is none.
 fn stop_of(found: Option<u32>, reason: &'static str, other: Stop) -> Stop
     requires { IfSome found (λ k. k < 2 ^ 31) }
     ensures { stop_view result ≡ spec.stop_of found reason.now (stop_view other) }
@@ -66,6 +66,7 @@ pub fn next_line(debugger: &Debugger<'_>, at: Place) -> Result<Stop, NoMemory>
         → StopsAt debugger.now lines (record { process = at.process; arm = at.arm }) kind.Step (stop_view stop)) }
 {
     let end = end_stop(debugger);
+    // Called for its contract alone, which the proof needs.
     let _ = debugger.position();
     let found = debugger.next_move(at.process, at.arm)?;
     Ok(stop_of(found, "step", end))

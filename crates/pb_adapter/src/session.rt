@@ -40,7 +40,7 @@ impl<'c> Session<'c> {
     }
 }
 
-// Returns whether a request is the last.
+/// Returns whether a request is the last.
 fn is_last(kind: Kind) -> bool
     ensures { result ≡ is_last_kind kind }
 {

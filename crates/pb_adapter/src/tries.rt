@@ -15,7 +15,7 @@ use pb_debug::Debugger;
 use serde_json::Value;
 use std::alloc::Global;
 
-// Returns the command by which a session tries a pick of an arm.
+/// Returns the command by which a session tries a pick of an arm.
 fn pick_words(alloc: Global, debugger: &Debugger<'_>, at: Place) -> Result<String, NoMemory>
     ensures { IfOk result (λ s. s.bytes.items ≡ spec.pick_words debugger.now (record { process = at.process; arm = at.arm })) }
 {
@@ -24,7 +24,7 @@ fn pick_words(alloc: Global, debugger: &Debugger<'_>, at: Place) -> Result<Strin
     Ok(format!(in alloc; "pick {shown}")?)
 }
 
-// Returns why the run stops after a pick of an arm was tried.
+/// Returns why the run stops after a pick of an arm was tried.
 fn tried_reason(before: u32, after: u32) -> &'static str
     ensures { result.now ≡ spec.tried_reason before after }
 {

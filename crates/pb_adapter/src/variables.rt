@@ -13,7 +13,7 @@ use pb_debug::Debugger;
 use serde_json::Value;
 use std::alloc::Global;
 
-// Returns the names of the integers of a process.
+/// Returns the names of the integers of a process.
 fn names_of(labels: &Labels, p: usize) -> &[Vec<u8>]
     ensures { map (λ name. name.items) result.now ≡ spec.integers_of (slice_get (labels_view labels.now) p) }
 {
@@ -23,7 +23,7 @@ fn names_of(labels: &Labels, p: usize) -> &[Vec<u8>]
     }
 }
 
-// Returns the integers of a process at the position.
+/// Returns the integers of a process at the position.
 fn integers_at(alloc: Global, debugger: &Debugger<'_>, p: usize) -> Result<Vec<Value>, NoMemory>
     ensures { IfOk result (λ list. map view list.items ≡ spec.integers_at debugger.now p) }
 {
@@ -34,7 +34,7 @@ fn integers_at(alloc: Global, debugger: &Debugger<'_>, p: usize) -> Result<Vec<V
     }
 }
 
-// Returns the operands of an arm at the position.
+/// Returns the operands of an arm at the position.
 fn operands_at(alloc: Global, debugger: &Debugger<'_>, at: Place) -> Result<Vec<Value>, NoMemory>
     ensures { IfOk result (λ list. map view list.items ≡ spec.operands_at debugger.now (record { process = at.process; arm = at.arm })) }
 {
@@ -50,7 +50,7 @@ fn operands_at(alloc: Global, debugger: &Debugger<'_>, at: Place) -> Result<Vec<
     }
 }
 
-// Returns what a reference names at the position.
+/// Returns what a reference names at the position.
 fn variables_of(
     alloc: Global,
     debugger: &Debugger<'_>,

@@ -24,7 +24,7 @@ use std::alloc::Global;
 /// The most picks that are drawn for a launch.
 pub const MAX_DRAWN: u32 = 1_000_000;
 
-// Returns the code of a text, or the line of its refusal.
+/// Returns the code of a text, or the line of its refusal.
 fn compiled_of(alloc: Global, source: &[u8]) -> Result<Result<Compiled, Vec<u8>>, NoMemory>
     ensures compiled { IfOk result (λ r. IfOk r (λ c. IsCompiled source.now c.verified.code c.labels)) }
     ensures refused { IfOk result (λ r. IfErr r (λ line. RefusesWith source.now line.items)) }
@@ -36,7 +36,7 @@ fn compiled_of(alloc: Global, source: &[u8]) -> Result<Result<Compiled, Vec<u8>>
     }
 }
 
-// Returns the picks that lines say, each enabled in turn under a lending.
+/// Returns the picks that lines say, each enabled in turn under a lending.
 fn picks_of(
     alloc: Global,
     lending: Lending,
@@ -56,14 +56,14 @@ fn picks_of(
     }
 }
 
-// Takes the line feed from the end of a line.
+/// Takes the line feed from the end of a line.
 fn without_feed(text: &mut Vec<u8>)
     ensures { (refusal : List ℕ) → text.old.items ≡ with_feed refusal → text.new.items ≡ refusal }
 {
     let _ = text.pop();
 }
 
-// Returns the line of a refusal of pick lines.
+/// Returns the line of a refusal of pick lines.
 fn lines_line(alloc: Global, fault: LinesFault) -> Result<Vec<u8>, NoMemory>
     ensures { IfOk result (λ text. (lending : LendingValue) (code : Code) (lines : List ℕ)
         → IsLinesFaultBy lending code lines fault → RefusesPicks None lending code lines text.items) }
@@ -73,7 +73,7 @@ fn lines_line(alloc: Global, fault: LinesFault) -> Result<Vec<u8>, NoMemory>
     Ok(text)
 }
 
-// Returns the picks that lines say, or the line of their refusal.
+/// Returns the picks that lines say, or the line of their refusal.
 fn picks_said(
     alloc: Global,
     lending: Lending,
@@ -89,14 +89,14 @@ fn picks_said(
     }
 }
 
-// Returns the line that the picks that are drawn are too many.
+/// Returns the line that the picks that are drawn are too many.
 fn too_long_line(alloc: Global) -> Result<Vec<u8>, NoMemory>
     ensures { IfOk result (λ line. line.items ≡ codes "refused output") }
 {
     Ok(Vec::from_slice(alloc, b"refused output")?)
 }
 
-// Returns the picks that are drawn with a seed, or the line that they are too many.
+/// Returns the picks that are drawn with a seed, or the line that they are too many.
 fn picks_drawn(
     alloc: Global,
     seed: u64,
@@ -106,6 +106,7 @@ fn picks_drawn(
     ensures picks { IfOk result (λ r. IfOk r (λ picks. ArePicksFor (Some seed) lending verified.now.code [] picks.items)) }
     ensures refused { IfOk result (λ r. IfErr r (λ line. RefusesPicks (Some seed) lending verified.now.code [] line.items)) }
 {
+    // Called for its contract alone, which the proof needs.
     let _ = verified.code();
     let made = draw_picks(alloc, lending, MAX_DRAWN, seed, verified)?;
     match made {
@@ -114,8 +115,8 @@ fn picks_drawn(
     }
 }
 
-// Returns the picks of a text: without a seed those that lines say, with one those that are drawn; or the line of
-// a refusal.
+/// Returns the picks of a text: without a seed those that lines say, with one those that are drawn; or the line of
+/// a refusal.
 fn picks_for(
     alloc: Global,
     seed: Option<u64>,
@@ -132,7 +133,7 @@ fn picks_for(
     }
 }
 
-// Returns a text and the pick lines behind it; with a seed the text is all.
+/// Returns a text and the pick lines behind it; with a seed the text is all.
 fn parts_for(seed: Option<u64>, words: &[u8]) -> (&[u8], &[u8])
     ensures { ArePartsFor seed words.now result.0.now result.1.now }
 {

@@ -24,7 +24,7 @@ pub fn status_of(stop: Stop) -> Status
     }
 }
 
-// Answers the messages of a session, numbered from `first` on.
+/// Answers the messages of a session, numbered from `first` on.
 fn answer_session<I: Input, O: Output>(
     alloc: Global,
     first: u64,

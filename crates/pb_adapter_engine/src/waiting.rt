@@ -37,14 +37,14 @@ impl Model for Waiting {
     ghost view = { λ s. record { launched = option_map launched_view s.launched; over = s.over } };
 }
 
-// Returns whether a word is this text.
+/// Returns whether a word is this text.
 fn is(word: &str, text: &str) -> bool
     ensures { result ≡ bytes_eq word.now text.now }
 {
     word.as_bytes() == text.as_bytes()
 }
 
-// Returns who lends: the banker, if nobody is named; nobody, if another word is given.
+/// Returns who lends: the banker, if nobody is named; nobody, if another word is given.
 fn lending_of(word: Option<&str>) -> Option<Lending>
     ensures { result ≡ lending_said (option_map (λ t. t.now) word.entry) }
 {
@@ -60,7 +60,7 @@ fn lending_of(word: Option<&str>) -> Option<Lending>
     }
 }
 
-// Returns the path that a request names; none if it names none.
+/// Returns the path that a request names; none if it names none.
 fn path_of<'v>(request: Request<'v>) -> &'v str
     ensures { result.now ≡ path_asked (request_view request.entry) }
 {
@@ -70,14 +70,14 @@ fn path_of<'v>(request: Request<'v>) -> &'v str
     }
 }
 
-// Returns the reply that a request is refused.
+/// Returns the reply that a request is refused.
 fn refuse(alloc: Global, seq: u64, request: Request<'_>, message: &str) -> Result<Reply, NoMemory>
     ensures { IfOk result (λ reply. told_by reply ≡ refused_data seq (request_view request.entry) message.now ∷ []) }
 {
     Ok(refused(alloc, seq, request, message)?)
 }
 
-// Returns the reply that a text is launched.
+/// Returns the reply that a text is launched.
 fn tell_launched(alloc: Global, seq: u64, request: Request<'_>) -> Result<Reply, NoMemory>
     requires few { seq < 2 ^ 63 }
     ensures { IfOk result (λ reply. told_by reply ≡ done_data seq (request_view request.entry) null
@@ -88,7 +88,7 @@ fn tell_launched(alloc: Global, seq: u64, request: Request<'_>) -> Result<Reply,
     Ok(with_event(response, event))
 }
 
-// Returns the reply that a launch is refused, with this line.
+/// Returns the reply that a launch is refused, with this line.
 fn tell_unfit(alloc: Global, seq: u64, request: Request<'_>, line: &[u8]) -> Result<Reply, NoMemory>
     ensures { IfOk result (λ reply. told_by reply ≡ refused_data seq (request_view request.entry) (utf8_lossy line.now) ∷ []) }
 {
@@ -107,7 +107,7 @@ impl Waiting {
         }
     }
 
-    // Answers a launch of a text, with pick lines behind it if no seed is given, under a lending.
+    /// Answers a launch of a text, with pick lines behind it if no seed is given, under a lending.
     fn launch_text(
         &mut self,
         alloc: Global,
@@ -132,7 +132,7 @@ impl Waiting {
         }
     }
 
-    // Answers a launch.
+    /// Answers a launch.
     fn answer_launch(
         &mut self,
         alloc: Global,
@@ -153,7 +153,7 @@ impl Waiting {
         }
     }
 
-    // Answers a request of a kind.
+    /// Answers a request of a kind.
     fn answer_kind(
         &mut self,
         alloc: Global,
