@@ -1,7 +1,6 @@
 -- From what is said of each part of an input to what is said of it all.
 use Rattle.std.proofs.Common.{◌≡◌, ◌≤◌, ℕ, List, length, Option, Result, Ok, Err, IfOk, OnErr, Vec, Global, subst, arith}
 use Rattle.pb_base.specs.declared.memory.NoMemory.{NoMemory}
-use Rattle.pb_base.specs.declared.pick.Pick.{Pick}
 use Rattle.pb_base.specs.Steppers.{State}
 use Rattle.pb_code.specs.Code.{CodeProcess}
 use Rattle.pb_code.specs.Whole.{Code, ProcessLabels}

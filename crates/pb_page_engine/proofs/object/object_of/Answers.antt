@@ -1,8 +1,5 @@
-use Rattle.std.proofs.Common.{List, ℕ, IfOk, ◌∙◌, ap, subst}
+use Rattle.std.proofs.Common.{◌∙◌, ap, subst}
 use Rattle.pb_accept.proofs.EmissionLemmas.{has_second_text}
-use Rattle.pb_code.specs.Whole.{Code, ProcessLabels}
-use Rattle.pb_object.specs.Answers.{SpellsCode}
-use Rattle.pb_object.specs.declared.format.Format.TheVariants.{Two}
 use Rattle.pb_verifier.specs.Verified.{IsVerified, VerifiedCode}
 use Rattle.pb_page_engine.proofs.StatesLemmas.{spelled_so}
 use Rattle.pb_page_engine.proofs.object.object_of.Goals as goal

@@ -1,5 +1,4 @@
-use Rattle.std.proofs.Common.{◌≡◌, List, ℕ, ap, subst, sym, ◌∙◌}
-use Rattle.pb_code.specs.Whole.{Code}
+use Rattle.std.proofs.Common.{List, ℕ, subst, sym}
 use Rattle.pb_history.specs.Entries.{picks_of}
 use Rattle.pb_history.specs.Positions.{AreEnabled}
 use Rattle.pb_page.specs.Runs.{IsRunDocument}

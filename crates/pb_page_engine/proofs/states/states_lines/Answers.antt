@@ -1,11 +1,9 @@
-use Rattle.std.proofs.Common.{◌≡◌, List, length, ap, arith, subst}
-use Rattle.std.proofs.lemmas.List.{length-map}
+use Rattle.std.proofs.Common.{List, length, ap, arith, subst}
 use Rattle.pb_base.specs.declared.lending.Lending.TheVariants.{ByBanker}
 use Rattle.pb_accept.specs.ReplayLines.{AreReplayed, IsLinesFault}
 use Rattle.pb_base.specs.declared.pick.Pick.{Pick}
 use Rattle.pb_code.specs.Whole.{Code}
 use Rattle.pb_history.proofs.Positions.{leads_enabled}
-use Rattle.pb_history.specs.Entries.{Entry}
 use Rattle.pb_machine.specs.Views.{machine_view}
 use Rattle.pb_page_engine.proofs.StatesLemmas.{no_picks_told, document_told}
 use Rattle.pb_page_engine.proofs.states.states_lines.Goals as goal

@@ -1,7 +1,3 @@
-use Rattle.std.proofs.Common.{ap, subst}
-use Rattle.std.specs.Prelude.{false}
-use Rattle.pb_search_fair.specs.CodeRuns.{TellsFairRuns}
-use Rattle.pb_search_fair.specs.declared.runs.FairRuns.{FairRuns}
 use Rattle.pb_search_engine.proofs.FairLemmas.{bounded_ends}
 use Rattle.pb_search_engine.specs.SaysOutcomes.{mode_for}
 use Rattle.pb_search_engine.proofs.outcomes.fair_told.Goals as goal

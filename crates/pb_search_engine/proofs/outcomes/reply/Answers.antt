@@ -1,4 +1,3 @@
-use Rattle.std.proofs.Common.{sym, subst}
 use Rattle.pb_search_engine.proofs.FairLemmas.{says_fairly, says_plainly}
 use Rattle.pb_search_engine.specs.SaysOutcomes.{mode_for, until_for}
 use Rattle.pb_search_engine.proofs.outcomes.reply.Goals as goal
