@@ -1,5 +1,5 @@
 -- From what a conversation says to what is said of an input.
-use Rattle.std.proofs.Common.{◌≡◌, ◌⊎◌, ◌<◌, ℕ, ◌+◌, List, [], ◌++◌, length, Bool, Option, Some, None, IfSome, true, false, true≢false, refl, sym, ap, ◌∙◌, subst, inl, inr, append_assoc, append-nil}
+use Rattle.std.proofs.Common.{◌≡◌, ◌⊎◌, ◌<◌, ℕ, ◌+◌, List, [], ◌++◌, length, Bool, Option, Some, None, IfSome, true, true≢false, refl, sym, ap, ◌∙◌, subst, inl, inr, append_assoc, append-nil}
 use Rattle.serde_json.specs.Data.{Data}
 use Rattle.pb_adapter_requests.specs.Requests.{Asked}
 use Rattle.pb_base.specs.Device.{appended}

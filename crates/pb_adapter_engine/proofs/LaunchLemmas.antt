@@ -1,5 +1,5 @@
 -- What a launch gives, and the lines of refusals.
-use Rattle.std.proofs.Common.{◌≡◌, ℕ, ◌-◌, List, Option, None, refl, sym, ap, ◌∙◌, subst}
+use Rattle.std.proofs.Common.{◌≡◌, ℕ, List, Option, None, refl, sym, ap, ◌∙◌, subst}
 use Rattle.pb_accept.specs.ReplayLines.{SaysOfNoPicksBy, refused}
 use Rattle.pb_base.specs.Lines.{line}
 use Rattle.pb_base.specs.declared.lending.Lending.{Lending}
