@@ -54,6 +54,7 @@ fn line_of(debugger: &Debugger<'_>, p: usize, arm: usize) -> Option<u32>
     ensures none { IfNone result (spec.has_arm (slice_get (state_of debugger.now).processes p) arm ≡ false) }
     ensures small { IfSome result (λ _. (p < 64) × (arm < 64)) }
 {
+    // Called for its contract alone, which the proof needs.
     let _ = debugger.position();
     match debugger.line(p, arm) {
         Ok(Some(line)) => Some(line),

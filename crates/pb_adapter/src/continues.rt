@@ -176,6 +176,7 @@ pub fn continue_on(
         × IsFirst (spec.Comes debugger.old lines.now) debugger.old.position (length debugger.old.picks) found
         × ContinuesTo events debugger.old seq (request_view request.entry) found (told_by reply) debugger.new) }
 {
+    // Called for its contract alone, which the proof needs.
     let _ = debugger.len();
     let found = debugger.next_stop(lines)?;
     if events {

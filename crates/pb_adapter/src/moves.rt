@@ -66,6 +66,7 @@ pub fn next_line(debugger: &Debugger<'_>, at: Place) -> Result<Stop, NoMemory>
         → StopsAt debugger.now lines (record { process = at.process; arm = at.arm }) kind.Step (stop_view stop)) }
 {
     let end = end_stop(debugger);
+    // Called for its contract alone, which the proof needs.
     let _ = debugger.position();
     let found = debugger.next_move(at.process, at.arm)?;
     Ok(stop_of(found, "step", end))

@@ -106,6 +106,7 @@ fn picks_drawn(
     ensures picks { IfOk result (λ r. IfOk r (λ picks. ArePicksFor (Some seed) lending verified.now.code [] picks.items)) }
     ensures refused { IfOk result (λ r. IfErr r (λ line. RefusesPicks (Some seed) lending verified.now.code [] line.items)) }
 {
+    // Called for its contract alone, which the proof needs.
     let _ = verified.code();
     let made = draw_picks(alloc, lending, MAX_DRAWN, seed, verified)?;
     match made {
