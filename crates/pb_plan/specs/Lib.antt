@@ -1,4 +1,5 @@
 pub mod Circles
+pub mod Joined
 pub mod Needs
 pub mod Nests
 pub mod Orders
