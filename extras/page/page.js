@@ -898,7 +898,8 @@ function mapOf(graphs) {
 /** A move in a few words: "takes 1 tape". */
 function shortly(program, state, row) {
   const words = does(program, state, row[0]).replace(/^asks for/, "takes").replace(/^gives back/, "returns");
-  return words.replace(/^assigns \S+ to/, "assigns").replace(/:.*/, "").slice(0, 15);
+  const short = words.replace(/^assigns \S+ to/, "assigns").replace(/^takes the number/, "number").replace(/:.*/, "");
+  return short.length > 15 ? `${short.slice(0, 14)}…` : short;
 }
 
 const KINDS = {
