@@ -38,7 +38,7 @@ GoesOn d c seq r kind told next c' =
     × (next ≡ moved_to d stop.position) × (c' ≡ c)
     × (told ≡ done_data seq r null ∷ stopped_data (seq + 1) next stop.reason ∷ [])
 
--- what a session answers to these command lines, and where the run then is
+-- the text that a session answers to these command lines, and the debugger after them
 abbrev pub Says : Debugging → (words text : List ℕ) → Debugging → Type 0
 Says d words text next = Session d (lines_of (session_bytes words)) text next
 

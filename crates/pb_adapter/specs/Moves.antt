@@ -91,7 +91,7 @@ abbrev pub is_event_first : (before after : ℕ) → Option ℕ → Bool
 is_event_first before after None = not (nat_eq after before)
 is_event_first before after (Some k) = cond (nat_eq after before) false (not (nat_lt (k + 1) after))
 
--- where the picks end arms wait in a circle, or none do, by what a session answers to `circle`
+-- why the run stops at the end of its picks: some arms wait in a circle, or none do, by the answer to `circle`
 abbrev pub end_reason : (text : List ℕ) → List ℕ
 end_reason text = cond (bytes_eq text (line (codes "no circle"))) (codes "end") (codes "waits")
 

@@ -1,4 +1,4 @@
--- A session: a debugger, and the client that it answers.
+-- A session: a debugger and its client.
 use Rattle.std.specs.Prelude.{◌≡◌, ℕ, List, Bool, true, false}
 use Rattle.serde_json.specs.Data.{Data}
 use Rattle.pb_adapter_requests.specs.Kinds.{kind_of}

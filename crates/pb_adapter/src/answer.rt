@@ -101,7 +101,7 @@ fn end_run(alloc: Global, seq: u64, request: Request<'_>) -> Result<Reply, NoMem
     Ok(with_event(response, event))
 }
 
-/// Says what a session answers to an expression, and where the run stands if that has moved it.
+/// Returns the reply to an expression: what a session answers to it, and an event if the run has moved.
 fn tell_evaluated(
     alloc: Global,
     seq: u64,

@@ -79,11 +79,11 @@ TellsRefused (option.States numbers) = SaysToPerson (reading.Replayed ByBanker)
 
 -- what a person is told of a run that was stopped by its steps
 abbrev pub stopped_run : List ℕ
-stopped_run = codes "limit steps: the run was stopped before its end\n  = hint: --steps N lets it make N steps, at most 10000000; a run that never ends stops here however many it may make\n"
+stopped_run = codes "limit steps: the run was stopped before its end\n  = hint: --steps N allows N steps, at most 10000000; a run that never ends comes to any limit\n"
 
 -- what a person is told of a search that was stopped
 abbrev pub stopped_search : List ℕ
-stopped_search = codes "limit search: there may be more than what was found\n  = hint: --states N lets it keep N configurations, at most 4000000\n"
+stopped_search = codes "limit search: there may be more than what was found; the last line says why\n  = hint: --states N allows N configurations, at most 4000000\n"
 
 -- what a person is told of a call that was stopped by a limit: how it is raised
 abbrev pub limit_message : Options → List ℕ

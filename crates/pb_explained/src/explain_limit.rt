@@ -10,11 +10,11 @@ use std::alloc::Global;
 
 /// What is said of a run that was stopped by its steps.
 const STOPPED_RUN: &[u8] =
-    b"limit steps: the run was stopped before its end\n  = hint: --steps N lets it make N steps, at most 10000000; a run that never ends stops here however many it may make\n";
+    b"limit steps: the run was stopped before its end\n  = hint: --steps N allows N steps, at most 10000000; a run that never ends comes to any limit\n";
 
 /// What is said of a search that was stopped.
 const STOPPED_SEARCH: &[u8] =
-    b"limit search: there may be more than what was found\n  = hint: --states N lets it keep N configurations, at most 4000000\n";
+    b"limit search: there may be more than what was found; the last line says why\n  = hint: --states N allows N configurations, at most 4000000\n";
 
 /// Writes how the limit that stopped the command of these words is raised, if it can be.
 pub fn explain_limit<E: Output>(alloc: Global, words: &[&str], error: &mut E)

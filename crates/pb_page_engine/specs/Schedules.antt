@@ -8,13 +8,13 @@ use Rattle.pb_command_io.specs.declared.status.Status.{Status}
 use Rattle.pb_command_io.specs.declared.status.Status.TheVariants.{Done, Limit}
 use Rattle.pb_object.specs.Answers.{SpellsCode}
 use Rattle.pb_object.specs.declared.format.Format.TheVariants.{Two}
-use Rattle.pb_page_graph.specs.Documents.{IsGraphDocument, excess_text}
+use Rattle.pb_page_graph.specs.Documents.{IsDocumentUpTo, excess_text}
 use Rattle.pb_search.specs.Outcomes.{IsExcess}
 
--- the document of all schedules of a code under this lending; or that more than this number of configurations are
--- reached, which is so
+-- the document of all schedules of a code under this lending, of at most this number of configurations; or that more
+-- are reached, which is so
 pub data AreSchedules (lending : Lending) (states : ℕ) (source object : List ℕ) (code : Code) : List ℕ → Status → Type 0 where
-  all : (document : List ℕ) → IsGraphDocument (record { lending = lending; prints = false }) code source object document
+  all : (document : List ℕ) → IsDocumentUpTo states (record { lending = lending; prints = false }) code source object document
       → AreSchedules lending states source object code document Done
   too_many : IsExcess (record { lending = lending; prints = false }) code states
       → AreSchedules lending states source object code (excess_text source object lending states) Limit
