@@ -27,6 +27,7 @@ impl Desk {
             × (out.new.items ≡ out.old.items ++ said)) }
     {
         if first_word(text).word.is_empty() {
+            // Called for its contract alone, which the proof needs.
             let _ = self.bank.slots();
             put_state(out, &self.names, &self.bank)?;
             put_wishes(out, &self.names, &self.wishes)
@@ -79,6 +80,7 @@ impl Desk {
         ensures { OnOk result ((said : List ℕ) × AnswersLine self.old line.now said self.new
             × (out.new.items ≡ out.old.items ++ said)) }
     {
+        // Called for its contract alone, which the proof needs.
         let _ = self.waiting();
         if MAX_COMMAND < line.len() {
             put_refusal(out, Refusal::Command)?;
@@ -90,6 +92,7 @@ impl Desk {
             return Ok(());
         }
         self.say_kind(out, kind, first.rest)?;
+        // Called for its contract alone, which the proof needs.
         let _ = self.waiting();
         put(out, b"ready\n")
     }

@@ -25,6 +25,7 @@ fn reason_of(bank: &Bank, request: &Request) -> Reason
     ensures why { SaysWhy bank.now.state request.now.job request.now.bundle result }
     ensures among { answers.IsReasonOf bank.now.state result }
 {
+    // Called for its contract alone, which the proof needs.
     let _ = request.bundle.len();
     bank.why(request.job, &request.bundle)
 }
@@ -37,6 +38,7 @@ fn lend(bank: &mut Bank, request: &Request) -> Reason
     ensures used { bank.new.used ≡ bank.old.used }
     ensures among { answers.IsReasonOf bank.old.state result }
 {
+    // Called for its contract alone, which the proof needs.
     let _ = request.bundle.len();
     match bank.ask(request.job, &request.bundle) {
         Answer::Granted => Reason::Allowed,
@@ -68,6 +70,7 @@ impl Desk {
             (state_held self.old.bank.state request.now.job request.now.bundle result) }
         ensures among { answers.IsReasonOf self.old.bank.state result }
     {
+        // Called for its contract alone, which the proof needs.
         let _ = self.bank.slots();
         lend(&mut self.bank, request)
     }
@@ -154,6 +157,7 @@ impl Desk {
         ensures { OnOk result ((said : List ℕ) × ServesQueue (answers.desk_left self.old p) said self.new
             × (out.new.items ≡ out.old.items ++ said)) }
     {
+        // Called for its contract alone, which the proof needs.
         let _ = self.bank.slots();
         let wishes = without(self.alloc, &self.wishes, p)?;
         self.wishes = Vec::new(self.alloc);

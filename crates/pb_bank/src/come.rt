@@ -122,6 +122,7 @@ impl Desk {
         ensures said { result ≡ answers.job_for self.now name.now (pairs_of self.now.names.resources (words_of text.now)) }
         ensures below { IfOk result (All (λ pair. pair.resource < resources self.now.bank.state)) }
     {
+        // Called for its contract alone, which the proof needs.
         let _ = self.bank.resources();
         if !is_name(name) {
             return Err(Refusal::Name);

@@ -97,6 +97,7 @@ impl Desk {
         if name.word.is_empty() {
             return Err(Refusal::Command);
         }
+        // Called for its contract alone, which the proof needs.
         let _ = self.bank.resources();
         let Some(job) = self.job_of(name.word) else {
             return Err(Refusal::NoJob);

@@ -31,6 +31,7 @@ fn serve_wish(
     ensures claims { bank.new.state.claims ≡ bank.old.state.claims }
     ensures capital { bank.new.state.capital ≡ bank.old.state.capital }
 {
+    // Called for its contract alone, which the proof needs.
     let _ = bank.slots();
     match bank.ask(wish.job, &wish.bundle) {
         Answer::Granted => put_request(out, b"granted ", names, wish),
@@ -61,6 +62,7 @@ fn serve(
     ensures capital { bank.new.state.capital ≡ bank.old.state.capital }
     ensures formed { IsWellFormed bank.old.state }
 {
+    // Called for its contract alone, which the proof needs.
     let _ = bank.slots();
     let mut waiting = Vec::new(alloc);
     for wish in wishes {

@@ -117,6 +117,7 @@ fn put_cell(
     requires names { length (names_view names.now).resources ≡ resources bank.now.state }
     ensures { OnOk result (out.new.items ≡ out.old.items ++ said.cell_text (names_view names.now) bank.now.state p r) }
 {
+    // Called for its contract alone, which the proof needs.
     let _ = bank.slots();
     let claim = bank.claim(p, r);
     let loan = bank.loan(p, r);
@@ -148,6 +149,7 @@ fn put_slot(out: &mut Vec<u8>, names: &Names, bank: &Bank, p: usize) -> Result<(
     requires names { length (names_view names.now).resources ≡ resources bank.now.state }
     ensures { OnOk result (out.new.items ≡ out.old.items ++ said.job_text (names_view names.now) bank.now p) }
 {
+    // Called for its contract alone, which the proof needs.
     let _ = bank.slots();
     if !bank.has_job(p) {
         return Ok(());

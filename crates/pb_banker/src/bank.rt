@@ -123,6 +123,7 @@ impl Bank {
         ensures well_formed { IsWellFormed self.new.state }
         ensures safe { IsSafe self.new.state }
     {
+        // Called for its contract alone, which the proof needs.
         let _ = bundle.len();
         self.accounts.take_back(p, bundle);
     }

@@ -37,6 +37,7 @@ impl Accounts {
         requires within_cash { IsWithinCash (state_of self.now) bundle.now }
         ensures { SaysWhy (state_of self.now) p bundle.now result }
     {
+        // Called for its contract alone, which the proof needs.
         let _ = bundle.len();
         let mut lent = *self;
         lent.lend(p, bundle);

@@ -12,7 +12,7 @@ const NO_PAIR: Pair = Pair {
 };
 
 /// Amounts of up to 16 resources, no resource twice, in the order in which they were named.
-#[derive(Clone, Copy)]
+#[derive(Clone, Copy, Debug, PartialEq, Eq)]
 pub struct Bundle {
     len: usize,
     pairs: [Pair; MAX_PAIRS],

@@ -5,7 +5,7 @@ use crate::operators::FaultKind;
 use crate::pick::Pick;
 
 /// What one step shows. Most steps show nothing.
-#[derive(Clone, Copy)]
+#[derive(Clone, Copy, Debug, PartialEq, Eq)]
 pub enum Event {
     /// All amounts of a hold were lent.
     Granted { pick: Pick, bundle: Bundle },

@@ -141,6 +141,7 @@ pub extern "C" fn pb_bank_give(bank: &mut Bank, job: usize, amounts: &[u32]) -> 
         return NOT_HELD;
     }
     let bundle = bundle_of(amounts);
+    // Called for its contract alone, which the proof needs.
     let _ = bundle.len();
     bank.accounts.take_back(job, &bundle);
     DONE

@@ -1,23 +1,15 @@
 -- An arm at a request, by its process and in the state of all processes.
-use Rattle.std.proofs.Common.{◌≡◌, inl, inr, ℕ, ◌+◌, ◌<◌, [], length, get_or, Some, option_map, refl}
+use Rattle.std.proofs.Common.{◌≡◌, ℕ, ◌<◌, length, Some}
 use Rattle.std.proofs.Common.{sym, ap, ◌∙◌, subst, arith}
 use Rattle.std.specs.Prelude.{slice_get, All}
-use Rattle.std.proofs.lemmas.Bool.{cases_lt}
-use Rattle.std.proofs.lemmas.List.{get_or_past}
-use Rattle.std.proofs.lemmas.Option.{slice_get-map}
-use Rattle.pb_base.specs.Steppers.{Bundle, State, Takes, moved, move_of}
+use Rattle.pb_base.specs.Steppers.{Bundle, State}
 use Rattle.pb_base.specs.declared.pick.Pick.{Pick}
-use Rattle.pb_code.specs.Code.{Instr, Take, ProcessCode, Live, CodeProcess, Thread, code_step, thread}
+use Rattle.pb_code.specs.Code.{Take, ProcessCode, Live, CodeProcess, Thread, thread}
 use Rattle.pb_code.specs.Reached.{CodeReachesBy}
-use Rattle.pb_code.specs.declared.code.ProcessCode.{ProcessCode as GivenProcess}
 use Rattle.pb_code.specs.declared.instr.Instr.TheVariants as given
-use Rattle.pb_code.specs.Limits.{HasSmallNumbers, IsSmallBundle}
-use Rattle.pb_code.specs.View.{process_view, instr_view}
 use Rattle.pb_code.specs.Whole.{Code}
-use Rattle.pb_machine.specs.Turns.{IsAtTake, StandsIn, with_thread}
-use Rattle.pb_machine.proofs.OneMorePick.{move_is}
-use Rattle.pb_machine.proofs.InstructionSteps.{take_step}
-use Rattle.pb_verifier.specs.Behaviour.{MeetsWhatItNeeds}
+use Rattle.pb_machine.specs.Turns.{IsAtTake, StandsIn}
+use Rattle.pb_machine.proofs.Requests.{request_below, request_within_claim}
 use Rattle.pb_verifier.specs.Verified.{VerifiedCode, IsVerified}
 use Rattle.pb_verifier.specs.declared.fault.VerifyFault.TheVariants.{OutOfLimits}
 use Rattle.pb_banker.specs.Lenders.{lender_state}
@@ -26,29 +18,8 @@ use Rattle.pb_base.specs.Banker.{processes, IsWithinClaim}
 use Rattle.pb_base.specs.declared.lending.Lending.{Lending}
 use Rattle.pb_machine.specs.Views.{machine_view, IsMachineBy}
 use Rattle.pb_machine.specs.declared.machine.Machine.{Machine}
-use Rattle.pb_machine.proofs.EitherLending.{code_is_sound, good_reached}
-use Rattle.pb_circles.specs.Asking.{NamesBundles}
+use Rattle.pb_machine.proofs.EitherLending.{good_reached}
 use Rattle.pb_circles.specs.Links.{bank_at}
-
--- verified code names a bundle at each take
-pub names_bundles : (v : VerifiedCode) → IsVerified v → (p : ℕ) (code : GivenProcess)
-    → slice_get v.code.processes p ≡ Some (process_view code) → NamesBundles code
-names_bundles v verified p code there = record { takes = go }
-  where
-    limits : (place : ℕ) (i : Instr) → slice_get (process_view code).instrs place ≡ Some i → HasSmallNumbers i
-    limits = ((verified.faultless OutOfLimits).each p (process_view code) there).numbers
-
-    go : (place k : ℕ) → slice_get code.instrs.items place ≡ Some (given.Take k) → k < length code.bundles.items
-    go place k at = elim (cases_lt k (length code.bundles.items)) [
-      | inl lt ↦ lt
-      | inr past ↦
-          let viewed : slice_get (process_view code).instrs place ≡ Some (Take (get_or code.bundles.items k [])) =
-          slice_get-map (instr_view code.bundles.items) code.instrs.items place ∙ ap (option_map (instr_view code.bundles.items)) at in
-          let empty : slice_get (process_view code).instrs place ≡ Some (Take []) = viewed ∙ ap (λ (b : Bundle). Some
-          (Take b)) (get_or_past code.bundles.items k [] past) in
-          let small : IsSmallBundle [] = limits place (Take []) empty in
-          absurd (omega (arith, small.size.0))
-    ]
 
 -- an arm at a take, by what is shown of it
 module _ (code : Code) (s : State CodeProcess) (p a : ℕ) (of : ProcessCode) (process : CodeProcess) (t : Thread)
@@ -112,21 +83,9 @@ module _ (lending : Lending) (v : VerifiedCode) (m : Machine) (is : IsMachineBy 
 -- what an arm asks for, in a state that the code reaches, is of resources that are there, and within the claim of its process
 module _ (lending : Lending) (v : VerifiedCode) (verified : IsVerified v) (s : State CodeProcess)
     (reached : CodeReachesBy lending v.code s) (arm : Pick) (bundle : Bundle) (asks : StandsIn v.code s arm (Take bundle)) where
-  pub request_below : All (λ pair. pair.resource < length v.code.capital) bundle
-  request_below =
-      let st = asks.stands in
-      let w = (code_is_sound lending v verified s reached).passes_tests arm.process arm.arm st.place st.stack asks.of asks.process
-      asks.code_there asks.there st.live in
-      let both : Some w.0 ≡ Some (Take bundle) = sym w.2 ∙ st.there in
-      let same : w.0 ≡ Take bundle = cc in
-      let meets = subst (λ (i : Instr). MeetsWhatItNeeds (length v.code.capital) asks.of s.loans arm.process asks.process st.place i) same w.4 in
-      meets.1
+  pub bundle_below : All (λ pair. pair.resource < length v.code.capital) bundle
+  bundle_below = request_below lending v verified s reached arm.process arm.arm asks.of asks.process asks.code_there asks.there bundle asks.stands
 
-  pub request_within_claim : IsWithinClaim (bank_at v.code s) arm.process bundle
-  request_within_claim =
-      let st = asks.stands in
-      let next = with_thread asks.process arm.arm (Live (st.place + 1) st.stack) in
-      let moves : move_of (code_step v.code.processes) s arm ≡ Some (moved s arm (next, Takes bundle)) =
-      move_is v.code.processes s arm asks.process asks.of (Some (next, Takes bundle)) asks.there asks.code_there
-      (take_step asks.of asks.process arm.arm bundle next st refl) in
-      (code_is_sound lending v verified s reached).asks_within arm (moved s arm (next, Takes bundle)) bundle moves refl
+  pub bundle_within_claim : IsWithinClaim (bank_at v.code s) arm.process bundle
+  bundle_within_claim =
+      request_within_claim lending v verified s reached arm.process arm.arm asks.of asks.process asks.code_there asks.there bundle asks.stands

@@ -1,4 +1,3 @@
-pub mod Asking
 pub mod Circles
 pub mod Deadlocks
 pub mod Links

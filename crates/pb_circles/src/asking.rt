@@ -3,7 +3,7 @@
 ghost use Rattle.std.specs.Prelude.{◌≡◌, ◌==◌, cond, IfSome, IfNone};
 ghost use Rattle.pb_base.specs.Bundle as bundles;
 ghost use Rattle.pb_base.specs.Steppers.{Bundle};
-ghost use Rattle.pb_circles.specs.Asking.{NamesBundles};
+ghost use Rattle.pb_code.specs.Bundles.{NamesBundles};
 ghost use Rattle.pb_code.specs.View.{process_view};
 ghost use Rattle.pb_machine.specs.Turns.{IsAtTake};
 ghost use Rattle.pb_machine.specs.Views.{thread_view};

@@ -1,5 +1,5 @@
 -- The bundles of a process, which its instructions name by their place.
-use Rattle.std.specs.Prelude.{◌≡◌, ◌<◌, ℕ, List, [], ◌++◌, slice_index_or, ⊤}
+use Rattle.std.specs.Prelude.{◌≡◌, ◌<◌, ℕ, List, [], ◌++◌, length, Some, slice_get, slice_index_or, ⊤}
 use Rattle.pb_base.specs.declared.pair.Pair.{Pair}
 use Rattle.pb_base.specs.Steppers.{Bundle}
 use Rattle.pb_code.specs.declared.code.ProcessCode.{ProcessCode as GivenProcess}
@@ -25,3 +25,7 @@ NamesBelow n i = ⊤
 -- more bundles at the end leave the places of the others
 abbrev pub Extends : List (List Pair) → List (List Pair) → Type 0
 Extends before after = (more : List (List Pair)) × (after ≡ before ++ more)
+
+-- each take names one of the bundles of its process
+pub record NamesBundles (code : GivenProcess) : Type 0 where
+  pub takes : (place k : ℕ) → slice_get code.instrs.items place ≡ Some (given.Take k) → k < length code.bundles.items

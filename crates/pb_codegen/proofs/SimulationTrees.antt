@@ -1,9 +1,10 @@
 -- The tree of running arms, against the table of threads: each arm of the tree owns a range of numbers for
 -- the arms inside it.
-use Rattle.std.proofs.Common.{◌≡◌, ◌⊎◌, inl, inr, ⊎_elim, ℕ, suc, ◌+◌, ◌<◌, ◌≤◌, ℤ, cond, nat_eq, List, []}
-use Rattle.std.proofs.Common.{◌∷◌, length, Some, None, refl, sym, ap, ◌∙◌, subst, arith, eq-eqb, ne_eqb}
+use Rattle.std.proofs.Common.{◌≡◌, ◌⊎◌, inl, inr, ⊎_elim, ℕ, suc, ◌+◌, ◌<◌, ◌≤◌, ℤ, List, []}
+use Rattle.std.proofs.Common.{◌∷◌, length, Some, None, refl, sym, ap, ◌∙◌, subst, arith}
 use Rattle.std.specs.Prelude.{slice_get}
 use Rattle.std.proofs.lemmas.Bool.{cases_lt}
+use Rattle.pb_base.proofs.Cases.{if_other, if_same}
 use Rattle.pb_names.specs.Program.{Block, count, arms_in, arms_in_arms, IsNumbered, AreNumbered}
 use Rattle.pb_names.specs.Source.{Item, GiveBack, Arm, Doing, running_arms}
 use Rattle.pb_names.specs.Source.{Waiting, Ended, Running, Nothing, Beside, first_some, find, find_among, put}
@@ -120,12 +121,6 @@ mutual
       )
 
 -- ---- an arm that isn't in the tree
-
-if_other : {A : Type 0} (a n : ℕ) (x y : A) → (a ≡ n → ⊥) → cond (nat_eq a n) x y ≡ y
-if_other a n x y ne = ap (λ b. cond b x y) (ne_eqb a n ne)
-
-if_same : {A : Type 0} (a n : ℕ) (x y : A) → a ≡ n → cond (nat_eq a n) x y ≡ x
-if_same a n x y e = ap (λ b. cond b x y) (eq-eqb a n e)
 
 mutual
   pub outside : (code : Listing) (threads : List Thread) (n lo hi : ℕ) (arm : Arm) (a : ℕ)

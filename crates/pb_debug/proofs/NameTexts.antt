@@ -18,7 +18,8 @@ use Rattle.pb_debug_texts.specs.Texts.{HasNamesOf}
 use Rattle.pb_debug.specs.Whys.{IsWhy}
 use Rattle.pb_debug_texts.specs.declared.why.Why.{Why}
 use Rattle.pb_debug_texts.specs.declared.why.Why.TheVariants.{NotAsking, Cash, Order, Rest, Granted}
-use Rattle.pb_debug.proofs.Requests.{below, order_of, over_cash, rest_of}
+use Rattle.pb_machine.proofs.Requests.{request_below}
+use Rattle.pb_debug.proofs.Requests.{order_of, over_cash, rest_of}
 use Rattle.pb_debug.proofs.Positions.{as_many, reached}
 
 pub missing_arm : (d : Debugging) (p a : ℕ) (fault : DebugFault) → p < length (state_of d).processes → IsMissing d p a fault → HasNoArm d p a
@@ -50,7 +51,7 @@ module _ (d : Debugging) (h : IsPosition d) where
   why_named p a (Cash resource amount) (bundle, asking, reason) =
       let first = over_cash d.lending (bank_state d) p bundle resource amount reason in
       let limits = h.verified.faultless OutOfLimits in
-      let all = below d.lending d.verified h.verified (state_of d) (reached d h) p a asking.of asking.process asking.code_there asking.there bundle asking.stands in
+      let all = request_below d.lending d.verified h.verified (state_of d) (reached d h) p a asking.of asking.process asking.code_there asking.there bundle asking.stands in
       let lt = slice_get_within bundle first.place first.pair first.there in
       let one = all first.place first.pair lt in
       let is = ap (λ (pair : Pair). pair.resource) (get_or_from_slice_get bundle first.place first.pair first.pair first.there) in

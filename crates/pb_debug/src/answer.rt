@@ -41,6 +41,7 @@ impl<'c> Debugger<'c> {
         ensures within { IfSome result (λ p. p < length (state_of self.now).processes) }
         ensures placed { IsPosition self.now }
     {
+        // Called for its contract alone, which the proof needs.
         let _ = self.position();
         find_name(&self.verified.names().processes, word)
     }

@@ -126,6 +126,7 @@ impl<'c> Debugger<'c> {
         let tried = self.tried(pick)?;
         let step = tried.step;
         self.settle(tried)?;
+        // Called for its contract alone, which the proof needs.
         let _ = self.position();
         Ok(step)
     }

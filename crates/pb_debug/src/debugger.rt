@@ -153,6 +153,7 @@ impl<'c> Debugger<'c> {
             d ≡ at_start lending verified.entry.now (labels_view labels.entry.now) (picks_of replaying.trace.entries)) }
         ensures placed { IfOk result IsPosition }
     {
+        // Called for its contract alone, which the proof needs.
         let _ = verified.code();
         let machine = Machine::new_by(alloc, verified, lending)?;
         let Replaying {

@@ -35,6 +35,7 @@ impl<'c> Debugger<'c> {
         ensures few { length (state_of self.now).processes ≤ 64 }
         ensures placed { IsPosition self.now }
     {
+        // Called for its contract alone, which the proof needs.
         let _ = self.position();
         self.walker.machine.processes()
     }

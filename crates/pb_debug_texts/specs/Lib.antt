@@ -1,4 +1,3 @@
-pub mod Asking
 pub mod Circles
 pub mod Reasons
 pub mod Resources

@@ -6,7 +6,7 @@ ghost use Rattle.pb_base.specs.Banker.{processes, resources};
 ghost use Rattle.pb_base.specs.Lines.{names_view, each_below};
 ghost use Rattle.pb_code.specs.View.{code_view, process_view};
 ghost use Rattle.pb_code.specs.declared.code.ProcessCode.{ProcessCode as GivenProcess};
-ghost use Rattle.pb_debug_texts.specs.Asking.{NamesBundles};
+ghost use Rattle.pb_code.specs.Bundles.{NamesBundles};
 ghost use Rattle.pb_debug_texts.specs.Resources as said;
 ghost use Rattle.pb_machine.specs.Views.{machine_view, proc_view, thread_view};
 

@@ -109,6 +109,7 @@ pub fn draw(
     ensures rows { IfOk result (λ d. length d.lanes.items ≤ MAX_PROCESSES * MAX_ARMS) }
     ensures curves { IfOk result (λ d. length d.curves.items ≡ length verified.now.code.capital) }
 {
+    // Called for its contract alone, which the proof needs.
     let _ = verified.code();
     let picks = trace.len();
     let marks = marks_of(alloc, verified, lending, trace)?;

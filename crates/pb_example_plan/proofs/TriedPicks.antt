@@ -5,6 +5,7 @@ use Rattle.std.proofs.lemmas.Bool.{cases_lt}
 use Rattle.pb_base.specs.declared.pick.Pick.{Pick}
 use Rattle.pb_base.specs.declared.step.Step.TheVariants.{NotEnabled}
 use Rattle.pb_base.specs.Steppers.{State}
+use Rattle.pb_base.specs.declared.lending.Lending.TheVariants.{ByBanker}
 use Rattle.pb_code.specs.Code.{CodeProcess}
 use Rattle.pb_code.specs.Reached.{CodeReaches, CodeStays}
 use Rattle.pb_code.specs.Whole.{Code}
@@ -50,5 +51,5 @@ none_at_all v s now n verified reached below same long = (
     stays : (pick : Pick) → CodeStays v.code s pick
     stays pick = elim (cases_lt pick.process n) [
       | inl before ↦ below pick before
-      | inr not_before ↦ no_such_process v.code s pick (omega (arith, long, not_before))
+      | inr not_before ↦ no_such_process ByBanker v.code s pick (omega (arith, long, not_before))
     ]

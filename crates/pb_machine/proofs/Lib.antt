@@ -17,6 +17,7 @@ pub mod Operands
 pub mod Picks
 pub mod ProcessTurns
 pub mod ReadyArms
+pub mod Requests
 pub mod SetMachines
 pub mod SilentPicks
 pub mod SilentRuns

@@ -1,3 +1,2 @@
 pub mod PartsMore
-pub mod Requests
 pub mod RunSteps

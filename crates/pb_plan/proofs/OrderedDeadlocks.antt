@@ -6,7 +6,7 @@ use Rattle.std.proofs.Common.{eqb-true}
 use Rattle.std.specs.Prelude.{All, ◌&&◌}
 use Rattle.std.proofs.lemmas.Bool.{cases_lt}
 use Rattle.std.proofs.lemmas.List.Elements.{All-cons}
-use Rattle.pb_base.proofs.Cases.{bool_cases}
+use Rattle.pb_base.proofs.Cases.{if_same, bool_cases}
 use Rattle.pb_base.proofs.LoanRows.{amount_in-cons}
 use Rattle.pb_base.specs.Bundle.{amount_in}
 use Rattle.pb_base.specs.declared.pair.Pair.{Pair}
@@ -17,7 +17,7 @@ use Rattle.pb_names.specs.Source.{Item, GiveBack, Arm, Doing, Waiting, Ended, Ru
 use Rattle.pb_names.specs.Source.{all_ended, running_arms, ExprStep, Is, Becomes, Fails, step_expr, evaluate, ArmStep}
 use Rattle.pb_names.specs.Source.{Goes, Breaks, Ends, step_items, step_arm, first_some, find, find_among}
 use Rattle.pb_plan.proofs.OrderedItems.{around, FitItems, FitsArm, FitArms, arm_le}
-use Rattle.pb_plan.proofs.OrderedPlaces.{if_same, not_inside, none_before}
+use Rattle.pb_plan.proofs.OrderedPlaces.{not_inside, none_before}
 use Rattle.pb_plan.specs.Orders.{ComesLater, place}
 use Rattle.pb_verifier.proofs.LoansWithinClaims.{pair_in}
 

@@ -1,19 +1,13 @@
 -- Where an arm with a number is in a tree, and what the tree is once the arm is replaced.
-use Rattle.std.proofs.Common.{◌≡◌, ◌∙◌, ◌⊎◌, inl, inr, ⊎_elim, ℕ, suc, ◌+◌, ◌<◌, ◌≤◌, cond, nat_eq, List}
-use Rattle.std.proofs.Common.{Option, Some, None, refl, sym, ap, subst, arith, eq-eqb, ne_eqb}
-use Rattle.pb_base.proofs.Cases.{same_or_not}
+use Rattle.std.proofs.Common.{◌≡◌, ◌∙◌, ◌⊎◌, inl, inr, ⊎_elim, ℕ, suc, ◌+◌, ◌<◌, ◌≤◌, List}
+use Rattle.std.proofs.Common.{Option, Some, None, refl, sym, ap, subst, arith}
+use Rattle.pb_base.proofs.Cases.{if_other, if_same, same_or_not}
 use Rattle.pb_base.specs.Steppers.{Bundle}
 use Rattle.pb_names.proofs.ArmNumbers.{Mine, AllMine, first_mine, later_mine}
 use Rattle.pb_names.specs.Claims.{held, held_among}
 use Rattle.pb_names.specs.Source.{Item, Arm, Doing, Waiting, Ended, Running, Nothing, Beside, running_arms}
 use Rattle.pb_names.specs.Source.{first_some, find, find_among, put, put_among}
 use Rattle.pb_plan.proofs.OrderedItems.{around, FitsArm, FitArms, arm_le, arms_le}
-
-if_other : {A : Type 0} (a n : ℕ) (x y : A) → (a ≡ n → ⊥) → cond (nat_eq a n) x y ≡ y
-if_other a n x y ne = ap (λ b. cond b x y) (ne_eqb a n ne)
-
-pub if_same : {A : Type 0} (a n : ℕ) (x y : A) → a ≡ n → cond (nat_eq a n) x y ≡ x
-if_same a n x y e = ap (λ b. cond b x y) (eq-eqb a n e)
 
 -- the first of two, or the second
 both_missing : (o other : Option Arm) → first_some o other ≡ None → (o ≡ None) × (other ≡ None)

@@ -15,6 +15,7 @@ use Rattle.pb_base.proofs.Lists.{get_some}
 use Rattle.pb_code.specs.Code.{CodeProcess, code_step}
 use Rattle.pb_code.specs.Reached.{CodeStaysBy}
 use Rattle.pb_code.specs.Whole.{Code, bank_by}
+use Rattle.pb_code.proofs.StayingPicks.{no_step_beyond}
 use Rattle.pb_machine.specs.Looks.{look_at, look_of, CanStep}
 use Rattle.pb_machine.specs.declared.look.Look.{Look}
 use Rattle.pb_machine.specs.declared.look.Look.TheVariants.{Stays, Silent, Visible}
@@ -23,7 +24,7 @@ use Rattle.rand_pcg.specs.Pcg.{pcg32}
 use Rattle.pb_record.specs.Choices.{AreInOrder, AreCandidatesBefore, AreCandidates, IsBefore}
 use Rattle.pb_record.specs.Draws.{Draws, DrawsPick, drawn_number, hit, struck}
 use Rattle.pb_record.proofs.GrantLemmas.{IsEnabled, enabled_or_not}
-use Rattle.pb_record.proofs.ScheduleLemmas.{looks_staying, no_step_beyond}
+use Rattle.pb_record.proofs.ScheduleLemmas.{looks_staying}
 use Rattle.pb_verifier.proofs.Requests.{same_pick}
 
 -- ---- arms and processes that are not there

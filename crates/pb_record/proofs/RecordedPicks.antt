@@ -31,7 +31,7 @@ use Rattle.pb_record.specs.declared.schedule.Next.TheVariants.{Silent, Did, NotE
 use Rattle.pb_record.specs.Recorded.{IsRecorded}
 use Rattle.pb_picks.proofs.CountedOnce.{apart_rest, some_first}
 use Rattle.pb_record.proofs.RunLemmas.{CodeMakes, makes_last}
-use Rattle.pb_record.proofs.ScheduleLemmas.{no_such_arm, no_such_process}
+use Rattle.pb_code.proofs.StayingPicks.{no_such_arm, no_such_process}
 
 -- ---- picks that are made
 

@@ -112,6 +112,7 @@ impl<A: Allocator + Clone> Source<A> {
         ensures bank { source_bank self.new ≡ source_bank self.old }
         ensures source { IsSource self.new }
     {
+        // Called for its contract alone, which the proof needs.
         let _ = self.banker.processes();
         let p = pick.process as usize;
         if p >= self.processes.len() {

@@ -26,6 +26,7 @@ fn takes_over(alloc: Global, code: &Verified) -> Result<bool, NoMemory> {
     if machine.processes() == 0 {
         return Ok(false);
     }
+    // Called for its contract alone, which the proof needs.
     let _ = code.code();
     copy.set_to(machine.proc(0));
     Ok(had_none && made == 2 && has_operands(&copy, &[1, 0]))

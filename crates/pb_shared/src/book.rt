@@ -54,6 +54,7 @@ impl<'v, C: CodeBrand> Book<'v, C> {
         requires limit { limit ≤ MAX_PICKS }
         ensures { IfOk result (λ b. b ≡ new_ledger C.code limit) }
     {
+        // Called for its contract alone, which the proof needs.
         let _ = code.code();
         let machine = Machine::new(alloc, code)?;
         let count = machine.processes();

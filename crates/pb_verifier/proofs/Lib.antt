@@ -13,6 +13,7 @@ pub mod HeldAmounts
 pub mod LimitTests
 pub mod LiveSteps
 pub mod LoansWithinClaims
+pub mod NamedBundles
 pub mod OptionalResults
 pub mod PeakTables
 pub mod ProcessFaults

@@ -7,7 +7,8 @@ use Rattle.pb_machine.specs.Views.{machine_view, proc_view, thread_view}
 use Rattle.pb_machine.proofs.GivenCode.{codes_number, code_at}
 use Rattle.pb_circles.specs.Links.{IsLinkOf}
 use Rattle.pb_circles.proofs.LinkLemmas.{links_made, none_in, not_asking}
-use Rattle.pb_circles.proofs.Requests.{names_bundles, asks_in, asked_so, machine_count, rows_count, lender_is}
+use Rattle.pb_verifier.proofs.NamedBundles.{names_bundles}
+use Rattle.pb_circles.proofs.Requests.{asks_in, asked_so, machine_count, rows_count, lender_is}
 use Rattle.pb_circles.proofs.link.arm_link.Goals as goal
 
 pub index-requires : goal.index-requires

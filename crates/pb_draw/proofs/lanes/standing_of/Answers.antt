@@ -1,18 +1,19 @@
-use Rattle.std.proofs.Common.{◌≡◌, ◌<◌, ℕ, length, sym, ap, ◌∙◌, subst, arith}
+use Rattle.std.proofs.Common.{◌<◌, length, sym, ap, ◌∙◌, subst, arith}
 use Rattle.std.specs.Prelude.{All}
 use Rattle.std.specs.Option.{is_some}
 use Rattle.pb_banker.specs.Lenders.{lender_state, lending_by}
 use Rattle.pb_base.specs.Banker.{BankerState, processes, resources, IsWithinClaim}
 use Rattle.pb_base.specs.declared.lending.Lending.{Lending}
 use Rattle.pb_base.specs.declared.pick.Pick.{Pick}
-use Rattle.pb_circles.proofs.Requests.{asked_so, asks_in, lender_is, machine_count, names_bundles, request_below, request_within_claim, rows_count}
+use Rattle.pb_verifier.proofs.NamedBundles.{names_bundles}
+use Rattle.pb_circles.proofs.Requests.{asked_so, asks_in, lender_is, bundle_below, bundle_within_claim, machine_count, rows_count}
 use Rattle.pb_code.specs.View.{process_view}
 use Rattle.pb_machine.proofs.GivenCode.{codes_number, code_at}
 use Rattle.pb_machine.specs.Looks.{IsLiveArm}
 use Rattle.pb_machine.specs.Views.{machine_view, place_of_thread, proc_view, thread_view}
 use Rattle.pb_draw.specs.Lanes.{IsAsking, IsStanding}
-use Rattle.pb_draw.specs.declared.drawing.Standing.TheVariants.{Away, Going}
-use Rattle.pb_draw.proofs.Standings.{asking_so, asks_live, has_place, no_arm, no_place, no_process, pick_is}
+use Rattle.pb_draw.specs.declared.drawing.Standing.TheVariants.{Going}
+use Rattle.pb_draw.proofs.Standings.{asking_so, asks_live, has_place, no_arm, no_process, pick_is}
 use Rattle.pb_draw.proofs.lanes.standing_of.Goals as goal
 use Rattle.pb_draw.proofs.lanes.standing_of.Goals.{then-processes-p-via-then-processes-p}
 use Rattle.pb_draw.proofs.lanes.standing_of.Goals.{then-processes-p-via-else-processes-p+then-arms-arm}
@@ -81,7 +82,7 @@ asking-requires-clause-below c =
     c.proc-2.ensures.state c.thread-thread.ensures c.in-Some.bundle.now c.in-Some.ensures.some in
     subst (λ (s : BankerState). All (λ pair. pair.resource < resources s) c.in-Some.bundle.now)
     (sym (lender_is c.requires.0 v m c.requires.1 c.lender.result.now c.lender.ensures.bank))
-    (request_below c.requires.0 v c.code-code.ensures.verified (machine_view m) c.requires.1.reached
+    (bundle_below c.requires.0 v c.code-code.ensures.verified (machine_view m) c.requires.1.reached
     (record { process = c.from-p.result; arm = c.from-arm.result }) c.in-Some.bundle.now asks)
 
 pub asking-requires-clause-within_claim : goal.asking-requires-clause-within_claim
@@ -100,7 +101,7 @@ asking-requires-clause-within_claim c =
     c.proc-2.ensures.state c.thread-thread.ensures c.in-Some.bundle.now c.in-Some.ensures.some in
     subst (λ (s : BankerState). IsWithinClaim s c.from-p.result c.in-Some.bundle.now)
     (sym (lender_is c.requires.0 v m c.requires.1 c.lender.result.now c.lender.ensures.bank))
-    (request_within_claim c.requires.0 v c.code-code.ensures.verified (machine_view m) c.requires.1.reached
+    (bundle_within_claim c.requires.0 v c.code-code.ensures.verified (machine_view m) c.requires.1.reached
     (record { process = c.from-p.result; arm = c.from-arm.result }) c.in-Some.bundle.now asks)
 
 pub returns-in-Some : goal.returns-in-Some

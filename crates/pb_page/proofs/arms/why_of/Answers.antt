@@ -10,11 +10,12 @@ use Rattle.pb_code.specs.Whole.{bank_of}
 use Rattle.pb_debug_texts.specs.Reasons.{IsReasonBy}
 use Rattle.pb_machine.proofs.EitherLending.{good_reached}
 use Rattle.pb_machine.proofs.GivenCode.{codes_number, code_at, code_is}
+use Rattle.pb_machine.proofs.Requests.{request_below, request_within_claim, stands_so}
 use Rattle.pb_machine.specs.Turns.{IsAtTake}
 use Rattle.pb_machine.specs.Views.{machine_view, thread_view}
 use Rattle.pb_page.specs.States.{asking, not_asking, thread_at}
 use Rattle.pb_page.proofs.PartsMore.{if_ok, process_is}
-use Rattle.pb_page.proofs.Requests.{names_bundles, below, within_claim, stands_so}
+use Rattle.pb_verifier.proofs.NamedBundles.{names_bundles}
 use Rattle.pb_verifier.specs.declared.fault.VerifyFault.TheVariants.{OutOfLimits}
 use Rattle.pb_page.proofs.arms.why_of.Goals as goal
 
@@ -69,7 +70,7 @@ reason-requires-clause-below c =
     let stands = stands_so (process_view c.index-code.result.now) _ (thread_view c.thread.result.now) c.args.arm c.thread.ensures
     c.in-Some.bundle.now c.in-Some.ensures.some in
     subst (λ (b : BankerState). All (λ pair. pair.resource < resources b) c.in-Some.bundle.now) (sym e)
-    (below (lending_by c.args.machine.now.bank) v c.code.ensures.verified s c.requires.machine.reached c.args.p c.args.arm _ _ code c.proc.ensures.state
+    (request_below (lending_by c.args.machine.now.bank) v c.code.ensures.verified s c.requires.machine.reached c.args.p c.args.arm _ _ code c.proc.ensures.state
     c.in-Some.bundle.now stands)
 
 pub reason-requires-clause-within_claim : goal.reason-requires-clause-within_claim
@@ -87,7 +88,7 @@ reason-requires-clause-within_claim c =
     let stands = stands_so (process_view c.index-code.result.now) _ (thread_view c.thread.result.now) c.args.arm c.thread.ensures
     c.in-Some.bundle.now c.in-Some.ensures.some in
     subst (λ (b : BankerState). IsWithinClaim b c.args.p c.in-Some.bundle.now) (sym e)
-    (within_claim (lending_by c.args.machine.now.bank) v c.code.ensures.verified s c.requires.machine.reached c.args.p c.args.arm _ _ code c.proc.ensures.state
+    (request_within_claim (lending_by c.args.machine.now.bank) v c.code.ensures.verified s c.requires.machine.reached c.args.p c.args.arm _ _ code c.proc.ensures.state
     c.in-Some.bundle.now stands)
 
 pub returns-in_ok-why-in-Some : goal.returns-in_ok-why-in-Some

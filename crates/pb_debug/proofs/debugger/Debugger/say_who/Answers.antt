@@ -11,7 +11,7 @@ use Rattle.pb_code.specs.Whole.{Code}
 use Rattle.pb_verifier.specs.declared.fault.VerifyFault.TheVariants.{OutOfLimits}
 use Rattle.pb_debug_texts.specs.Resources.{who_text}
 use Rattle.pb_debug.specs.Value.{Debugging, bank_state, state_of}
-use Rattle.pb_debug.proofs.Requests.{names_bundles}
+use Rattle.pb_verifier.proofs.NamedBundles.{names_bundles}
 use Rattle.pb_debug.proofs.Positions.{as_many}
 use Rattle.pb_debug.proofs.ResourceTexts.{bank_here, placed, state_here, who_here}
 use Rattle.pb_base.proofs.Results.{on_ok}

@@ -5,11 +5,13 @@ use Rattle.pb_base.specs.declared.lending.Lending.{Lending}
 use Rattle.pb_base.specs.Banker.{BankerState, processes, resources, IsWithinClaim}
 use Rattle.pb_code.specs.View.{process_view}
 use Rattle.pb_machine.specs.Views.{thread_view}
+use Rattle.pb_machine.proofs.Requests.{request_below, request_within_claim, stands_so}
 use Rattle.pb_machine.proofs.GivenCode.{codes_number, code_at}
+use Rattle.pb_verifier.proofs.NamedBundles.{names_bundles}
 use Rattle.pb_verifier.specs.declared.fault.VerifyFault.TheVariants.{OutOfLimits}
 use Rattle.pb_debug.specs.Value.{Debugging, state_of, bank_state}
 use Rattle.pb_debug_texts.specs.Reasons.{IsReasonBy}
-use Rattle.pb_debug.proofs.Requests.{names_bundles, below, within_claim, asks, asks_in, asked_so, why_is}
+use Rattle.pb_debug.proofs.Requests.{asks_in, asked_so, why_is}
 use Rattle.pb_debug.proofs.Positions.{in_code, reached}
 use Rattle.pb_debug.proofs.debugger.Debugger.why.Goals as goal
 
@@ -49,10 +51,10 @@ reason-requires-clause-below c =
     let lt = in_code d replay c.args.p _ there in
     let within : c.args.p < length given.processes.items = omega (arith, lt, codes_number given d.verified.code same) in
     let code = code_at given d.verified.code same c.args.p c.index.result.now within c.index.ensures in
-    let stands = asks d c.args.p c.args.arm (process_view c.index.result.now) _ (thread_view c.thread.result.now) code
-    there c.thread.ensures c.in-Some.bundle.now c.in-Some.ensures.some in
+    let stands = stands_so (process_view c.index.result.now) _ (thread_view c.thread.result.now) c.args.arm c.thread.ensures
+    c.in-Some.bundle.now c.in-Some.ensures.some in
     subst (λ (s : BankerState). All (λ pair. pair.resource < resources s) c.in-Some.bundle.now) (sym c.loans.ensures.shown)
-    (below d.lending d.verified replay.verified (state_of d) (reached d replay) c.args.p c.args.arm _ _ code there c.in-Some.bundle.now stands)
+    (request_below d.lending d.verified replay.verified (state_of d) (reached d replay) c.args.p c.args.arm _ _ code there c.in-Some.bundle.now stands)
 
 pub reason-requires-clause-within_claim : goal.reason-requires-clause-within_claim
 reason-requires-clause-within_claim c =
@@ -64,10 +66,10 @@ reason-requires-clause-within_claim c =
     let lt = in_code d replay c.args.p _ there in
     let within : c.args.p < length given.processes.items = omega (arith, lt, codes_number given d.verified.code same) in
     let code = code_at given d.verified.code same c.args.p c.index.result.now within c.index.ensures in
-    let stands = asks d c.args.p c.args.arm (process_view c.index.result.now) _ (thread_view c.thread.result.now) code
-    there c.thread.ensures c.in-Some.bundle.now c.in-Some.ensures.some in
+    let stands = stands_so (process_view c.index.result.now) _ (thread_view c.thread.result.now) c.args.arm c.thread.ensures
+    c.in-Some.bundle.now c.in-Some.ensures.some in
     subst (λ (s : BankerState). IsWithinClaim s c.args.p c.in-Some.bundle.now) (sym c.loans.ensures.shown)
-    (within_claim d.lending d.verified replay.verified (state_of d) (reached d replay) c.args.p c.args.arm _ _ code there c.in-Some.bundle.now stands)
+    (request_within_claim d.lending d.verified replay.verified (state_of d) (reached d replay) c.args.p c.args.arm _ _ code there c.in-Some.bundle.now stands)
 
 pub returns-in_ok-reason-in-Some-clause-why : goal.returns-in_ok-reason-in-Some-clause-why
 returns-in_ok-reason-in-Some-clause-why c =
