@@ -4,6 +4,7 @@
 use pb_base::{StandardInput, StandardOutput};
 use pb_command_io::{Page, Status};
 use pb_explained::answer_and_explain;
+use pb_json_lines::LiveOutput;
 use pb_messages::{KeptInput, StandardError};
 use std::alloc::{AllocError, Global};
 use std::env;
@@ -16,7 +17,7 @@ use std::thread::Threads;
 fn start<R: env::Env + AllocGlobal + Threads + Wait + Sync>(
     rt: &R,
     input: &mut KeptInput<StandardInput>,
-    output: &mut StandardOutput,
+    output: &mut LiveOutput<StandardOutput>,
     error: &mut StandardError,
 ) -> Status {
     let alloc = rt.alloc();
@@ -40,7 +41,7 @@ fn start<R: env::Env + AllocGlobal + Threads + Wait + Sync>(
 
 fn main(rt: HostRuntime) -> ExitCode {
     let mut input = KeptInput::new(rt.alloc(), StandardInput::new(rt.stdin()));
-    let mut output = StandardOutput::new(rt.stdout());
+    let mut output = LiveOutput::new(rt.alloc(), StandardOutput::new(rt.stdout()));
     let mut error = StandardError::new(rt.stderr());
     ExitCode::from(start(&rt, &mut input, &mut output, &mut error).number())
 }

@@ -8,9 +8,11 @@ use Rattle.pb_base.specs.Device.{appended, one_more_failure, AddsPrefix}
 use Rattle.pb_answer.specs.Calls.{CallTellsFaults, CallWrites}
 use Rattle.pb_command_io.specs.Faults.{Devices, TellsFaults}
 use Rattle.pb_command_io.specs.declared.status.Status.{Status}
-use Rattle.pb_command_io.specs.declared.status.Status.TheVariants.{Limit, Refused}
-use Rattle.pb_json_lines.specs.Dialects.{dialect_of}
+use Rattle.pb_command_io.specs.declared.status.Status.TheVariants.{Done, Limit, Refused}
+use Rattle.pb_json_lines.specs.Dialects.{comes_live, dialect_of}
+use Rattle.pb_json_lines.specs.Live.{IsEnded, LiveSink, begun, failures_of_writers, seen_by_writers}
 use Rattle.pb_json_lines.specs.Replies.{TellsInJson}
+use Rattle.pb_json_lines.specs.declared.form.Dialect.{Dialect}
 use Rattle.pb_messages.specs.LiveInputs.{SaysOfLiveInput}
 use Rattle.pb_messages.specs.Said.{SaysToPerson}
 use Rattle.pb_messages.specs.declared.message.Reading.{Reading}
@@ -139,17 +141,43 @@ WritesJson words rest old new status =
     (bytes : List ℕ) × (given : Status) × CallWrites words rest (Some []) (Some bytes) given
     × TellsInJson (dialect_of (map (λ word. word.now) words) given) bytes given old new status
 
+-- the devices of a call, as they are seen who writes to its output
+abbrev pub devices_of : (reads : ℕ) → LiveSink → Devices
+devices_of reads s = record { reads = reads; writes = failures_of_writers s; written = seen_by_writers s }
+
+-- an answer in JSON lines that come as the command goes on: the command writes to the output, which has begun to tell
+-- lines in these forms, and then what is left of them is told
+pub record AnswersLive (dialect : Dialect) (words : List (Bor Text)) (rest left : Option (List ℕ)) (reads_old reads_new : ℕ)
+    (old new : LiveSink) (status : Status) : Type 0 where
+  pub given : Status
+  pub heard : LiveSink
+  pub writes : CallWrites words rest (seen_by_writers (begun dialect old)) (seen_by_writers heard) given
+  pub faults : CallTellsFaults words rest left (devices_of reads_old (begun dialect old)) (devices_of reads_new heard) given
+  pub ended : IsEnded heard given new status
+
+-- an answer in JSON lines, by whether those of the command come as it goes on, or at its end
+abbrev pub AnswersInJson : (live : Bool) → (words : List (Bor Text)) → (rest left : Option (List ℕ)) → (reads_old reads_new : ℕ)
+    → (old new : LiveSink) → Status → Type 0
+AnswersInJson true words rest left reads_old reads_new old new status =
+    AnswersLive (dialect_of (map (λ word. word.now) words) Done) words rest left reads_old reads_new old new status
+AnswersInJson false words rest left reads_old reads_new old new status =
+    WritesJson words rest (seen_by_writers old) (seen_by_writers new) status
+    × TellsFaults (devices_of reads_old old) (devices_of reads_new new) status
+
 -- the answer of a call, as it is or in JSON lines
-abbrev pub Answers : (json : Bool) → (words : List (Bor Text)) → (rest left : Option (List ℕ)) → Devices → Devices → Status → Type 0
-Answers false words rest left old new status =
-    CallWrites words rest old.written new.written status × CallTellsFaults words rest left old new status
-Answers true words rest left old new status = WritesJson words rest old.written new.written status × TellsFaults old new status
+abbrev pub Answers : (json : Bool) → (words : List (Bor Text)) → (rest left : Option (List ℕ)) → (reads_old reads_new : ℕ)
+    → (old new : LiveSink) → Status → Type 0
+Answers false words rest left reads_old reads_new old new status =
+    CallWrites words rest (seen_by_writers old) (seen_by_writers new) status
+    × CallTellsFaults words rest left (devices_of reads_old old) (devices_of reads_new new) status
+Answers true words rest left reads_old reads_new old new status =
+    AnswersInJson (comes_live (dialect_of (map (λ word. word.now) words) Done)) words rest left reads_old reads_new old new status
 
 -- the answer of a call is on its output, in JSON lines if `--json` is the first word but for `--quiet`, and what a
 -- person is told of it on standard error; the words are read without these two
-abbrev pub AnswersAndExplains : (words : List (Bor Text)) → (rest left kept : Option (List ℕ))
-    → (old new error_old error_new : Devices) → Status → Type 0
-AnswersAndExplains words rest left kept old new error_old error_new status =
+abbrev pub AnswersAndExplains : (words : List (Bor Text)) → (rest left kept : Option (List ℕ)) → (reads_old reads_new : ℕ)
+    → (old new : LiveSink) → (error_old error_new : Devices) → Status → Type 0
+AnswersAndExplains words rest left kept reads_old reads_new old new error_old error_new status =
     (heard : List (Bor Text)) × (said : List (Bor Text)) × (json : Bool)
     × IsWithout (codes "--quiet") words heard × IsWithout (codes "--json") heard said × (IsTrue json ↔ IsInJson heard)
-    × Answers json said rest left old new status × TellsPerson words said status kept error_old error_new
+    × Answers json said rest left reads_old reads_new old new status × TellsPerson words said status kept error_old error_new

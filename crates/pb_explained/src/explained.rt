@@ -9,6 +9,7 @@ use crate::in_json::answer_in_json;
 use pb_answer::answer::answer;
 use pb_base::{Input, Output};
 use pb_command_io::Status;
+use pb_json_lines::LiveOutput;
 use pb_messages::KeptInput;
 use std::alloc::Global;
 use std::sync::Wait;
@@ -16,18 +17,17 @@ use std::thread::Threads;
 
 /// Does what the words of a call say, of which the first is the program's own name, and explains a refusal, or how a
 /// limit is raised, on standard error, unless the next word is `--quiet`. If `--json` is the next word, or the one behind `--quiet`, the
-/// answer is JSON lines. Returns the status of the call.
+/// answer is JSON lines, those of `debug` and `bank` as they come. Returns the status of the call.
 pub fn answer_and_explain<I: Input, O: Output, E: Output, R: Threads + Wait + Sync>(
     rt: &R,
     alloc: Global,
     words: &[&str],
     input: &mut KeptInput<I>,
-    output: &mut O,
+    output: &mut LiveOutput<O>,
     error: &mut E,
 ) -> Status
     ensures { AnswersAndExplains words.now input.old.rest input.new.rest input.new.kept
-        (record { reads = input.old.failures; writes = O.failures output.old; written = O.written output.old })
-        (record { reads = input.new.failures; writes = O.failures output.new; written = O.written output.new })
+        input.old.failures input.new.failures output.old output.new
         (record { reads = input.old.failures; writes = E.failures error.old; written = E.written error.old })
         (record { reads = input.new.failures; writes = E.failures error.new; written = E.written error.new })
         result }
@@ -55,12 +55,10 @@ fn answer_as<I: Input, O: Output, R: Threads + Wait + Sync>(
     json: bool,
     words: &[&str],
     input: &mut KeptInput<I>,
-    output: &mut O,
+    output: &mut LiveOutput<O>,
 ) -> Status
-    ensures { Answers json words.now input.old.rest input.new.rest
-        (record { reads = input.old.failures; writes = O.failures output.old; written = O.written output.old })
-        (record { reads = input.new.failures; writes = O.failures output.new; written = O.written output.new })
-        result }
+    ensures { Answers json words.now input.old.rest input.new.rest input.old.failures input.new.failures
+        output.old output.new result }
 {
     if json {
         answer_in_json(rt, alloc, words, input, output)

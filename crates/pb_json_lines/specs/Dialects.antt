@@ -47,3 +47,11 @@ abbrev pub dialect_of : List (List ℕ) → Status → Dialect
 dialect_of [] status = Program
 dialect_of (name ∷ []) status = Program
 dialect_of (name ∷ command ∷ words) status = dialect_for command words status
+
+-- the lines of these commands are told as they come, each by itself
+abbrev pub comes_live : Dialect → Bool
+comes_live Program = false
+comes_live Record = false
+comes_live Debug = true
+comes_live Bank = true
+comes_live Explain = false

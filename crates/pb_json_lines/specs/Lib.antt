@@ -2,6 +2,7 @@ pub mod Dialects
 pub mod Forms
 pub mod JsonLines
 pub mod Lists
+pub mod Live
 pub mod Patterns
 pub mod PlainForms
 pub mod ProgramForms

@@ -81,3 +81,14 @@ pub fn dialect_of(words: &[&str], status: Status) -> Dialect
         _ => Dialect::Program,
     }
 }
+
+/// Returns whether the lines of a command are told as they come, each by itself: no object of theirs has a list of
+/// the lines behind it.
+pub fn comes_live(dialect: Dialect) -> bool
+    ensures { result ≡ spec.comes_live dialect }
+{
+    match dialect {
+        Dialect::Debug | Dialect::Bank => true,
+        Dialect::Program | Dialect::Record | Dialect::Explain => false,
+    }
+}

@@ -8,7 +8,7 @@ use pb_base::NoMemory;
 use std::alloc::Global;
 
 /// Returns the place of the first line feed.
-fn line_feed(text: &[u8]) -> Option<usize>
+pub(crate) fn line_feed(text: &[u8]) -> Option<usize>
     ensures place { result ≡ position (λ b. b == 10) text.now }
     ensures within { IfSome result (λ at. at < length text.now) }
 {

@@ -26,7 +26,7 @@ fn put_said(out: &mut Vec<u8>, dialect: Dialect, is_open: bool, text: &[u8]) -> 
 
 /// Appends the object of a line.
 #[tactic(auto, unfolding(crate::specs::JsonLines::object_of))]
-fn put_object(
+pub(crate) fn put_object(
     out: &mut Vec<u8>,
     dialect: Dialect,
     is_open: bool,

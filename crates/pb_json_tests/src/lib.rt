@@ -6,4 +6,6 @@ mod dialects;
 #[cfg(test)]
 mod lines;
 #[cfg(test)]
+mod live;
+#[cfg(test)]
 mod replies;

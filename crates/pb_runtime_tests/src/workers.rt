@@ -2,7 +2,7 @@
 
 use crate::codes::{DEVICES, DIVIDES, FORKS, INCREMENTS, PRINT, PRINTS, TURNS, verified};
 use crate::examples::EXAMPLES;
-use pb_base::{Event, FaultKind, NoMemory, Pick};
+use pb_base::{NoMemory, Pick};
 use pb_codegen::compile;
 use pb_history::Trace;
 use pb_history::replay::replay;
@@ -42,33 +42,13 @@ impl Gate for EverySecond {
     }
 }
 
-/// What an event says, except for the amounts of a bundle.
-#[derive(Clone, Copy, PartialEq, Eq, Debug)]
-enum Seen {
-    Granted(u8, u8),
-    Returned(u8, u8),
-    Printed(u8, u8, i64),
-    Faulted(u8, u8, FaultKind),
-    Finished(u8),
-}
-
-fn seen_in(event: Event) -> Seen {
-    match event {
-        Event::Granted { pick, .. } => Seen::Granted(pick.process, pick.arm),
-        Event::Returned { pick, .. } => Seen::Returned(pick.process, pick.arm),
-        Event::Printed { pick, value } => Seen::Printed(pick.process, pick.arm, value),
-        Event::Faulted { pick, kind } => Seen::Faulted(pick.process, pick.arm, kind),
-        Event::Finished { process } => Seen::Finished(process),
-    }
-}
-
 /// Returns whether both traces have the same events in the same order.
 fn same_events(one: &Trace, other: &Trace) -> bool {
     if one.events_len() != other.events_len() {
         return false;
     }
     for i in 0..one.events_len() {
-        if i < other.events_len() && seen_in(one.event(i)) != seen_in(other.event(i)) {
+        if i < other.events_len() && one.event(i) != other.event(i) {
             return false;
         }
     }

@@ -8,7 +8,7 @@ use Rattle.pb_json_lines.specs.Replies.{Gathering, ReadFailed, SaysInJson}
 use Rattle.pb_json_lines.specs.declared.form.Dialect.{Dialect}
 use Rattle.pb_json_lines.proofs.ReplyLemmas.{told_faults, told_text}
 use Rattle.pb_explained.proofs.JsonLemmas.{gathered_faults}
-use Rattle.pb_explained.proofs.in_json.answer_in_json.Goals as goal
+use Rattle.pb_explained.proofs.in_json.answer_at_the_end.Goals as goal
 
 pub returns-clause-text : goal.returns-clause-text
 returns-clause-text g c =
