@@ -11,9 +11,11 @@ from __future__ import annotations
 
 import json
 import re
+import select
+import subprocess
 from typing import Any
 
-from calls import DONE, FAULT, REFUSED, TOP, Tally, call
+from calls import DONE, FAULT, REFUSED, TOP, WATCHDOG, Tally, call, program
 
 SCHEMA = json.loads((TOP / "docs/schema/json_lines.schema.json").read_text())
 EXPECTED = TOP / "examples/expected/calls.txt"
@@ -252,6 +254,24 @@ def calls() -> list[tuple[list[str], bytes]]:
     return made
 
 
+def try_session(tally: Tally, words: list[str], first: bytes, steps: dict[bytes, str]) -> None:
+    """Drives a session, and wants an object of this kind of each command before the next one is sent."""
+    with subprocess.Popen([program(), "--json", *words], stdin=subprocess.PIPE, stdout=subprocess.PIPE) as session:
+        assert session.stdin and session.stdout
+        session.stdin.write(first)
+        for command, kind in steps.items():
+            session.stdin.write(command + b"\n")
+            session.stdin.flush()
+            came = bool(select.select([session.stdout], [], [], WATCHDOG)[0])
+            made = json.loads(session.stdout.readline()) if came else {}
+            tally.expect(made.get("kind") == kind, "not at once:", *words, command, made)
+            if not came:
+                session.kill()
+                return
+        session.stdin.close()
+        tally.expect(session.wait(WATCHDOG) == DONE, "the end of a session of", *words)
+
+
 def main() -> None:
     tally = Tally()
     for words, given in calls():
@@ -260,6 +280,9 @@ def main() -> None:
     tally.expect((status, text) == (DONE, b'{"kind":"print","process":"p","arm":0,"value":7}\n{"kind":"end","process":"p"}\n{"kind":"done"}\n'), text)
     tally.expect(call(["--json", "run"], b"process")[0] == REFUSED, "a refused text")
     tally.expect(call(["--json", "run"], b"process p begin print 1 div 0 end\n")[0] == FAULT, "a fault")
+    try_session(tally, ["debug", "--live"], (TOP / "examples/devices.pb").read_bytes() + b"%%\na.0 1\n%%\n",
+                {b"to 1": "at", b"why b.0": "not asking", b"nonsense": "refused", b"prev": "at"})
+    try_session(tally, ["bank"], b"", {b"resource tape 3": "ready", b"job a 2 tape": "ready", b"hold a 1 tape": "held", b"nonsense": "refused"})
     tally.end("json lines")
 
 
