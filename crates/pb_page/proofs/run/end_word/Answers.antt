@@ -4,17 +4,17 @@ use Rattle.pb_history.specs.Entries.{Entry, picks_of}
 use Rattle.pb_page.specs.Runs.{cut, whole}
 use Rattle.pb_page.proofs.run.end_word.Goals as goal
 
-pub returns-then : goal.returns-then
-returns-then c =
+pub returns-then-last-len : goal.returns-then-last-len
+returns-then-last-len c =
     let many = length-map c.args.trace.now.entries (λ (e : Entry). e.pick) in
-    let test = c.if.true in
+    let test = c.if-last-len.true in
     let len = c.len.ensures in
     cut (omega (arith, many, test, len))
 
-pub returns-else : goal.returns-else
-returns-else c =
+pub returns-else-last-len : goal.returns-else-last-len
+returns-else-last-len c =
     let many = length-map c.args.trace.now.entries (λ (e : Entry). e.pick) in
-    let test = c.if.false in
+    let test = c.if-last-len.false in
     let len = c.len.ensures in
     let within = c.requires in
     whole (omega (arith, many, test, len, within))

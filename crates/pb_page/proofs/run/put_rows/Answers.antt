@@ -3,6 +3,7 @@ use Rattle.std.proofs.lemmas.List.{append-nil}
 use Rattle.pb_history.specs.Entries.{picks_of}
 use Rattle.pb_json.specs.Values.{comma}
 use Rattle.pb_page.specs.Rows.{IsRow}
+use Rattle.pb_page.specs.Runs.{AreRows}
 use Rattle.pb_page.proofs.PartsMore.{one_part_more}
 use Rattle.pb_page.proofs.run.put_rows.Goals as goal
 
@@ -48,3 +49,16 @@ loop-k-preserved c =
             (made.row.2 lending (before.walks lending walks) (before.state lending walks is)), refl),
       );
     }
+
+pub returns-clause-rows : goal.returns-clause-rows
+returns-clause-rows c =
+    let rows = c.loop-k.invariant.rows in
+    let test = c.loop-k-test.false in
+    let past = c.loop-k.auto.k-end in
+    let e : c.loop-k.k ≡ c.args.rows = omega (arith, test, past) in (
+      rows.0,
+      rows.1,
+      λ lending walks is.
+          subst (λ (n : ℕ). AreRows lending c.args.verified.now.code (picks_of c.args.trace.now.entries) c.args.walker.now.at n rows.0) e
+          (rows.2 lending walks is),
+    )
