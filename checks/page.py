@@ -126,7 +126,7 @@ def ends_of(lines: list[str]) -> dict[str, set[tuple[str, ...]]]:
 def look_at_ends(tally: Tally, it: Any, path: Path, text: str, lend: str) -> None:
     """Compares the ends of all schedules with those that `outcomes` says, and replays the ways to them."""
     it.open(path, f"picks=&lend={lend}")
-    if it.js("view.program.data.lend") != lend:
+    if it.js("view.graph?.program.data.lend") != lend:
         return
     _, said = call(["outcomes", "--lend", lend], f"{text}\n".encode())
     lines, shown = said.decode().splitlines(), it.js(ENDS)
@@ -147,7 +147,7 @@ def look_at_ends(tally: Tally, it: Any, path: Path, text: str, lend: str) -> Non
 def look_at_walk(tally: Tally, it: Any, path: Path, lend: str) -> None:
     """Walks by clicks on arms to an end, and back by a key."""
     it.open(path, f"picks=&lend={lend}")
-    if it.js("view.program.data.lend") != lend:
+    if it.js("view.graph?.program.data.lend") != lend:
         return
     draw, nodes = random.Random(1), [0]
     enabled = "[...document.querySelectorAll('button.arm')].map((it) => it.getAttribute('aria-disabled') !== 'true')"
@@ -257,7 +257,7 @@ def look_at_hostile(tally: Tally, it: Any, folder: Path) -> None:
 def look_at_drawing(tally: Tally, it: Any, path: Path, text: str) -> None:
     """Compares the drawing of who holds and asks for what, at each deadlock by the cash alone, with what `outcomes` says."""
     it.open(path, "picks=&lend=cash")
-    if it.js("view.program.data.lend") != "cash":
+    if it.js("view.graph?.program.data.lend") != "cash":
         return
     _, said = call(["outcomes", "--lend", "cash"], f"{text}\n".encode())
     wanted = set()

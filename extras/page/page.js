@@ -579,8 +579,8 @@ class Run {
       happened = [chip(program, row[0]), ` ${done(program, before, state, row, 2)}`, h("span.line", null, where)];
     }
     const ending = this.at === rows.length ? this.ending(state) : null;
-    draw({ program, state, changed, picked: row ? row[0] : null, lend: program.data.lend, happened, ending });
     drawWaits(program, state);
+    draw({ program, state, changed, picked: row ? row[0] : null, lend: program.data.lend, happened, ending });
     this.list.mark(this.at);
     this.lanes.mark(this.at);
     this.slider.value = this.at;
