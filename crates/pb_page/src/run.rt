@@ -150,11 +150,7 @@ fn end_word<'a>(trace: &Trace, last: u32, ending: &'a [u8]) -> &'a [u8]
     requires { last ≤ length (picks_of trace.now.entries) }
     ensures { IsEnd (picks_of trace.now.entries) ending.now last result.now }
 {
-    if last < trace.len() {
-        b"more"
-    } else {
-        ending
-    }
+    if last < trace.len() { b"more" } else { ending }
 }
 
 /// Returns the document of the run with this trace, which is of a replay of the code under this lending, with its

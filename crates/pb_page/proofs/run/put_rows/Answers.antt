@@ -44,9 +44,12 @@ loop-k-preserved c =
             ∙ (ap (λ (t : List ℕ). t ++ (comma k ++ row)) before.rows.1 ∙ append_assoc old rows (comma k ++ row)))),
         λ lending walks is.
             one_part_more (λ j part. (row : List ℕ) × IsRow lending v.code picks (from + j) row × (part ≡ comma j ++ row)) k rows (comma k ++ row)
-            (before.rows.2 lending walks is)
-            (row, subst (λ (i : ℕ). IsRow lending v.code picks i row) at
-            (made.row.2 lending (before.walks lending walks) (before.state lending walks is)), refl),
+            (before.rows.2 lending walks is) (
+              row,
+              subst (λ (i : ℕ). IsRow lending v.code picks i row) at
+                  (made.row.2 lending (before.walks lending walks) (before.state lending walks is)),
+              refl,
+            ),
       );
     }
 
