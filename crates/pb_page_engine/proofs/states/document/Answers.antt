@@ -1,5 +1,5 @@
-use Rattle.std.proofs.Common.{List, ℕ, ap, sym, ◌∙◌, subst}
-use Rattle.pb_accept.specs.ReplayLines.{IsEnding, last_line}
+use Rattle.std.proofs.Common.{List, ℕ, sym, subst}
+use Rattle.pb_accept.specs.ReplayLines.{IsEnding}
 use Rattle.pb_history.specs.Entries.{picks_of}
 use Rattle.pb_history.specs.Positions.{AreEnabledBy}
 use Rattle.pb_machine.specs.Views.{IsMachineBy, machine_view}
