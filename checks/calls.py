@@ -132,6 +132,7 @@ def inputs():
         yield f"replay --lend cash {name}", ["replay", "--lend", "cash"], recorded(text)
         yield f"draw --lend cash {name}", ["draw", "--lend", "cash"], recorded(text)
         yield f"states {name}", ["states"], recorded(text)
+        yield f"states --lend cash {name}", ["states", "--lend", "cash"], recorded(text)
         yield f"debug {name}", ["debug"], debugged(text)
         yield f"debug --live {name}", ["debug", "--live"], debugged(text)
         yield f"debug --lend cash {name}", ["debug", "--lend", "cash"], debugged(text)

@@ -1,15 +1,16 @@
 #!/usr/bin/env python3
-"""Makes pages of examples, and compares what Chromium shows of them with what the program says.
+"""Makes pages of examples, and compares what browsers show of them with what the program says.
 
     checks/page.py [PROGRAM]     PROGRAM is the one that ./parbegin has built if none is given
 
-It is run by hand, and needs Debian's package `chromium`. At each position of a run the places, the integers, the lines,
+It is run by hand, and needs Debian's package `chromium`; with `firefox-esr` the same is looked at there. At each position of a run the places, the integers, the lines,
 the reasons, the loans and the cash that the page has must be those that `debug` says; the outcomes and the deadlocks to
 which one can walk must be those that `outcomes` says, by the banker and by the cash alone, and `replay` must make the
-picks that lead there. It walks by clicks: an arm that may not go on says why, and nothing changes. Further it looks at
-keys, the address, contrast, sizes from a telephone to a wide screen, a text that tries to be markup, and that nothing
-is loaded and no message comes. Then it plants faults in page.js, each of which must be found. Its status is 0 if all is
-as wanted, and 1 if not.
+picks that lead there. A run by the cash alone must tell its deadlock, and the drawing of who holds and asks for what
+must be as `outcomes` says it. It walks by clicks: an arm that may not go on says why, and nothing changes. Further it
+looks at keys, the address, contrast, sizes from a telephone to a wide screen, a program without a text, a text that
+tries to be markup, and that nothing is loaded and no message comes. checks/page_bugs.py shows that it finds faults. Its
+status is 0 if all is as wanted, and 1 if not.
 """
 from __future__ import annotations
 
@@ -20,14 +21,19 @@ import shutil
 import sys
 import tempfile
 from pathlib import Path
+from typing import Any
 
 from browser import Browser
 from calls import TOP, Tally, call, program
+from firefox import Firefox
+from page_asks import ALL_DRAWN, CONTRAST, DRAWN, ENDS, LATER, SAYS, STOPS
 
 sys.path.insert(0, str(TOP / "extras/page"))
 import make_page  # noqa: E402
 
 EXAMPLES = ("devices", "lost", "customers", "philosophers")
+# The most bytes of a page without its data.
+MOST_PAGE = 70_000
 SIZES = ((360, 700), (800, 600), (1280, 720), (1920, 1080), (3840, 2160))
 HOSTILE = b"""// </script><script>window.bad = 1</script> <!-- &lt; &amp; \\ " ' \\u003c %%
 process p
@@ -45,136 +51,15 @@ process b begin hold 1 of disk do hold 1 of tape do skip od od end
 process c begin print 1 end
 """
 
-# What the page has of a position, in the form of the debugger's lines.
-SAYS = """(at) => {
-  const it = views[0], {program} = it, [s] = it.state(at), out = [];
-  for (const p of program.processes) {
-    p.integers.forEach((x, i) => out.push(`${x} ${s[program.integerAt(p, i)]}`));
-    const isFaulted = s[p.first] === FAULTED;
-    if (isFaulted) out.push("faulted");
-    for (const g of program.armsOf(p)) {
-      const a = g - p.first;
-      if (!isFaulted) out.push(s[g] === IDLE ? `${a} idle` : s[g] === ENDED ? `${a} ended` : `${a} at ${s[g]}`);
-    }
-    for (const g of program.armsOf(p)) {
-      const line = program.lineOf(s, g), why = s[program.reasons + g];
-      out.push(line ? `line ${line}` : "line none");
-      const cash = () => `cash ${program.cash(s, program.resources[why[1]])} ${program.resources[why[1]].name}`;
-      const rest = () => `rest ${why.slice(1).map((q) => program.processes[q].name).join(" ")}`;
-      out.push(why === 0 ? "not asking" : why === 1 ? "order" : why[0] === "cash" ? cash() : rest());
-    }
-  }
-  for (const p of program.processes) for (const r of program.resources)
-    out.push(`${p.name} holds ${s[program.loanAt(p.p, r.r)]} ${r.name} claim ${p.claims[r.r]}`);
-  for (const r of program.resources) out.push(`cash ${program.cash(s, r)} ${r.name}`);
-  return out;
-}"""
-
-# The outcomes and the deadlocks of the graph that is shown, in the form of the lines of `outcomes`.
-ENDS = """(() => {
-  const out = {outcome: [], deadlock: []}, {program, graph} = view;
-  graph.ends.forEach((n, i) => {
-    const s = graph.states[n], isDead = graph.isDead(i), lines = [];
-    for (const p of program.processes) {
-      const isFaulted = s[p.first] === FAULTED;
-      lines.push(`${p.name} ${s[p.first] === ENDED ? "ended" : isFaulted ? "faulted" : "waits"}`);
-      p.integers.forEach((x, k) => lines.push(`${p.name}.${x} ${s[program.integerAt(p, k)]}`));
-      if (!isDead) continue;
-      for (const r of program.resources) {
-        const k = s[program.loanAt(p.p, r.r)];
-        if (k) lines.push(`${p.name} holds ${k} ${r.name}`);
-      }
-      for (const g of program.armsOf(p)) {
-        const asks = program.asks(s, g).map(([k, r]) => `${k} ${program.resources[r].name}`);
-        if (asks.length) lines.push(`${program.arms[g].name} asks ${asks.join(" ")}`);
-      }
-    }
-    out[isDead ? "deadlock" : "outcome"].push(lines);
-  });
-  return out;
-})()"""
-
-# Draws each configuration, or some hundreds of them: what is greyed has a reason, and what is not has none.
-ALL_DRAWN = """(() => {
-  const {graph} = view, step = Math.ceil(graph.nodes.length / 200);
-  for (let n = 0; n < graph.nodes.length; n += step) {
-    view.rows = graph.wayTo(n);
-    view.redraw();
-    const text = document.body.innerText;
-    if (view.node !== n || /undefined|NaN|null|\\[object/.test(text)) return `${n}: ${text}`;
-    for (const it of document.querySelectorAll("button.arm[aria-disabled]"))
-      if (!it.querySelector(".why.no, .why.idle")) return `${n}: no reason`;
-    for (const it of document.querySelectorAll("button.arm:not([aria-disabled])"))
-      if (it.querySelector(".why.no, .why.idle")) return `${n}: a reason not to`;
-  }
-  return "";
-})()"""
-
-# Texts whose contrast with what is behind them is less than 4.5.
-CONTRAST = """(() => {
-  const parse = (c) => {
-    const it = c.match(/[\\d.]+/g).map(Number), scale = c.startsWith("color(srgb") ? 255 : 1;
-    return [it[0] * scale, it[1] * scale, it[2] * scale, it[3] ?? 1];
-  };
-  const over = (a, b) => [0, 1, 2].map((i) => a[i] * a[3] + b[i] * (1 - a[3])).concat(1);
-  const part = (v) => (v /= 255) <= 0.04045 ? v / 12.92 : ((v + 0.055) / 1.055) ** 2.4;
-  const light = ([r, g, b]) => 0.2126 * part(r) + 0.7152 * part(g) + 0.0722 * part(b);
-  const behind = (it) => {
-    const all = [];
-    for (; it; it = it.parentElement) all.push(parse(getComputedStyle(it).backgroundColor));
-    return all.reverse().reduce((b, a) => over(a, b), [255, 255, 255, 1]);
-  };
-  const found = [], walk = document.createTreeWalker(document.body, NodeFilter.SHOW_TEXT);
-  while (walk.nextNode()) {
-    const it = walk.currentNode.parentElement;
-    if (!walk.currentNode.data.trim() || !it.checkVisibility() || it.closest("script, svg, dialog")) continue;
-    const back = behind(it), ink = over(parse(getComputedStyle(it).color), back);
-    const [a, b] = [light(ink), light(back)].sort((x, y) => y - x);
-    if ((a + 0.05) / (b + 0.05) < 4.5) found.push(`${it.tagName}.${it.className}: ${walk.currentNode.data.slice(0, 30)}`);
-  }
-  return [...new Set(found)];
-})()"""
-
-# The address is kept with some delay.
-LATER = "new Promise((done) => setTimeout(() => done(location.hash), 300))"
-
-# Faults of page.js: what stands there, and what is put in its place.
-PLANTED = (
-    ("changed.add(row[i]);", ""),
-    ("this.integers + process.firstInteger + i", "this.integers + i"),
-    ("p * this.resources.length + r", "p + r"),
-    ("this.reasons = 2 * this.hands;", "this.reasons = this.hands;"),
-    ("this.processes[p].first + a, 1", "this.processes[p].first, 1"),
-    ("Number(this.next(state, arm)[0])", "Number(this.next(state, arm)[0]) + 1"),
-    ("left - state[this.loanAt(p, r)], capital", "left + state[this.loanAt(p, r)], capital"),
-    ("claims: claims.map(Number)", "claims: entries"),
-    ("ArrowLeft: () => this.go(this.at - 1), ArrowRight", "ArrowLeft: () => this.go(this.at + 1), ArrowRight"),
-    ("End: () => this.go(this.rows.length),", "End: () => this.go(0),"),
-    ("remember(`step=${this.at}`)", "remember(`step=${this.rows.length}`)"),
-    ("if ((i + 1) % GAP === 0) this.kept.push([...state]);", "if ((i + 1) % GAP === 0) this.kept.push(state);"),
-    ("apply(state, row, 3);", "apply(state, row, 5);"),
-    ("this.before[row[2]] = { n, row };", "this.before[row[2]] = { n: 0, row };"),
-    ("into[row[2]].push(n)", "into[n].push(row[2])"),
-    ("end >= this.program.data.outcomes.length", "end > this.program.data.outcomes.length"),
-    ("=> his.get(this.program.key(state))", "=> his.get(state)"),
-    ("!this.hope[n] && !this.program.data.endless", "!this.hope[n] && this.program.data.endless"),
-    ("this.knowsBanker && !this.twins[n]", "this.knowsBanker && this.twins[n]"),
-    ("find((row) => row[0] === arm)", "find((row) => row[0] >= arm)"),
-    ("this.undone.push(this.rows.pop())", "this.rows.pop()"),
-    ("this.lend = i;\n    this.follow(arms);", "this.lend = i;\n    this.follow([]);"),
-    ("\"aria-disabled\": !moves.has(arm)", "\"aria-disabled\": moves.has(arm)"),
-)
-
-
-def write_page(folder: Path, name: str, given: bytes) -> tuple[Path, str]:
+def write_page(folder: Path, name: str, given: bytes, lend: str | None = None) -> tuple[Path, str]:
     """Writes the page of a text, and returns its path, and the text."""
-    page = make_page.make_page([program()], name, given, make_page.Options(seed="3"))
+    page = make_page.make_page([program()], name, given, make_page.Options(seed="3", lend=lend))
     path = folder / f"{name}.html"
     path.write_text(page, encoding="utf-8")
     return path, given.decode().partition("\n%%\n")[0].rstrip("\n")
 
 
-def debugger_says(text: str, picks: str, at: int, names: list) -> list[str]:
+def debugger_says(text: str, picks: str, at: int, names: list, lend: str) -> list[str]:
     """Returns what `debug` says of a position. (Of a request that may be granted a page has no order.)"""
     commands = [f"to {at}"]
     for name, arms in names:
@@ -182,22 +67,23 @@ def debugger_says(text: str, picks: str, at: int, names: list) -> list[str]:
         for arm in range(arms):
             commands += [f"line {name}.{arm}", f"why {name}.{arm}"]
     given = f"{text}\n%%\n{picks}%%\n" + "\n".join([*commands, "loans"]) + "\n"
-    _, said = call(["debug"], given.encode())
-    return [re.sub(r"^order .*", "order", line) for line in said.decode().splitlines()[1:]]
+    _, said = call(["debug", "--lend", lend], given.encode())
+    return [re.sub(r"^(order .*|granted)$", "order", line) for line in said.decode().splitlines()[1:]]
 
 
-def look_at_positions(tally: Tally, it: Browser, path: Path, text: str) -> None:
+def look_at_positions(tally: Tally, it: Any, path: Path, text: str) -> None:
     """Compares up to 25 positions with what `debug` says of them."""
     it.open(path)
+    lend = it.js("views[0].program.data.lend")
     names = it.js("views[0].program.processes.map((it) => [it.name, it.arms.length])")
     picks, rows = it.js("pickLines(views[0].program, views[0].rows)"), it.js("views[0].rows.length")
     for at in sorted({*range(0, rows, max(1, rows // 24)), rows}):
-        same = it.js(f"({SAYS})({at})") == debugger_says(text, picks, at, names)
+        same = it.js(f"({SAYS})({at})") == debugger_says(text, picks, at, names, lend)
         tally.expect(same, path.name, f"position {at} is not what `debug` says")
     tally.expect(it.faults() == [], path.name, f"{it.faults()}")
 
 
-def look_at_keys(tally: Tally, it: Browser, path: Path) -> None:
+def look_at_keys(tally: Tally, it: Any, path: Path) -> None:
     """Goes along a run by keys, clicks and the address."""
     it.open(path, "step=0")
     rows, events = it.js("views[0].rows.length"), it.js("views[0].events.map((it) => it.at)")
@@ -237,10 +123,10 @@ def ends_of(lines: list[str]) -> dict[str, set[tuple[str, ...]]]:
     return found
 
 
-def look_at_ends(tally: Tally, it: Browser, path: Path, text: str, lend: str) -> None:
+def look_at_ends(tally: Tally, it: Any, path: Path, text: str, lend: str) -> None:
     """Compares the ends of all schedules with those that `outcomes` says, and replays the ways to them."""
     it.open(path, f"picks=&lend={lend}")
-    if it.js("view.program.data.lend") != lend:
+    if it.js("view.graph?.program.data.lend") != lend:
         return
     _, said = call(["outcomes", "--lend", lend], f"{text}\n".encode())
     lines, shown = said.decode().splitlines(), it.js(ENDS)
@@ -258,10 +144,10 @@ def look_at_ends(tally: Tally, it: Browser, path: Path, text: str, lend: str) ->
     tally.expect(it.faults() == [], path.name, f"{it.faults()}")
 
 
-def look_at_walk(tally: Tally, it: Browser, path: Path, lend: str) -> None:
+def look_at_walk(tally: Tally, it: Any, path: Path, lend: str) -> None:
     """Walks by clicks on arms to an end, and back by a key."""
     it.open(path, f"picks=&lend={lend}")
-    if it.js("view.program.data.lend") != lend:
+    if it.js("view.graph?.program.data.lend") != lend:
         return
     draw, nodes = random.Random(1), [0]
     enabled = "[...document.querySelectorAll('button.arm')].map((it) => it.getAttribute('aria-disabled') !== 'true')"
@@ -289,7 +175,7 @@ def look_at_walk(tally: Tally, it: Browser, path: Path, lend: str) -> None:
     tally.expect(it.faults() == [], path.name, f"{it.faults()}")
 
 
-def look_at_deadlock(tally: Tally, it: Browser, path: Path) -> None:
+def look_at_deadlock(tally: Tally, it: Any, path: Path) -> None:
     """In devices.pb the banker refuses the second pick; the cash grants it, and then nothing goes on."""
     it.open(path, "picks=")
 
@@ -316,7 +202,7 @@ def look_at_deadlock(tally: Tally, it: Browser, path: Path) -> None:
     tally.expect(it.faults() == [], path.name, f"{it.faults()}")
 
 
-def look_at_too_late(tally: Tally, it: Browser, folder: Path) -> None:
+def look_at_too_late(tally: Tally, it: Any, folder: Path) -> None:
     """A bystander can go on while two others are in a deadlock; by the cash alone that is told before its end."""
     path, _ = write_page(folder, "bystander", BYSTANDER)
     it.open(path, "picks=a.0&lend=cash")
@@ -335,21 +221,21 @@ def look_at_too_late(tally: Tally, it: Browser, folder: Path) -> None:
     tally.expect(said.startswith("By the cash alone."), path.name, f"that the banker does not come here is not told: {said}")
 
 
-def look_at_limit(tally: Tally, it: Browser, path: Path) -> None:
+def look_at_limit(tally: Tally, it: Any, path: Path) -> None:
     """A text with too many schedules has its run alone, and says so."""
     it.open(path)
     tally.expect(it.js("views.length") == 1, path.name, "there is a second view")
     tally.expect("More than 10000 configurations" in it.js("$('note').textContent"), path.name, "the limit is not told")
 
 
-def look_at_looks(tally: Tally, it: Browser, path: Path) -> None:
+def look_at_looks(tally: Tally, it: Any, path: Path) -> None:
     """Looks at contrast in both schemes, and for what sticks out at the right."""
     for where in ("step=5", "picks=", "picks=a.0,b.0&lend=cash"):
-        for scheme in ("light", "dark"):
+        for scheme in it.schemes:
             it.media(scheme)
             it.open(path, where)
             tally.expect(it.js(CONTRAST) == [], path.name, f"contrast, {scheme}, {where}: {it.js(CONTRAST)}")
-        it.media("light")
+        it.media(it.schemes[0])
         for size in SIZES:
             it.size(*size)
             it.open(path, where)
@@ -357,7 +243,7 @@ def look_at_looks(tally: Tally, it: Browser, path: Path) -> None:
     it.size(1280, 720)
 
 
-def look_at_hostile(tally: Tally, it: Browser, folder: Path) -> None:
+def look_at_hostile(tally: Tally, it: Any, folder: Path) -> None:
     """A text that tries to be markup is shown as it is."""
     path, text = write_page(folder, 'a"<b>&', HOSTILE)
     it.open(path)
@@ -368,69 +254,145 @@ def look_at_hostile(tally: Tally, it: Browser, folder: Path) -> None:
     look_at_positions(tally, it, path, text)
 
 
-def look_at_all(tally: Tally, it: Browser, folder: Path) -> None:
+def look_at_drawing(tally: Tally, it: Any, path: Path, text: str) -> None:
+    """Compares the drawing of who holds and asks for what, at each deadlock by the cash alone, with what `outcomes` says."""
+    it.open(path, "picks=&lend=cash")
+    if it.js("view.graph?.program.data.lend") != "cash":
+        return
+    _, said = call(["outcomes", "--lend", "cash"], f"{text}\n".encode())
+    wanted = set()
+    for block in ends_of(said.decode().splitlines())["deadlock"]:
+        held = [line for line in block if re.fullmatch(r"\w+ holds \d+ \w+", line)]
+        asked = re.findall(r"^(\S+) asks (.*)$", "\n".join(block), re.M)
+        pairs = [(arm, pair) for arm, words in asked for pair in re.findall(r"\d+ \w+", words)]
+        wanted.add(tuple(sorted([*held, *(f"{arm} asks for {pair}" for arm, pair in pairs)])))
+    shown = it.js(DRAWN)
+    for sentences, edges, is_within in shown:
+        tally.expect(edges == len(sentences), path.name, f"the drawing has {edges} edges, and says {sentences}")
+        tally.expect(is_within, path.name, "the drawing leaves its place")
+        in_vain = [one for one in sentences if " asks for " in one]
+        tally.expect(any(one.endswith(" in vain") for one in in_vain), path.name, f"nobody asks in vain: {sentences}")
+    found = {tuple(sorted(one.removesuffix(" in vain") for one in sentences)) for sentences, _, _ in shown}
+    tally.expect(found == wanted, path.name, f"the drawings of deadlocks: {found ^ wanted}")
+    tally.expect(it.faults() == [], path.name, f"{it.faults()}")
+
+
+def look_at_dead_run(tally: Tally, it: Any, folder: Path) -> None:
+    """A run by the cash alone into the deadlock of devices.pb tells it at its end, and not before."""
+    given = (TOP / "examples/devices.pb").read_bytes()
+    _, recorded = call(["outcomes", "--lend", "cash", "--deadlock", "1"], given)
+    path, text = write_page(folder, "dead", recorded, "cash")
+    look_at_positions(tally, it, path, text)
+    rows = it.js("views[0].rows.length")
+    it.open(path, f"step={rows - 1}")
+    tally.expect(it.js("$('ending').textContent") == "", path.name, "a deadlock is told before it is there")
+    said = set(it.js("document.querySelector('#map svg').getAttribute('aria-label')").split("; "))
+    tally.expect(said == {"a holds 1 tape", "a.0 asks for 1 disk", "b.0 asks for 1 disk"}, path.name, f"before the deadlock is drawn {said}")
+    it.key("ArrowRight")
+    said = it.js("$('ending').textContent")
+    tally.expect(said.startswith("Deadlock.") and "b holds 1 disk and asks for 1 tape" in said, path.name, f"the deadlock is not told: {said}")
+    tally.expect(it.js("document.querySelectorAll('#processes .why.no').length") == 2, path.name, "not both wait in the deadlock")
+    tally.expect("banker" not in it.js("$('processes').textContent"), path.name, "the banker is told of by the cash alone")
+
+
+def look_at_no_text(tally: Tally, it: Any, path: Path) -> None:
+    """A program of which only the object is there has its instructions in the place of its text."""
+    page = path.read_text(encoding="utf-8")
+    bare = path.with_name(f"bare-{path.name}")
+    bare.write_text(re.sub(r'"text":"(?:[^"\\]|\\.)*"', '"text":""', page), encoding="utf-8")
+    it.open(bare, "step=2")
+    tally.expect("no source text" in it.js("$('source').textContent"), bare.name, "that there is no text is not said")
+    marked = it.js("""[...document.querySelectorAll("#lines .here")].map((it) =>
+      [it.querySelector("code").textContent.trim().split(/ +/)[0], it.querySelector(".chip").textContent])""")
+    live = it.js("view.program.arms.flatMap((it, arm) => view.state(2)[0][arm] < 0 ? [] : [[String(view.state(2)[0][arm]), it.name]])")
+    tally.expect(marked == live and marked != [], bare.name, f"marked are {marked}, and live {live}")
+    it.click("[data-key=file]")
+    file = it.js("document.querySelector('.picks').textContent")
+    _, said = call(["debug"], f"{file}%%\nto 2\n".encode())
+    tally.expect(said == b"at 2\n", bare.name, f"`debug` does not read the file with the object: {said!r}")
+    it.key("Escape")
+    tally.expect(it.faults() == [], bare.name, f"{it.faults()}")
+
+
+def look_at_tabs(tally: Tally, it: Any, path: Path) -> None:
+    """Goes through the page by the tab key: it comes to all that can be clicked, and a list has its arrows."""
+    for where in ("step=2", "picks=a.0"):
+        it.open(path, where)
+        wanted, seen = it.js(STOPS), set()
+        for _ in range(3 * len(wanted)):
+            it.key("Tab")
+            seen.add(it.js("document.activeElement.dataset.stop ?? ''"))
+            # (behind the last stop the key may leave the page)
+            if len(seen - {""}) == len(wanted):
+                break
+        missed = [words for number, words in enumerate(wanted) if str(number) not in seen]
+        tally.expect(not missed and len(wanted) > 8, path.name, f"{where}: the tab key does not come to {missed}")
+    it.open(path, "step=0")
+    it.js("document.querySelector('.events button').focus()")
+    it.key("ArrowDown")
+    it.key("ArrowDown")
+    it.key("Enter")
+    tally.expect(it.js("view.at === view.events[2].at"), path.name, "the arrows and Enter do not lead to the third event")
+    it.open(path, "picks=")
+    it.js("document.querySelector('button.arm').focus()")
+    it.key("Enter")
+    tally.expect(it.js("view.rows.length") == 1, path.name, "Enter does not choose an arm")
+    tally.expect(it.js("document.activeElement.className.startsWith('arm')"), path.name, "the focus is lost")
+
+
+def look_at_all(tally: Tally, it: Any, folder: Path, examples: tuple[str, ...] = EXAMPLES) -> None:
     """Makes pages, and looks at them."""
-    for name in EXAMPLES:
+    for name in examples:
         path, text = write_page(folder, name, (TOP / f"examples/{name}.pb").read_bytes())
         look_at_positions(tally, it, path, text)
         look_at_keys(tally, it, path)
         for lend in ("banker", "cash"):
             look_at_ends(tally, it, path, text, lend)
             look_at_walk(tally, it, path, lend)
+    look_at_drawing(tally, it, *write_page(folder, "customers", (TOP / "examples/customers.pb").read_bytes()))
     look_at_deadlock(tally, it, folder / "devices.html")
+    look_at_dead_run(tally, it, folder)
+    look_at_no_text(tally, it, folder / "lost.html")
+    look_at_tabs(tally, it, folder / "devices.html")
     look_at_too_late(tally, it, folder)
-    look_at_limit(tally, it, folder / "philosophers.html")
     look_at_looks(tally, it, folder / "devices.html")
     look_at_hostile(tally, it, folder)
 
 
-class Quiet(Tally):
-    """Counts, and tells nothing."""
-
-    def expect(self, is_right: bool, *what: str) -> None:
-        self.tried += 1
-        self.wrong += not is_right
-
-
-def finds(it: Browser, folder: Path, mark: str, fault: str) -> bool:
-    """Returns whether the tests find a fault that is planted in page.js."""
-    template = folder / "template"
-    shutil.copytree(TOP / "extras/page", template, dirs_exist_ok=True)
-    script = (template / "page.js").read_text(encoding="utf-8")
-    if script.count(mark) != 1:
-        sys.exit(f"page.js has not once: {mark}")
-    (template / "page.js").write_text(script.replace(mark, fault), encoding="utf-8")
-    tally, kept = Quiet(), make_page.TEMPLATE
-    make_page.TEMPLATE = str(template)
+def look_in_chromium(tally: Tally, folder: Path) -> None:
+    it = Browser()
     try:
-        for name in ("lost", "customers", "philosophers"):
-            path, text = write_page(folder, name, (TOP / f"examples/{name}.pb").read_bytes())
-            look_at_positions(tally, it, path, text)
-            look_at_keys(tally, it, path)
-            for lend in ("banker", "cash"):
-                look_at_ends(tally, it, path, text, lend)
-                look_at_walk(tally, it, path, lend)
-        look_at_deadlock(tally, it, write_page(folder, "devices", (TOP / "examples/devices.pb").read_bytes())[0])
-        look_at_too_late(tally, it, folder)
-    except RuntimeError:
-        # (the page did not come up, or threw)
-        return True
+        look_at_all(tally, it, folder)
+        look_at_limit(tally, it, folder / "philosophers.html")
     finally:
-        make_page.TEMPLATE = kept
-    return tally.wrong > 0
+        it.close()
+
+
+def look_in_firefox(tally: Tally, folder: Path) -> None:
+    """Looks at all but the longest example, and at what is dark with a browser that is started so."""
+    it = Firefox()
+    try:
+        look_at_all(tally, it, folder, EXAMPLES[:3])
+    finally:
+        it.close()
+    it = Firefox("dark")
+    try:
+        look_at_looks(tally, it, folder / "devices.html")
+    finally:
+        it.close()
 
 
 def main() -> None:
     os.environ["PYTHONDONTWRITEBYTECODE"] = "1"
-    tally, it = Tally(), Browser()
+    tally = Tally()
+    size = len(make_page.fill_template("", "{}").encode())
+    tally.expect(size <= MOST_PAGE, f"a page without data has {size} bytes")
     with tempfile.TemporaryDirectory(prefix="parbegin-page-") as name:
-        folder = Path(name)
-        try:
-            look_at_all(tally, it, folder)
-            for mark, fault in PLANTED:
-                tally.expect(finds(it, folder, mark, fault), f"planted and not found: {fault or 'nothing'} for {mark}")
-        finally:
-            it.close()
+        look_in_chromium(tally, Path(name))
+        if shutil.which("firefox-esr"):
+            look_in_firefox(tally, Path(name))
+        else:
+            print("firefox-esr is not there, and was left out")
     tally.end("page")
 
 

@@ -10,7 +10,7 @@ from script.places import DEVICE, TOP, WORDS, is_installed, say
 
 # Where the template is: in a checkout, and under the prefix of install.sh.
 TEMPLATE = f"{TOP}/../../share/parbegin/page" if is_installed() else f"{TOP}/extras/page"
-USE = "usage: parbegin page [--seed N] [--from POSITION] [--rows N] [--states N] FILE > page.html"
+USE = "usage: parbegin page [--seed N] [--lend WHO] [--from POSITION] [--rows N] [--states N] FILE > page.html"
 
 
 def maker() -> ModuleType:

@@ -58,7 +58,7 @@ _parbegin() {
     record) options="--workers --quantum --steps --seed --lend" ;;
     replay) options="--lend" ;;
     run) options="--workers --quantum --steps" ;;
-    states) options="--rows --from" ;;
+    states) options="--rows --from --lend" ;;
     help)
         # its word is a command
         local named="bank check claims dap debug draw emit exec explain migrate outcomes plan record replay run states"

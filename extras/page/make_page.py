@@ -1,13 +1,14 @@
 #!/usr/bin/env python3
 """Makes the page of a program: one HTML file that needs nothing else.
 
-    make_page.py PROGRAM[,WORD ..] [--seed N] [--from I] [--rows N] [--states N] FILE > page.html
+    make_page.py PROGRAM[,WORD ..] [--seed N] [--lend WHO] [--from I] [--rows N] [--states N] FILE > page.html
 
 PROGRAM is the program parbegin, with words that come before each command, if any. FILE has a text, or a text with the
 picks of a run behind a line `%%`, as `record` writes it. The program writes the data, each document as a line of JSON
 in which there is no `<` (docs/FORMATS.md, "Documents for a page"); here it is put into the template beside this file.
 Nothing of a text is looked at here, and no number is changed. The page has all schedules by the banker, and if there are
-resources those by the cash alone, if they have at most 10,000 configurations or what `--states` says.
+resources those by the cash alone, if they have at most 10,000 configurations or what `--states` says. `--lend cash`
+is for the run: its picks are made by the cash alone, and of a text it is drawn, with seed 1 if no other is given.
 
 If the program refuses the text or the words, what it writes stands in the place of the page, with its status.
 """
@@ -22,10 +23,11 @@ from collections.abc import Iterator
 from dataclasses import dataclass
 
 TEMPLATE = os.path.dirname(os.path.realpath(__file__))
-# The program's statuses of a run in which no process faulted, of one in which a process did, and if a limit is reached.
-DONE, FAULT, LIMIT = 0, 4, 3
+# The program's statuses of a run in which no process faulted, of one in which a process did, of one that ends in a
+# deadlock, and if a limit is reached.
+DONE, FAULT, DEADLOCK, LIMIT = 0, 4, 9, 3
 
-OPTIONS = {"--seed": "seed", "--from": "first", "--rows": "rows", "--states": "states"}
+OPTIONS = {"--seed": "seed", "--lend": "lend", "--from": "first", "--rows": "rows", "--states": "states"}
 
 
 @dataclass
@@ -33,6 +35,7 @@ class Options:
     """What a call asks for; `None` leaves it to the program."""
 
     seed: str | None = None
+    lend: str | None = None
     first: str | None = None
     rows: str | None = None
     states: str = "10000"
@@ -46,8 +49,8 @@ class Refusal(Exception):
         self.said, self.status = said, status
 
 
-def answer(program: list[str], words: list[str], given: bytes, statuses: tuple[int, ...] = (DONE, FAULT)) -> bytes:
-    """Returns what the program writes. A run in which a process faults is a run."""
+def answer(program: list[str], words: list[str], given: bytes, statuses: tuple[int, ...] = (DONE, FAULT, DEADLOCK)) -> bytes:
+    """Returns what the program writes. A run in which a process faults is a run, and one that ends in a deadlock."""
     ended = subprocess.run([*program, *words], input=given, stdout=subprocess.PIPE, check=False)
     if ended.returncode not in statuses:
         raise Refusal(ended.stdout, ended.returncode)
@@ -62,8 +65,11 @@ def option(name: str, value: str | None) -> list[str]:
 def documents(program: list[str], given: bytes, options: Options) -> Iterator[tuple[str, str]]:
     """Yields the name and the JSON of each document of a page."""
     has_picks = b"\n%%\n" in given
-    recorded = given if has_picks else answer(program, ["record", *option("--seed", options.seed)], given)
-    words = ["states", *option("--from", options.first), *option("--rows", options.rows)]
+    lend = option("--lend", options.lend)
+    # (workers ask the banker: by the cash alone a run is drawn)
+    seed = "1" if options.lend == "cash" and options.seed is None else options.seed
+    recorded = given if has_picks else answer(program, ["record", *option("--seed", seed), *lend], given)
+    words = ["states", *lend, *option("--from", options.first), *option("--rows", options.rows)]
     yield "run", answer(program, words, recorded).decode().strip()
     text = given.partition(b"\n%%\n")[0] + b"\n" if has_picks else given
     words = ["outcomes", "--graph", "--states", options.states]
@@ -82,8 +88,9 @@ def fill_template(title: str, data: str) -> str:
     """Returns the page, with its style, its script and its data in it."""
 
     def read(name: str) -> str:
+        # (a page has no need of the spaces at the beginning of lines)
         with open(f"{TEMPLATE}/{name}", encoding="utf-8") as file:
-            return file.read()
+            return "".join(line.lstrip(" ") for line in file)
 
     parts = {
         "<title>parbegin</title>": f"<title>{html.escape(title)} - parbegin</title>",

@@ -82,6 +82,17 @@ class Program {
     this.integers = 3 * this.hands;
     this.loans = this.integers + integers;
     this.order = this.loans + this.processes.length * this.resources.length;
+    // (of an object there may be no text: its instructions are shown, process by process)
+    let lines = 0;
+    for (const it of this.processes) it.firstLine = lines + 2, lines += it.code.length + 1;
+    this.text = data.text || this.processes.map((it) =>
+      `process ${it.name}\n${it.code.map((one, i) => `${String(i).padStart(4)}  ${this.wordsOf(it, one)}\n`).join("")}`).join("");
+  }
+
+  /** An instruction with the names of what it is about. */
+  wordsOf(process, [, op, ...words]) {
+    const pairs = this.pairs(op, words), isOfInteger = op === "load" || op === "store";
+    return `${op} ${pairs.length ? this.amounts(pairs) : isOfInteger ? process.integers[words[0]] : words.join(" ")}`;
   }
 
   /** Rows, each with the number of its arm and one pick in the place of the process and its arm. */
@@ -102,13 +113,19 @@ class Program {
   /** The next instruction of an arm that is live: its line, and its words. */
   next(state, arm) { return this.processOf(arm).code[state[arm]] ?? ["0"]; }
 
-  lineOf(state, arm) { return Number(this.next(state, arm)[0]); }
+  lineOf(state, arm) {
+    if (this.data.text) return Number(this.next(state, arm)[0]);
+    return state[arm] < 0 ? 0 : this.processOf(arm).firstLine + state[arm];
+  }
 
   /** Pairs of an amount and a resource for which an arm asks, or that it gives back next. */
   bundle(state, arm) {
-    const [, op, ...words] = this.next(state, arm), pairs = [];
-    if (op === "take" || op === "give") for (let i = 0; i < words.length; i += 2) pairs.push([+words[i + 1], +words[i]]);
-    return pairs;
+    const [, op, ...words] = this.next(state, arm);
+    return this.pairs(op, words);
+  }
+
+  pairs(op, words) {
+    return op === "take" || op === "give" ? words.flatMap((r, i) => (i % 2 ? [] : [[+words[i + 1], +r]])) : [];
   }
 
   asks(state, arm) { return state[this.reasons + arm] === 0 ? [] : this.bundle(state, arm); }
@@ -258,7 +275,8 @@ const WORDS = new Set(("and begin div do else end fi hold if integer mod not od 
   "resource skip then while").split(" "));
 
 function drawText(program) {
-  const lines = program.data.text.replace(/\r/g, "").replace(/\n$/, "").split("\n");
+  $("source").firstElementChild.textContent = program.data.text ? "Program" : "Its instructions: there is no source text";
+  const lines = program.text.replace(/\r/g, "").replace(/\n$/, "").split("\n");
   $("lines").replaceChildren(...lines.map((line) => h("li", null, h("code", null,
     (line.match(/\/\/.*|[A-Za-z]\w*|[^A-Za-z/]+|\//g) ?? []).map((it) =>
       it.startsWith("//") ? h("span.note", null, it) : WORDS.has(it) ? h("b", null, it) : it)), h("span.arms"))));
@@ -307,7 +325,7 @@ function partsOfArm({ program, state, changed, lend, moves }, arm, key, integers
     h("span.does", null,
       h("b", null, (!isAsking && moves?.get(arm)) || does(program, state, arm)),
       hand.length ? h("span.hand", null, " in hand ", hand) : null,
-      line ? h("span.line", null, ` line ${line}`) : null),
+      line ? h("span.line", null, program.data.text ? ` line ${line}` : ` instruction ${state[arm]}`) : null),
     integers,
     why && h(`span.why.${why[0]}`, null, why[1]),
   ];
@@ -410,6 +428,9 @@ function draw(what) {
 
 const notice = (kind, title, ...words) => h(`div.${kind}`, null, h("strong", null, title), " ", words);
 
+const deadEnd = (program, state) => notice("bad", "Deadlock.", "No arm can go on, now or ever:",
+  h("ul", null, deadlock(program, state).map((it) => h("li", null, it))));
+
 /** A list of events or picks; `mark` shows how far along it the state is. */
 class Events {
   constructor(title, entries, go) {
@@ -450,16 +471,16 @@ function atMost(numbers, n) {
 
 /** A button that shows the text with picks, as `replay`, `debug` and `draw` read it. */
 function asFile(program, rows) {
-  const { text } = program.data, file = h("pre.picks", { tabindex: 0 });
+  const { text, object } = program.data, file = h("pre.picks", { tabindex: 0 });
   const copy = () => {
     getSelection().selectAllChildren(file);
     navigator.clipboard?.writeText(file.textContent).catch(() => {});
   };
   const dialog = h("dialog", { "aria-label": "A file with these picks" },
-    h("h2", null, "These picks as a file, for replay, debug and draw"), file,
+    h("h2", null, `These picks as a file, for ${text ? "replay, debug and draw" : "debug"}`), file,
     h("form.buttons", { method: "dialog" }, button("Copy", "copy", "", copy), h("button", null, "Close")));
   return [dialog, button("As a file", "file", "The text with the picks up to here", () => {
-    file.textContent = `${text}${text.endsWith("\n") ? "" : "\n"}%%\n${pickLines(program, rows())}`;
+    file.textContent = `${(text || object).replace(/\n?$/, "\n")}%%\n${pickLines(program, rows())}`;
     dialog.showModal();
   })];
 }
@@ -537,7 +558,10 @@ class Run {
     this.redraw();
   }
 
-  close() { if (this.timer) this.play(); }
+  close() {
+    if (this.timer) this.play();
+    $("map").replaceChildren();
+  }
 
   redraw() {
     this.lanes.paint();
@@ -550,12 +574,13 @@ class Run {
     const said = `${picks[this.at]} of ${program.data.picks} picks`;
     let happened = [h("span.faint", null, picks[0] ? `After ${picks[0]} picks` : "Before the first pick")];
     if (row) {
-      const [before] = this.state(this.at - 1), line = program.lineOf(before, row[0]);
+      const [before] = this.state(this.at - 1), line = program.data.text && program.lineOf(before, row[0]);
       const where = `${row[1] > 1 ? ` ${row[1]} picks` : ""}${line ? ` line ${line}` : ""}`;
       happened = [chip(program, row[0]), ` ${done(program, before, state, row, 2)}`, h("span.line", null, where)];
     }
     const ending = this.at === rows.length ? this.ending(state) : null;
-    draw({ program, state, changed, picked: row ? row[0] : null, lend: "banker", happened, ending });
+    drawWaits(program, state);
+    draw({ program, state, changed, picked: row ? row[0] : null, lend: program.data.lend, happened, ending });
     this.list.mark(this.at);
     this.lanes.mark(this.at);
     this.slider.value = this.at;
@@ -570,6 +595,7 @@ class Run {
       const part = from ? `the picks from ${from} to` : "the first";
       return notice("warn", "The run goes on.", `This page has ${part} ${this.picks.at(-1)} of ${picks}.`);
     }
+    if (end === "deadlock") return deadEnd(this.program, state);
     if (end === "open") return notice("warn", "The picks end here.", "The program could go on.");
     const faulted = this.program.processes.filter((it) => state[it.first] === FAULTED).map((it) => it.name);
     return faulted.length
@@ -810,7 +836,8 @@ class Schedules {
     const old = before(rows.length - 1), changed = new Set(state.flatMap((it, at) => String(it) === String(old[at]) ? [] : [at]));
     if (graph.ends.includes(node)) graph.found.add(node);
     this.drawGoals();
-    this.map?.draw(this);
+    if (this.map) this.map.draw(this);
+    else drawWaits(program, state);
     const moves = new Map(graph.nodes[node].map((row) => [row[0], done(program, state, graph.states[row[2]], row, 3)]));
     const happened = last
       ? [chip(program, last[0]), ` ${lines.at(-1)}`]
@@ -824,10 +851,7 @@ class Schedules {
 
   ending(state) {
     const { program, graph, node } = this, end = graph.ends.indexOf(node);
-    if (graph.isDead(end)) {
-      const items = deadlock(program, state).map((it) => h("li", null, it));
-      return notice("bad", "Deadlock.", "No arm can go on, now or ever:", h("ul", null, items));
-    }
+    if (graph.isDead(end)) return deadEnd(program, state);
     const found = `You have found ${graph.found.size} of ${graph.ends.length} ways to end.`;
     if (end >= 0) return notice("good", `Outcome ${end + 1}.`, `All processes are over. ${found}`);
     if (graph.isLost(node)) return notice("bad", "Too late.", "Whatever you pick from here on, it ends in a deadlock.");
@@ -958,6 +982,73 @@ class Diagram {
   }
 }
 
+// ---- who waits for whom
+
+/** Where they stand: in a ring the processes that claim something, and inside it each resource, near those that claim it. */
+function ringOf({ processes, resources }) {
+  const users = processes.filter((it) => it.claims.some((k) => k > 0)), lot = users.length;
+  if (!resources.length || lot > 24 || resources.length > 12) return null;
+  const node = (t, part, name, hue) => ({ name: name.length > 14 ? `${name.slice(0, 13)}…` : name, hue, h: hue ? 9 : 16,
+    w: 3.4 * Math.max(hue ? 3 : 6, Math.min(14, name.length)) + 6, x: 200 + 150 * part * Math.cos(t), y: 130 + 108 * part * Math.sin(t) });
+  const turns = users.map((_, i) => (2 * Math.PI * i) / lot - Math.PI / (lot < 3 ? 1 : 2));
+  const sums = resources.map(({ r }) => [Math.cos, Math.sin].map((part) =>
+    users.reduce((sum, it, i) => sum + (it.claims[r] > 0 ? part(turns[i]) : 0), 0)));
+  const means = sums.map(([x, y]) => Math.atan2(y, x));
+  const isNear = sums.every(([x, y]) => Math.hypot(x, y) > 0.5) && new Set(means.map((t) => t.toFixed(1))).size === means.length;
+  return {
+    processes: new Map(users.map((it, i) => [it.p, node(turns[i], 1, it.name, it.hue)])),
+    resources: resources.map(({ r, name }) => node(isNear ? means[r] : (2 * Math.PI * r) / resources.length - Math.PI / 2,
+      resources.length < 2 ? 0 : 0.52, name)),
+  };
+}
+
+/** Draws who holds what, and which arm asks for what, if there are resources, and not too many. */
+function drawWaits(program, state) {
+  const ring = ringOf(program), shapes = [], said = [];
+  if (!ring) return $("map").replaceChildren();
+  const add = (tag, attributes, ...children) => shapes.push(svg(tag, attributes, ...children));
+  const edge = (from, to, kind, words) => {
+    const long = Math.hypot(to.x - from.x, to.y - from.y), x = (to.x - from.x) / long, y = (to.y - from.y) / long;
+    // (each runs at its own left side, so that there and back are two lines)
+    const at = (k, aside) => [from.x + x * k - y * aside, from.y + y * k + x * aside].map((it) => it.toFixed(1));
+    const cut = (it) => Math.min(it.w / Math.abs(x), it.h / Math.abs(y)), end = long - cut(to) - 2;
+    add("path", { class: `edge ${kind}`, d: `M${at(cut(from), 5)}L${at(end - 6, 5)}` });
+    add("path", { class: kind, d: `M${at(end, 5)}L${at(end - 9, 1)}L${at(end - 9, 9)}Z` });
+    const [tx, ty] = at((cut(from) + end) / 2, 14);
+    add("text", { x: tx, y: +ty + 4, "text-anchor": "middle", class: kind }, words);
+  };
+  for (const [p, from] of ring.processes) {
+    const process = program.processes[p];
+    program.resources.forEach(({ r, name }) => {
+      const k = state[program.loanAt(p, r)];
+      if (!k) return;
+      edge(ring.resources[r], from, from.hue, `${k}`);
+      said.push(`${process.name} holds ${k} ${name}`);
+    });
+    for (const arm of program.armsOf(process)) {
+      const [kind] = reason(program, state, arm, program.data.lend) ?? [], { name, hue } = program.arms[arm];
+      for (const [k, r] of program.asks(state, arm)) {
+        edge(from, ring.resources[r], `asks ${kind}`, process.arms.length > 1 ? `${name}: ${k}` : `${k}`);
+        said.push(`${name} asks for ${k} ${program.resources[r].name}${kind === "no" ? " in vain" : ""}`);
+      }
+    }
+  }
+  const box = ({ x, y, w, h, name, hue }, words) => {
+    add("rect", { x: x - w, y: y - h, width: 2 * w, height: 2 * h, rx: hue ? 5 : 0, class: hue ?? "thing" });
+    add("text", { x, y: y + (words ? -2 : 4), "text-anchor": "middle", class: `name ${hue ?? "thing"}` }, name);
+    if (words) add("text", { x, y: y + 11, "text-anchor": "middle", class: "thing" }, words);
+  };
+  for (const it of ring.processes.values()) box(it);
+  ring.resources.forEach((it, r) => box(it, `${program.cash(state, program.resources[r])} of ${program.resources[r].capital}`));
+  const all = [...ring.processes.values(), ...ring.resources], least = (at, side) => Math.min(...all.map((it) => it[at] - it[side])) - 4;
+  const x = least("x", "w"), y = least("y", "h"), long = (at, side, from) => Math.max(...all.map((it) => it[at] + it[side])) + 4 - from;
+  $("map").replaceChildren(
+    h("h2", null, "Who holds what, and who asks for what"),
+    svg("svg", { viewBox: `${x} ${y} ${long("x", "w", x)} ${long("y", "h", y)}`, role: "img", class: "waits", "aria-label": said.join("; ") || "Nothing is held or asked for" }, ...shapes),
+    h("p.map-legend", null, h("span", null, "→ is held by"), h("span", null, "⇢ asks for"),
+      h("span.why.no", null, "in vain"), h("span.why.yes", null, "may have it")));
+}
+
 // ---- start
 
 let views = [], view = null, remembered = 0;
@@ -1012,7 +1103,8 @@ function start() {
     const isItsOwn = target.tagName === "SELECT" || (target.type === "radio" && isArrow) || (target.tagName === "BUTTON" && key === " ") ||
       (target.closest("#lines, .picks") && !/^(ArrowLeft|ArrowRight|[^A-Z].*)$/.test(key));
     if (event.ctrlKey || event.metaKey || event.altKey || isItsOwn || document.querySelector("dialog[open]")) return;
-    const action = key === "?" ? $("about").onclick : view.keys()[key];
+    const near = target.closest(".events li")?.[{ ArrowUp: "previousSibling", ArrowDown: "nextSibling" }[key]];
+    const action = near ? () => near.firstChild.focus() : key === "?" ? $("about").onclick : view.keys()[key];
     if (action) event.preventDefault(), action();
   });
 }

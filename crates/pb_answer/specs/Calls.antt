@@ -69,7 +69,7 @@ CommandSays option.Plan = SaysOfInput SaysOfPlan
 CommandSays (option.Record numbers) = SaysOfInput (SaysOfRecord (lending_for numbers.lend) numbers.run.steps numbers.seed)
 CommandSays (option.Replay options) = SaysOfInput (SaysOfReplay (lending_for options.lend))
 CommandSays (option.Run numbers) = SaysOfInput (SaysOfTextRun numbers.steps)
-CommandSays (option.States numbers) = SaysOfInput (SaysOfStates (shown_by numbers))
+CommandSays (option.States options) = SaysOfInput (SaysOfStates (lending_for options.lend) (shown_by options))
 
 -- the text and the status if words were not read
 abbrev pub words_fault_text : WordsFault → List ℕ

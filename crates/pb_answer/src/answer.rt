@@ -4,7 +4,9 @@ ghost use Rattle.pb_command_io.specs.Answers.{Says, Tells};
 ghost use Rattle.pb_answer.specs.Calls.{fault_status, words_fault_text, CallTellsFaults, CallWrites, SaysOfCommands, TellsDebugFaults};
 ghost use Rattle.pb_answer.specs.Calls.{AnswersBeforeRead, shown_by};
 ghost use Rattle.pb_options.specs.Lends.{lending_for};
-ghost use Rattle.pb_command_io.specs.Faults.{TellsWriteFaults};
+ghost use Rattle.pb_command_io.specs.Faults.{TellsFaults, TellsWriteFaults};
+ghost use Rattle.pb_command_io.specs.Inputs.{SaysOfInput};
+ghost use Rattle.pb_page_engine.specs.States.{SaysOfStates};
 
 use pb_adapter_engine::adapter_engine;
 use pb_bank_engine::bank_engine;
@@ -57,19 +59,36 @@ pub fn answer<I: Input, O: Output, R: Threads + Wait + Sync>(
         Ok(Options::Record(numbers)) => record_engine(rt, alloc, numbers, input, output),
         Ok(Options::Replay(options)) => replay_engine(alloc, options, input, output),
         Ok(Options::Run(numbers)) => run_engine(rt, alloc, numbers, input, output),
-        Ok(Options::States(numbers)) => states_engine(alloc, shown(numbers), input, output),
+        Ok(Options::States(options)) => states(alloc, options, input, output),
         Err(fault) => refuse(alloc, output, &fault),
     }
 }
 
 /// Returns what the options of `states` say of the part of a run that is shown.
-pub fn shown(numbers: StatesOptions) -> Shown
+fn shown(numbers: StatesOptions) -> Shown
     ensures { result ≡ shown_by numbers }
 {
     Shown {
         from: numbers.from,
         rows: numbers.rows,
     }
+}
+
+/// Writes the part of a run that the options of `states` name.
+pub fn states<I: Input, O: Output>(
+    alloc: Global,
+    options: StatesOptions,
+    input: &mut I,
+    output: &mut O,
+) -> Status
+    ensures text { IfSome (I.rest input.old) (λ bytes. Tells (SaysOfInput (SaysOfStates (lending_for options.lend) (shown_by options)) bytes)
+        (O.written output.old) (O.written output.new) result) }
+    ensures faults { TellsFaults
+        (record { reads = I.failures input.old; writes = O.failures output.old; written = O.written output.old })
+        (record { reads = I.failures input.new; writes = O.failures output.new; written = O.written output.new })
+        result }
+{
+    states_engine(alloc, options.lend.lending(), shown(options), input, output)
 }
 
 /// Debugs by the engine that reads the commands as they come, or by the one that reads its input whole.

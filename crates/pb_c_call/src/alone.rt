@@ -11,14 +11,13 @@ ghost use Rattle.pb_c_call.specs.Replies.{RefusesThreads};
 use crate::drawn::record_drawn_engine;
 use pb_accept::{check_engine, claims_engine, emit_engine, migrate_engine, replay_engine};
 use pb_adapter_engine::adapter_engine;
-use pb_answer::answer::{debug, refuse, shown};
+use pb_answer::answer::{debug, refuse, states};
 use pb_bank_engine::bank_engine;
 use pb_base::{Input, Output};
 use pb_command_io::Status;
 use pb_draw_engine::draw_engine;
 use pb_explain::explain_engine;
 use pb_options::RecordOptions;
-use pb_page_engine::states_engine;
 use pb_plan_engine::plan_engine;
 use pb_search_engine::outcomes_engine;
 use pb_words::{Options, options};
@@ -58,7 +57,7 @@ pub fn answer_alone<I: Input, O: Output>(
             let _ = numbers;
             Status::Threads
         }
-        Ok(Options::States(numbers)) => states_engine(alloc, shown(numbers), input, output),
+        Ok(Options::States(options)) => states(alloc, options, input, output),
         Err(fault) => refuse(alloc, output, &fault),
     }
 }

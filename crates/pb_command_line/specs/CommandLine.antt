@@ -99,8 +99,10 @@ run_command = with_run_rules (new_app (codes "run"))
 unfoldable pub states_command : App
 states_command =
     with_rule
+    (with_rule
     (with_rule (new_app (codes "states")) (number_rule_or (codes "rows") 1 1000000 (codes "20000")))
-    (number_rule_or (codes "from") 0 10000000 (codes "0"))
+    (number_rule_or (codes "from") 0 10000000 (codes "0")))
+    (word_rule_or (codes "lend") (codes "banker"))
 
 unfoldable pub bank_command : App
 bank_command = new_app (codes "bank")

@@ -283,7 +283,8 @@ fn states_of_run<'a>(alloc: Global) -> Result<Command<'a>, AllocError>
     let rows = "Stop after this many rows, 1 to 1000000";
     let states = with_number(alloc, states, "rows", 1, 1_000_000, "20000", rows);
     let from = "Begin at this position, 0 to 10000000";
-    with_number(alloc, states, "from", 0, 10_000_000, "0", from)
+    let states = with_number(alloc, states, "from", 0, 10_000_000, "0", from);
+    with_lend(alloc, states, LEND)
 }
 
 fn record_text<'a>(alloc: Global) -> Result<Command<'a>, AllocError>

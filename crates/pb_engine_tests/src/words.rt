@@ -85,6 +85,7 @@ fn commands_have_their_defaults(rt: HostRuntime) {
             Options::States(StatesOptions {
                 rows: 20_000,
                 from: 0,
+                lend: Lend::Banker,
             }),
         ),
     ] {
@@ -287,6 +288,16 @@ fn options_with_one_word_are_read(rt: HostRuntime) {
             Options::States(StatesOptions {
                 rows: 1_000_000,
                 from: 0,
+                lend: Lend::Banker,
+            }),
+        ),
+        (
+            "states",
+            "--lend=cash",
+            Options::States(StatesOptions {
+                rows: 20_000,
+                from: 0,
+                lend: Lend::Cash,
             }),
         ),
         (
@@ -295,6 +306,7 @@ fn options_with_one_word_are_read(rt: HostRuntime) {
             Options::States(StatesOptions {
                 rows: 20_000,
                 from: 10_000_000,
+                lend: Lend::Banker,
             }),
         ),
         (

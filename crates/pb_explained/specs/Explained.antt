@@ -3,7 +3,6 @@ use Rattle.std.specs.Prelude.{◌≡◌, ◌⊎◌, ◌↔◌, IsTrue, ℕ, Bool
 use Rattle.std.specs.Borrow.{Bor}
 use Rattle.clap.specs.Words.{Text}
 use Rattle.pb_base.specs.declared.lending.Lending.{Lending}
-use Rattle.pb_base.specs.declared.lending.Lending.TheVariants.{ByBanker}
 use Rattle.pb_base.specs.Device.{appended, one_more_failure, AddsPrefix}
 use Rattle.pb_answer.specs.Calls.{CallTellsFaults, CallWrites}
 use Rattle.pb_command_io.specs.Faults.{Devices, TellsFaults}
@@ -77,7 +76,7 @@ TellsRefused option.Plan = SaysToPerson reading.Text
 TellsRefused (option.Record numbers) = SaysToPerson reading.Recorded
 TellsRefused (option.Replay options) = SaysToPerson (reading.Replayed (lending_for options.lend))
 TellsRefused (option.Run numbers) = SaysToPerson reading.Text
-TellsRefused (option.States numbers) = SaysToPerson (reading.Replayed ByBanker)
+TellsRefused (option.States options) = SaysToPerson (reading.Replayed (lending_for options.lend))
 
 -- what a person is told of a run that was stopped by its steps
 abbrev pub stopped_run : List ℕ

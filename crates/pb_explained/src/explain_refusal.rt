@@ -3,7 +3,7 @@
 ghost use Rattle.std.specs.Prelude.{◌≡◌, ◌⊎◌, IfOk, IfSome};
 ghost use Rattle.pb_explained.specs.Explained.{Explains, TellsRefused, Untouched, format_reading, outcomes_reading};
 
-use pb_base::{Lending, NoMemory, Output, write_all};
+use pb_base::{NoMemory, Output, write_all};
 use pb_messages::{Reading, live_message, message_of};
 use pb_object::Format;
 use pb_words::{Options, options};
@@ -58,7 +58,11 @@ fn message_for(alloc: Global, options: &Options, bytes: &[u8]) -> Option<Result<
             Reading::Replayed(options.lend.lending()),
             bytes,
         )),
-        Options::States(_) => Some(message_of(alloc, Reading::Replayed(Lending::ByBanker), bytes)),
+        Options::States(options) => Some(message_of(
+            alloc,
+            Reading::Replayed(options.lend.lending()),
+            bytes,
+        )),
         Options::Bank | Options::Dap | Options::Explain(_) => None,
     }
 }

@@ -157,6 +157,8 @@ pub struct StatesOptions {
     pub rows: u32,
     /// The position at which the document begins, at most 10,000,000.
     pub from: u32,
+    /// Who decided on requests in the run.
+    pub lend: Lend,
     pub ghost some_row: { 1 ≤ rows },
     pub ghost rows_fit: { rows ≤ MAX_ROWS },
     pub ghost from_fits: { from ≤ MAX_PICKS },

@@ -16,16 +16,22 @@ parts_next {X = X} part n old mid new before more =
     ∙ (append_assoc old (parts_below part n) (part n)
     ∙ ap (λ k. old ++ parts_below part k) next))
 
+-- a list with a part for each number has one more behind a further part
+pub one_part_more : {X : Type 0} (IsPart : ℕ → List X → Type 0) (n : ℕ) (all last : List X) → ArePartsBelow IsPart n all → IsPart n last
+    → ArePartsBelow IsPart (n + 1) (all ++ last)
+one_part_more {X = X} IsPart n all last are is =
+    let next : suc n ≡ n + 1 = omega arith in
+    subst (λ (k : ℕ). ArePartsBelow IsPart k (all ++ last)) next (all, last, refl, are, is)
+
 -- the same, if a relation says what a part is
 pub are_next : {X : Type 0} (IsPart : ℕ → List X → Type 0) (n : ℕ) (old mid new last : List X)
     → ((all : List X) × (mid ≡ old ++ all) × ArePartsBelow IsPart n all) → new ≡ mid ++ last → IsPart n last
     → (all : List X) × (new ≡ old ++ all) × ArePartsBelow IsPart (n + 1) all
-are_next {X = X} IsPart n old mid new last (all, before, are) more is =
-    let next : suc n ≡ n + 1 = omega arith in (
-      all ++ last,
-      more ∙ (ap (λ (t : List X). t ++ last) before ∙ append_assoc old all last),
-      subst (λ (k : ℕ). ArePartsBelow IsPart k (all ++ last)) next (all, last, refl, are, is),
-    )
+are_next {X = X} IsPart n old mid new last (all, before, are) more is = (
+  all ++ last,
+  more ∙ (ap (λ (t : List X). t ++ last) before ∙ append_assoc old all last),
+  one_part_more IsPart n all last are is,
+)
 
 -- the process that is there
 pub process_is : (s : State CodeProcess) (p : ℕ) (process : CodeProcess) → slice_get s.processes p ≡ Some process

@@ -116,7 +116,3 @@ pub record IsStateBy (lending : Lending) (code : Code) (s : State CodeProcess) (
       ++ parts_below (λ p. integers_of (process_at s p)) (length s.processes))
       ++ parts_below (loans_of (bank_at code s)) (processes (bank_at code s)))
       ++ order_text order ∷ []
-
--- so they are under the banker
-abbrev pub IsState : Code → State CodeProcess → List (List ℕ) → Type 0
-IsState code s entries = IsStateBy ByBanker code s entries

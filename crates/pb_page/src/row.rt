@@ -2,13 +2,13 @@
 
 ghost use Rattle.std.specs.Prelude.{◌≡◌, ◌<◌, ◌≤◌, ◌+◌, ◌++◌, ℕ, List, length, slice_get, Some, IfOk, IfSome, OnOk};
 ghost use Rattle.pb_base.specs.Lines.{HasNames, names_view};
-ghost use Rattle.pb_base.specs.declared.lending.Lending.TheVariants.{ByBanker};
-ghost use Rattle.pb_debug_positions.specs.Walks.{WalksBy};
+ghost use Rattle.pb_base.specs.declared.lending.Lending.{Lending as LendingValue};
+ghost use Rattle.pb_debug_positions.specs.Walks.{Walks, WalksBy};
 ghost use Rattle.pb_history.specs.Entries.{picks_of};
 ghost use Rattle.pb_history.specs.Positions.{state_after};
 ghost use Rattle.pb_page.specs.Rows as spec;
 ghost use Rattle.pb_page.specs.Rows.{HasNamesOf, IsRow};
-ghost use Rattle.pb_page.specs.States.{IsState};
+ghost use Rattle.pb_page.specs.States.{IsStateBy};
 ghost use Rattle.pb_page.specs.Texts.{entry_at, texts};
 
 use crate::state::state_of;
@@ -106,16 +106,19 @@ pub(crate) fn put_next_row(
     state: &mut Vec<Vec<u8>>,
 ) -> Result<(), NoMemory>
     requires few { length (picks_of trace.now.entries) ≤ MAX_PICKS }
-    requires walks { WalksBy ByBanker verified.now (picks_of trace.now.entries) walker.old }
+    requires walks { Walks verified.now (picks_of trace.now.entries) walker.old }
     requires within { walker.old.at < length (picks_of trace.now.entries) }
-    requires state { IsState verified.now.code
-        (state_after verified.now.code (picks_of trace.now.entries) walker.old.at) (texts state.old.items) }
-    ensures walks { OnOk result (WalksBy ByBanker verified.now (picks_of trace.now.entries) walker.new) }
+    ensures walks { OnOk result ((lending : LendingValue) → WalksBy lending verified.now (picks_of trace.now.entries) walker.old
+        → WalksBy lending verified.now (picks_of trace.now.entries) walker.new) }
     ensures at { OnOk result (walker.new.at ≡ walker.old.at + 1) }
-    ensures state { OnOk result (IsState verified.now.code
+    ensures state { OnOk result ((lending : LendingValue) → WalksBy lending verified.now (picks_of trace.now.entries) walker.old
+        → IsStateBy lending verified.now.code
         (state_after verified.now.code (picks_of trace.now.entries) walker.new.at) (texts state.new.items)) }
     ensures row { OnOk result ((row : List ℕ) × (out.new.items ≡ out.old.items ++ row)
-        × IsRow verified.now.code (picks_of trace.now.entries) walker.old.at row) }
+        × ((lending : LendingValue) → WalksBy lending verified.now (picks_of trace.now.entries) walker.old
+        → IsStateBy lending verified.now.code
+        (state_after verified.now.code (picks_of trace.now.entries) walker.old.at) (texts state.old.items)
+        → IsRow lending verified.now.code (picks_of trace.now.entries) walker.old.at row)) }
 {
     let code = verified.code();
     let pick = trace.pick(walker.at);

@@ -1,22 +1,23 @@
 //! The document of a run.
 
 ghost use Rattle.std.specs.Prelude.{◌≡◌, ◌<◌, ◌≤◌, ◌-◌, ◌+◌, ◌++◌, ℕ, List, length, IfOk, OnOk};
-ghost use Rattle.pb_base.specs.declared.lending.Lending.TheVariants.{ByBanker};
-ghost use Rattle.pb_debug_positions.specs.Walks.{WalksBy};
+ghost use Rattle.pb_base.specs.declared.lending.Lending.{Lending as LendingValue};
+ghost use Rattle.pb_debug_positions.specs.Walks.{Walks, WalksBy};
 ghost use Rattle.pb_history.specs.Entries.{picks_of};
-ghost use Rattle.pb_history.specs.Positions.{AreEnabled, state_after};
+ghost use Rattle.pb_history.specs.Positions.{AreEnabledBy, state_after};
 ghost use Rattle.pb_json.specs.Strings.{string_text};
 ghost use Rattle.pb_json.specs.Values.{comma};
 ghost use Rattle.pb_page.specs.Runs as spec;
 ghost use Rattle.pb_page.specs.Runs.{AreRows, IsEnd, IsRunDocument};
-ghost use Rattle.pb_page.specs.States.{IsState};
+ghost use Rattle.pb_page.specs.States.{IsStateBy};
 ghost use Rattle.pb_page.specs.Texts.{texts};
 
+use crate::lend::put_lend;
 use crate::row::put_next_row;
 use crate::state::state_of;
-use pb_base::NoMemory;
 use pb_base::limits::MAX_PICKS;
 use pb_base::writing::{put, put_number};
+use pb_base::{Lending, NoMemory};
 use pb_debug_positions::Walker;
 use pb_history::Trace;
 use pb_json::{put_comma, put_string};
@@ -65,13 +66,15 @@ fn put_head(
     out: &mut Vec<u8>,
     source: &[u8],
     object: &[u8],
+    lending: Lending,
     picks: u32,
     from: u32,
 ) -> Result<(), NoMemory>
-    ensures { OnOk result (out.new.items ≡ out.old.items ++ spec.head_text source.now object.now picks from) }
+    ensures { OnOk result (out.new.items ≡ out.old.items ++ spec.head_text source.now object.now lending picks from) }
 {
     put_text(out, b"{\"parbegin\":1,\"kind\":\"run\",\"text\":", source)?;
     put_text(out, b",\"object\":", object)?;
+    put_lend(out, lending)?;
     put_number(out, b",\"picks\":", picks)?;
     put_number(out, b",\"from\":", from)
 }
@@ -94,19 +97,20 @@ fn put_end(out: &mut Vec<u8>, end: &[u8]) -> Result<(), NoMemory>
     put(out, b"\"}\n")
 }
 
-/// Returns a machine at a position of a run.
+/// Returns a machine at a position of a run under this lending.
 fn walker_at(
     alloc: Global,
     verified: &Verified,
+    lending: Lending,
     trace: &Trace,
     position: u32,
 ) -> Result<Walker, NoMemory>
-    requires enabled { AreEnabled verified.now.code (picks_of trace.now.entries) }
+    requires enabled { AreEnabledBy lending verified.now.code (picks_of trace.now.entries) }
     requires within { position ≤ length (picks_of trace.now.entries) }
-    ensures walks { IfOk result (WalksBy ByBanker verified.now (picks_of trace.now.entries)) }
+    ensures walks { IfOk result (WalksBy lending verified.now (picks_of trace.now.entries)) }
     ensures at { IfOk result (λ walker. walker.at ≡ position) }
 {
-    let machine = Machine::new(alloc, verified)?;
+    let machine = Machine::new_by(alloc, verified, lending)?;
     let mut walker = Walker { machine, at: 0 };
     walker.walk_to(verified, trace, position);
     Ok(walker)
@@ -123,14 +127,16 @@ fn put_rows(
     rows: u32,
 ) -> Result<(), NoMemory>
     requires few { length (picks_of trace.now.entries) ≤ MAX_PICKS }
-    requires walks { WalksBy ByBanker verified.now (picks_of trace.now.entries) walker.old }
+    requires walks { Walks verified.now (picks_of trace.now.entries) walker.old }
     requires within { walker.old.at + rows ≤ length (picks_of trace.now.entries) }
-    requires state { IsState verified.now.code
-        (state_after verified.now.code (picks_of trace.now.entries) walker.old.at) (texts state.old.items) }
-    ensures walks { OnOk result (WalksBy ByBanker verified.now (picks_of trace.now.entries) walker.new) }
+    ensures walks { OnOk result ((lending : LendingValue) → WalksBy lending verified.now (picks_of trace.now.entries) walker.old
+        → WalksBy lending verified.now (picks_of trace.now.entries) walker.new) }
     ensures at { OnOk result (walker.new.at ≡ walker.old.at + rows) }
     ensures rows { OnOk result ((written : List ℕ) × (out.new.items ≡ out.old.items ++ written)
-        × AreRows verified.now.code (picks_of trace.now.entries) walker.old.at rows written) }
+        × ((lending : LendingValue) → WalksBy lending verified.now (picks_of trace.now.entries) walker.old
+        → IsStateBy lending verified.now.code
+        (state_after verified.now.code (picks_of trace.now.entries) walker.old.at) (texts state.old.items)
+        → AreRows lending verified.now.code (picks_of trace.now.entries) walker.old.at rows written)) }
 {
     for k in 0..rows {
         put_comma(out, k as usize)?;
@@ -139,45 +145,39 @@ fn put_rows(
     Ok(())
 }
 
-/// Returns what is behind the last row.
-fn end_word(verified: &Verified, trace: &Trace, walker: &Walker) -> &'static [u8]
-    requires walks { WalksBy ByBanker verified.now (picks_of trace.now.entries) walker.now }
-    requires within { walker.now.at ≤ length (picks_of trace.now.entries) }
-    ensures { IsEnd verified.now.code (picks_of trace.now.entries) walker.now.at result.now }
+/// Returns what is behind the last row, which is at position `last`: `ending`, if no pick is behind it.
+fn end_word<'a>(trace: &Trace, last: u32, ending: &'a [u8]) -> &'a [u8]
+    requires { last ≤ length (picks_of trace.now.entries) }
+    ensures { IsEnd (picks_of trace.now.entries) ending.now last result.now }
 {
-    let _ = verified;
-    if walker.at < trace.len() {
-        b"more"
-    } else if walker.machine.finished() {
-        b"done"
-    } else {
-        b"open"
-    }
+    if last < trace.len() { b"more" } else { ending }
 }
 
-/// Returns the document of the run with this trace, which is of a replay of the code, with its text and its
-/// object: the state at the first position that is shown, and a row for each pick from there on, up to a
-/// limit, which the document tells.
+/// Returns the document of the run with this trace, which is of a replay of the code under this lending, with its
+/// text and its object: the state at the first position that is shown, and a row for each pick from there on, up to
+/// a limit, which the document tells. Behind the last pick of all it has `ending`, a word for how the run has ended.
 pub fn run_document(
     alloc: Global,
     verified: &Verified,
+    lending: Lending,
     trace: &Trace,
     source: &[u8],
     object: &[u8],
     shown: Shown,
+    ending: &[u8],
 ) -> Result<Vec<u8>, NoMemory>
-    requires enabled { AreEnabled verified.now.code (picks_of trace.now.entries) }
+    requires enabled { AreEnabledBy lending verified.now.code (picks_of trace.now.entries) }
     requires few { length (picks_of trace.now.entries) ≤ MAX_PICKS }
-    ensures { IfOk result (λ document. IsRunDocument verified.now.code (picks_of trace.now.entries)
-        source.now object.now shown.from shown.rows document.items) }
+    ensures { IfOk result (λ document. IsRunDocument lending verified.now.code (picks_of trace.now.entries)
+        source.now object.now shown.from shown.rows ending.now document.items) }
 {
     let picks = trace.len();
     let from = shown.from.min(picks);
     let rows = shown.rows.min(picks - from);
-    let mut walker = walker_at(alloc, verified, trace, from)?;
+    let mut walker = walker_at(alloc, verified, lending, trace, from)?;
     let mut state = state_of(alloc, verified, &walker.machine)?;
     let mut out = Vec::new(alloc);
-    put_head(&mut out, source, object, picks, from)?;
+    put_head(&mut out, source, object, lending, picks, from)?;
     put_start(&mut out, &state)?;
     put_rows(
         &mut out,
@@ -188,6 +188,6 @@ pub fn run_document(
         &mut state,
         rows,
     )?;
-    put_end(&mut out, end_word(verified, trace, &walker))?;
+    put_end(&mut out, end_word(trace, walker.at, ending))?;
     Ok(out)
 }

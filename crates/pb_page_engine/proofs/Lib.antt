@@ -1,3 +1,2 @@
 pub mod StatesLemmas
-pub mod ReplayStatus
 pub mod SchedulesLemmas

@@ -1,19 +1,20 @@
 -- From what is said of each part of an input to what is said of it all.
 use Rattle.std.proofs.Common.{◌≡◌, ◌≤◌, ℕ, List, length, Option, Result, Ok, Err, IfOk, OnErr, Vec, Global, subst, arith}
+use Rattle.pb_base.specs.declared.lending.Lending.{Lending}
 use Rattle.pb_base.specs.declared.memory.NoMemory.{NoMemory}
 use Rattle.pb_base.specs.Steppers.{State}
 use Rattle.pb_code.specs.Code.{CodeProcess}
 use Rattle.pb_code.specs.Whole.{Code, ProcessLabels}
 use Rattle.pb_codegen.specs.Compiled.{IsCompiled}
 use Rattle.pb_page.specs.declared.run.Shown.{Shown}
-use Rattle.pb_page_engine.specs.States.{IsDocument, SaysOfStates, SaysOfStatesLines, not_made, no_memory, told, no_text}
+use Rattle.pb_page_engine.specs.States.{IsDocument, SaysOfStates, SaysOfStatesLines, not_made, no_memory, shows, no_text}
 use Rattle.pb_page_engine.specs.States.{with_code}
 use Rattle.pb_command_io.specs.Answers.{Says, Tells, memory_line}
 use Rattle.pb_command_io.specs.Inputs.{SaysOfInput, too_long, nothing, not_read, read}
 use Rattle.pb_command_io.specs.Inputs as input
 use Rattle.pb_command_io.specs.Parts.{AreTwoParts}
 use Rattle.pb_accept.specs.Refusals.{SaysOfRefusedText, refused as by_line}
-use Rattle.pb_accept.specs.ReplayLines.{AreReplayed, IsStatusAt, SaysOfNoPicks}
+use Rattle.pb_accept.specs.ReplayLines.{AreReplayedBy, SaysOfNoPicksBy}
 use Rattle.pb_command_io.specs.declared.reply.Reply.{Reply}
 use Rattle.pb_command_io.specs.declared.status.Status.{Status}
 use Rattle.pb_command_io.specs.declared.status.Status.TheVariants.{Memory}
@@ -22,40 +23,40 @@ use Rattle.pb_object.specs.Answers.{SpellsCode}
 use Rattle.pb_object.specs.declared.format.Format.TheVariants.{Two}
 
 -- a reply to lines that say no picks, or out of memory for it
-pub no_picks_told : (shown : Shown) (source : List ℕ) (code : Code) (labels : List ProcessLabels) (lines : List ℕ) (reply : Result Reply NoMemory) (old new : Option (List ℕ)) (given : Status)
-    → IfOk reply (λ r. SaysOfNoPicks code lines r.text.items r.status) → IfOk reply (λ r. Says old new r.text.items r.status given)
-    → OnErr reply (Says old new memory_line Memory given) → Tells (SaysOfStatesLines shown source code labels lines) old new given
-no_picks_told shown source code labels lines (Ok r) old new given is says memory = (r.text.items, r.status, not_made r.text.items r.status is, says)
-no_picks_told shown source code labels lines (Err e) old new given is says memory = (memory_line, Memory, no_memory, memory)
+pub no_picks_told : (lending : Lending) (shown : Shown) (source : List ℕ) (code : Code) (labels : List ProcessLabels) (lines : List ℕ) (reply : Result Reply NoMemory) (old new : Option (List ℕ)) (given : Status)
+    → IfOk reply (λ r. SaysOfNoPicksBy lending code lines r.text.items r.status) → IfOk reply (λ r. Says old new r.text.items r.status given)
+    → OnErr reply (Says old new memory_line Memory given) → Tells (SaysOfStatesLines lending shown source code labels lines) old new given
+no_picks_told lending shown source code labels lines (Ok r) old new given is says memory = (r.text.items, r.status, not_made r.text.items r.status is, says)
+no_picks_told lending shown source code labels lines (Err e) old new given is says memory = (memory_line, Memory, no_memory, memory)
 
 -- a document, or out of memory for it
-pub document_told : (shown : Shown) (source : List ℕ) (code : Code) (labels : List ProcessLabels) (lines : List ℕ) (entries : List Entry) (end : State CodeProcess) (reply : Result Reply NoMemory)
-    (old new : Option (List ℕ)) (given : Status) → AreReplayed code lines entries end
-    → IfOk reply (λ r. IsDocument shown source code labels entries r.text.items) → IfOk reply (λ r. IsStatusAt end r.status)
+pub document_told : (lending : Lending) (shown : Shown) (source : List ℕ) (code : Code) (labels : List ProcessLabels) (lines : List ℕ) (entries : List Entry)
+    (end : State CodeProcess) (reply : Result Reply NoMemory) (old new : Option (List ℕ)) (given : Status) → AreReplayedBy lending code lines entries end
+    → IfOk reply (λ r. IsDocument lending shown source code labels entries end r.text.items r.status)
     → IfOk reply (λ r. Says old new r.text.items r.status given) → OnErr reply (Says old new memory_line Memory given)
-    → Tells (SaysOfStatesLines shown source code labels lines) old new given
-document_told shown source code labels lines entries end (Ok r) old new given are written status says memory =
-    (r.text.items, r.status, told entries end are r.text.items written r.status status, says)
-document_told shown source code labels lines entries end (Err e) old new given are written status says memory = (memory_line, Memory, no_memory, memory)
+    → Tells (SaysOfStatesLines lending shown source code labels lines) old new given
+document_told lending shown source code labels lines entries end (Ok r) old new given are written says memory =
+    (r.text.items, r.status, shows entries end are r.text.items r.status written, says)
+document_told lending shown source code labels lines entries end (Err e) old new given are written says memory = (memory_line, Memory, no_memory, memory)
 
 -- a refused text
-pub refusal_told : (shown : Shown) (bytes text lines : List ℕ) (old new : Option (List ℕ)) (given : Status) → length bytes ≤ 4194304
+pub refusal_told : (lending : Lending) (shown : Shown) (bytes text lines : List ℕ) (old new : Option (List ℕ)) (given : Status) → length bytes ≤ 4194304
     → length text ≤ 4194304 → AreTwoParts bytes text lines → Tells (SaysOfInput SaysOfRefusedText text) old new given
-    → Tells (SaysOfInput (SaysOfStates shown) bytes) old new given
-refusal_told shown bytes text lines old new given short few cut (said, status, is, written) = (said, status, go said status is, written)
+    → Tells (SaysOfInput (SaysOfStates lending shown) bytes) old new given
+refusal_told lending shown bytes text lines old new given short few cut (said, status, is, written) = (said, status, go said status is, written)
   where
-    go : (said : List ℕ) (status : Status) → SaysOfInput SaysOfRefusedText text said status → SaysOfInput (SaysOfStates shown) bytes said status
+    go : (said : List ℕ) (status : Status) → SaysOfInput SaysOfRefusedText text said status → SaysOfInput (SaysOfStates lending shown) bytes said status
     go _ _ (not_read (too_long long)) = absurd (omega (arith, long, few))
     go _ _ (not_read input.no_memory) = not_read input.no_memory
     go _ _ (not_read nothing) = not_read nothing
     go _ _ (read within (by_line refusal is)) = read short (no_text text lines cut refusal is)
 
 -- an accepted text, and what is said of the lines behind it
-pub lines_told : (shown : Shown) (bytes text lines : List ℕ) (code : Code) (labels : List ProcessLabels) (old new : Option (List ℕ))
+pub lines_told : (lending : Lending) (shown : Shown) (bytes text lines : List ℕ) (code : Code) (labels : List ProcessLabels) (old new : Option (List ℕ))
     (answered : Status) → length bytes ≤ 4194304 → AreTwoParts bytes text lines → IsCompiled text code labels
-    → Tells (SaysOfStatesLines shown text code labels lines) old new answered
-    → Tells (SaysOfInput (SaysOfStates shown) bytes) old new answered
-lines_told shown bytes text lines code labels old new answered short cut compiled (said, status, says, written) =
+    → Tells (SaysOfStatesLines lending shown text code labels lines) old new answered
+    → Tells (SaysOfInput (SaysOfStates lending shown) bytes) old new answered
+lines_told lending shown bytes text lines code labels old new answered short cut compiled (said, status, says, written) =
     (said, status, read short (with_code text lines cut code labels compiled said status says), written)
 
 -- an object spells the same code and labels, by whatever name they go

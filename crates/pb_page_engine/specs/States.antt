@@ -2,6 +2,7 @@
 use Rattle.std.specs.Prelude.{ℕ, List}
 use Rattle.pb_base.specs.Lines.{line}
 use Rattle.pb_base.specs.Steppers.{State}
+use Rattle.pb_base.specs.declared.lending.Lending.{Lending}
 use Rattle.pb_code.specs.Code.{CodeProcess}
 use Rattle.pb_code.specs.Whole.{Code, ProcessLabels}
 use Rattle.pb_codegen.specs.Compiled.{IsCompiled}
@@ -12,32 +13,39 @@ use Rattle.pb_page.specs.declared.run.Shown.{Shown}
 use Rattle.pb_command_io.specs.Answers.{memory_line}
 use Rattle.pb_command_io.specs.Parts.{AreTwoParts}
 use Rattle.pb_accept.specs.Refusals.{RefusesWith}
-use Rattle.pb_accept.specs.ReplayLines.{AreReplayed, IsStatusAt, SaysOfNoPicks}
+use Rattle.pb_accept.specs.ReplayLines.{AreReplayedBy, IsEnding, IsEndStatus, SaysOfNoPicksBy, last_line}
+use Rattle.pb_accept.specs.declared.ending.Ending.{Ending}
 use Rattle.pb_command_io.specs.declared.status.Status.{Status}
 use Rattle.pb_command_io.specs.declared.status.Status.TheVariants.{Memory, Refused}
 use Rattle.pb_history.specs.Entries.{Entry, picks_of}
 
--- a document of the run of these entries, with the text and the object of its program
-pub record IsDocument (shown : Shown) (source : List ℕ) (code : Code) (labels : List ProcessLabels) (entries : List Entry) (document : List ℕ) : Type 0 where
+-- a document of the run that made these entries and led to this state under this lending, with the text and the object
+-- of its program; it tells by the last word of `replay` how the run has ended, and the status is that of `replay`
+pub record IsDocument (lending : Lending) (shown : Shown) (source : List ℕ) (code : Code) (labels : List ProcessLabels) (entries : List Entry)
+    (end : State CodeProcess) (document : List ℕ) (status : Status) : Type 0 where
   pub object : List ℕ
   pub spelled : SpellsCode Two code labels object
-  pub written : IsRunDocument code (picks_of entries) source object shown.from shown.rows document
+  pub ending : Ending
+  pub ends : IsEnding lending code end ending
+  pub written : IsRunDocument lending code (picks_of entries) source object shown.from shown.rows (last_line ending) document
+  pub told : IsEndStatus end ending status
 
--- what is said of the lines behind an accepted text, by its code: their picks are refused; or all are made,
--- and the document of their run is written, with the status of `replay`
-pub data SaysOfStatesLines (shown : Shown) (source : List ℕ) (code : Code) (labels : List ProcessLabels) (lines : List ℕ) : List ℕ → Status → Type 0 where
-  not_made : (said : List ℕ) (status : Status) → SaysOfNoPicks code lines said status
-      → SaysOfStatesLines shown source code labels lines said status
-  no_memory : SaysOfStatesLines shown source code labels lines memory_line Memory
-  told : (entries : List Entry) (end : State CodeProcess) → AreReplayed code lines entries end
-      → (said : List ℕ) → IsDocument shown source code labels entries said
-      → (status : Status) → IsStatusAt end status → SaysOfStatesLines shown source code labels lines said status
+-- what is said of the lines behind an accepted text, by its code: their picks are refused under this lending; or all
+-- are made, and the document of their run is written
+pub data SaysOfStatesLines (lending : Lending) (shown : Shown) (source : List ℕ) (code : Code) (labels : List ProcessLabels) (lines : List ℕ)
+    : List ℕ → Status → Type 0 where
+  not_made : (said : List ℕ) (status : Status) → SaysOfNoPicksBy lending code lines said status
+      → SaysOfStatesLines lending shown source code labels lines said status
+  no_memory : SaysOfStatesLines lending shown source code labels lines memory_line Memory
+  shows : (entries : List Entry) (end : State CodeProcess) → AreReplayedBy lending code lines entries end
+      → (said : List ℕ) (status : Status) → IsDocument lending shown source code labels entries end said status
+      → SaysOfStatesLines lending shown source code labels lines said status
 
 -- what is said of an input, which is a text and pick lines behind it: its text is refused; or it is accepted
-pub data SaysOfStates (shown : Shown) (bytes : List ℕ) : List ℕ → Status → Type 0 where
+pub data SaysOfStates (lending : Lending) (shown : Shown) (bytes : List ℕ) : List ℕ → Status → Type 0 where
   no_text : (text lines : List ℕ) → AreTwoParts bytes text lines
-      → (refusal : List ℕ) → RefusesWith text refusal → SaysOfStates shown bytes (line refusal) Refused
+      → (refusal : List ℕ) → RefusesWith text refusal → SaysOfStates lending shown bytes (line refusal) Refused
   with_code : (text lines : List ℕ) → AreTwoParts bytes text lines
       → (code : Code) (labels : List ProcessLabels) → IsCompiled text code labels
-      → (said : List ℕ) (status : Status) → SaysOfStatesLines shown text code labels lines said status
-      → SaysOfStates shown bytes said status
+      → (said : List ℕ) (status : Status) → SaysOfStatesLines lending shown text code labels lines said status
+      → SaysOfStates lending shown bytes said status

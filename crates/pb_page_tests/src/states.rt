@@ -1,14 +1,15 @@
 //! Whole inputs, and the documents or the refusals that are written of them.
 
-use pb_base::{FaultyInput, MemoryInput, MemoryOutput};
+use pb_base::{Lending, MemoryInput, MemoryOutput};
 use pb_command_io::Status;
 use pb_page::Shown;
 use pb_page_engine::states_engine;
 use std::alloc::Global;
 
-/// An input, the part that is shown, what is written, and the status.
+/// An input, who lends, the part that is shown, what is written, and the status.
 struct Case {
     input: &'static [u8],
+    lending: Lending,
     shown: Shown,
     said: &'static [u8],
     status: Status,
@@ -17,38 +18,42 @@ struct Case {
 /// A whole run, in which the banker keeps b waiting.
 const WHOLE: Case = Case {
     input: b"resource tape = 1;\nresource disk = 1;\nprocess a begin hold 1 of tape do hold 1 of disk do print 1 od od end\nprocess b begin hold 1 of disk do hold 1 of tape do print 2 od od end\n%%\na.0 6\nb.0 1\na.0 1\nb.0 6\n",
+    lending: Lending::ByBanker,
     shown: Shown {
         from: 0,
         rows: 20_000,
     },
-    said: b"{\"parbegin\":1,\"kind\":\"run\",\"text\":\"resource tape = 1;\\nresource disk = 1;\\nprocess a begin hold 1 of tape do hold 1 of disk do print 1 od od end\\nprocess b begin hold 1 of disk do hold 1 of tape do print 2 od od end\\n\",\"object\":\"PBO 2\\nresources 2\\nresource tape 1\\nresource disk 1\\nprocesses 2\\nprocess a\\nvars 0\\narms 1\\nclaims 1 1\\narm 0\\ncode 7\\n3 take 0 1\\n3 take 1 1\\n3 push 1\\n3 print\\n3 give 1 1\\n3 give 0 1\\n0 end\\nprocess b\\nvars 0\\narms 1\\nclaims 1 1\\narm 0\\ncode 7\\n4 take 1 1\\n4 take 0 1\\n4 push 2\\n4 print\\n4 give 0 1\\n4 give 1 1\\n0 end\\n\",\"picks\":14,\"from\":0,\"start\":[0,0,[],[],1,1,0,0,0,0,[0,1]],\"rows\":[[0,0,0,1,5,[\"rest\",0,1],6,1,\"a.0 grant 1 tape\"],[0,0,0,2,4,0,5,[\"cash\",1],7,1,\"a.0 grant 1 disk\"],[0,0,0,3,2,[1]],[0,0,0,4,2,[],\"a.0 print 1\"],[0,0,0,5,5,[\"rest\",0,1],7,0,\"a.0 return 1 disk\"],[0,0,0,6,5,1,6,0,\"a.0 return 1 tape\"],[1,0,1,1,9,1,10,[1,0],\"b.0 grant 1 disk\"],[0,0,0,-2,\"a end\"],[1,0,1,2,5,0,8,1,\"b.0 grant 1 tape\"],[1,0,1,3,3,[2]],[1,0,1,4,3,[],\"b.0 print 2\"],[1,0,1,5,8,0,\"b.0 return 1 tape\"],[1,0,1,6,9,0,10,[0,1],\"b.0 return 1 disk\"],[1,0,1,-2,\"b end\"]],\"end\":\"done\"}\n",
+    said: b"{\"parbegin\":1,\"kind\":\"run\",\"text\":\"resource tape = 1;\\nresource disk = 1;\\nprocess a begin hold 1 of tape do hold 1 of disk do print 1 od od end\\nprocess b begin hold 1 of disk do hold 1 of tape do print 2 od od end\\n\",\"object\":\"PBO 2\\nresources 2\\nresource tape 1\\nresource disk 1\\nprocesses 2\\nprocess a\\nvars 0\\narms 1\\nclaims 1 1\\narm 0\\ncode 7\\n3 take 0 1\\n3 take 1 1\\n3 push 1\\n3 print\\n3 give 1 1\\n3 give 0 1\\n0 end\\nprocess b\\nvars 0\\narms 1\\nclaims 1 1\\narm 0\\ncode 7\\n4 take 1 1\\n4 take 0 1\\n4 push 2\\n4 print\\n4 give 0 1\\n4 give 1 1\\n0 end\\n\",\"lend\":\"banker\",\"picks\":14,\"from\":0,\"start\":[0,0,[],[],1,1,0,0,0,0,[0,1]],\"rows\":[[0,0,0,1,5,[\"rest\",0,1],6,1,\"a.0 grant 1 tape\"],[0,0,0,2,4,0,5,[\"cash\",1],7,1,\"a.0 grant 1 disk\"],[0,0,0,3,2,[1]],[0,0,0,4,2,[],\"a.0 print 1\"],[0,0,0,5,5,[\"rest\",0,1],7,0,\"a.0 return 1 disk\"],[0,0,0,6,5,1,6,0,\"a.0 return 1 tape\"],[1,0,1,1,9,1,10,[1,0],\"b.0 grant 1 disk\"],[0,0,0,-2,\"a end\"],[1,0,1,2,5,0,8,1,\"b.0 grant 1 tape\"],[1,0,1,3,3,[2]],[1,0,1,4,3,[],\"b.0 print 2\"],[1,0,1,5,8,0,\"b.0 return 1 tape\"],[1,0,1,6,9,0,10,[0,1],\"b.0 return 1 disk\"],[1,0,1,-2,\"b end\"]],\"end\":\"done\"}\n",
     status: Status::Done,
 };
 
 /// A part of the same run: two rows from position 6 on.
 const PART: Case = Case {
     input: b"resource tape = 1;\nresource disk = 1;\nprocess a begin hold 1 of tape do hold 1 of disk do print 1 od od end\nprocess b begin hold 1 of disk do hold 1 of tape do print 2 od od end\n%%\na.0 6\nb.0 1\na.0 1\nb.0 6\n",
+    lending: Lending::ByBanker,
     shown: Shown { from: 6, rows: 2 },
-    said: b"{\"parbegin\":1,\"kind\":\"run\",\"text\":\"resource tape = 1;\\nresource disk = 1;\\nprocess a begin hold 1 of tape do hold 1 of disk do print 1 od od end\\nprocess b begin hold 1 of disk do hold 1 of tape do print 2 od od end\\n\",\"object\":\"PBO 2\\nresources 2\\nresource tape 1\\nresource disk 1\\nprocesses 2\\nprocess a\\nvars 0\\narms 1\\nclaims 1 1\\narm 0\\ncode 7\\n3 take 0 1\\n3 take 1 1\\n3 push 1\\n3 print\\n3 give 1 1\\n3 give 0 1\\n0 end\\nprocess b\\nvars 0\\narms 1\\nclaims 1 1\\narm 0\\ncode 7\\n4 take 1 1\\n4 take 0 1\\n4 push 2\\n4 print\\n4 give 0 1\\n4 give 1 1\\n0 end\\n\",\"picks\":14,\"from\":6,\"start\":[6,0,[],[],0,1,0,0,0,0,[0,1]],\"rows\":[[1,0,1,1,9,1,10,[1,0],\"b.0 grant 1 disk\"],[0,0,0,-2,\"a end\"]],\"end\":\"more\"}\n",
+    said: b"{\"parbegin\":1,\"kind\":\"run\",\"text\":\"resource tape = 1;\\nresource disk = 1;\\nprocess a begin hold 1 of tape do hold 1 of disk do print 1 od od end\\nprocess b begin hold 1 of disk do hold 1 of tape do print 2 od od end\\n\",\"object\":\"PBO 2\\nresources 2\\nresource tape 1\\nresource disk 1\\nprocesses 2\\nprocess a\\nvars 0\\narms 1\\nclaims 1 1\\narm 0\\ncode 7\\n3 take 0 1\\n3 take 1 1\\n3 push 1\\n3 print\\n3 give 1 1\\n3 give 0 1\\n0 end\\nprocess b\\nvars 0\\narms 1\\nclaims 1 1\\narm 0\\ncode 7\\n4 take 1 1\\n4 take 0 1\\n4 push 2\\n4 print\\n4 give 0 1\\n4 give 1 1\\n0 end\\n\",\"lend\":\"banker\",\"picks\":14,\"from\":6,\"start\":[6,0,[],[],0,1,0,0,0,0,[0,1]],\"rows\":[[1,0,1,1,9,1,10,[1,0],\"b.0 grant 1 disk\"],[0,0,0,-2,\"a end\"]],\"end\":\"more\"}\n",
     status: Status::Done,
 };
 
 /// A run that stops early, from behind its end.
 const OPEN: Case = Case {
     input: b"resource tape = 1;\nresource disk = 1;\nprocess a begin hold 1 of tape do hold 1 of disk do print 1 od od end\nprocess b begin hold 1 of disk do hold 1 of tape do print 2 od od end\n%%\na.0 6\n",
+    lending: Lending::ByBanker,
     shown: Shown { from: 9, rows: 5 },
-    said: b"{\"parbegin\":1,\"kind\":\"run\",\"text\":\"resource tape = 1;\\nresource disk = 1;\\nprocess a begin hold 1 of tape do hold 1 of disk do print 1 od od end\\nprocess b begin hold 1 of disk do hold 1 of tape do print 2 od od end\\n\",\"object\":\"PBO 2\\nresources 2\\nresource tape 1\\nresource disk 1\\nprocesses 2\\nprocess a\\nvars 0\\narms 1\\nclaims 1 1\\narm 0\\ncode 7\\n3 take 0 1\\n3 take 1 1\\n3 push 1\\n3 print\\n3 give 1 1\\n3 give 0 1\\n0 end\\nprocess b\\nvars 0\\narms 1\\nclaims 1 1\\narm 0\\ncode 7\\n4 take 1 1\\n4 take 0 1\\n4 push 2\\n4 print\\n4 give 0 1\\n4 give 1 1\\n0 end\\n\",\"picks\":6,\"from\":6,\"start\":[6,0,[],[],0,1,0,0,0,0,[0,1]],\"rows\":[],\"end\":\"open\"}\n",
+    said: b"{\"parbegin\":1,\"kind\":\"run\",\"text\":\"resource tape = 1;\\nresource disk = 1;\\nprocess a begin hold 1 of tape do hold 1 of disk do print 1 od od end\\nprocess b begin hold 1 of disk do hold 1 of tape do print 2 od od end\\n\",\"object\":\"PBO 2\\nresources 2\\nresource tape 1\\nresource disk 1\\nprocesses 2\\nprocess a\\nvars 0\\narms 1\\nclaims 1 1\\narm 0\\ncode 7\\n3 take 0 1\\n3 take 1 1\\n3 push 1\\n3 print\\n3 give 1 1\\n3 give 0 1\\n0 end\\nprocess b\\nvars 0\\narms 1\\nclaims 1 1\\narm 0\\ncode 7\\n4 take 1 1\\n4 take 0 1\\n4 push 2\\n4 print\\n4 give 0 1\\n4 give 1 1\\n0 end\\n\",\"lend\":\"banker\",\"picks\":6,\"from\":6,\"start\":[6,0,[],[],0,1,0,0,0,0,[0,1]],\"rows\":[],\"end\":\"open\"}\n",
     status: Status::Done,
 };
 
 /// A run that ends with a fault, of a text that a page must not read as markup, with integers that a float has not.
 const FAULT: Case = Case {
     input: b"process p\nbegin\n\tinteger x; // </script> \"quoted\" \\ \r\n\tx := 9007199254740993; x := x - 2; x := 1 div 0\nend\n%%\np.0 9\n",
+    lending: Lending::ByBanker,
     shown: Shown {
         from: 0,
         rows: 20_000,
     },
-    said: b"{\"parbegin\":1,\"kind\":\"run\",\"text\":\"process p\\nbegin\\n\\u0009integer x; // \\u003c/script> \\\"quoted\\\" \\\\ \\u000d\\n\\u0009x := 9007199254740993; x := x - 2; x := 1 div 0\\nend\\n\",\"object\":\"PBO 2\\nresources 0\\nprocesses 1\\nprocess p\\nvars 1 x\\narms 1\\nclaims\\narm 0\\ncode 11\\n4 push 9007199254740993\\n4 store 0\\n4 load 0\\n4 push 2\\n4 sub\\n4 store 0\\n4 push 1\\n4 push 0\\n4 div\\n4 store 0\\n0 end\\n\",\"picks\":9,\"from\":0,\"start\":[0,[],0,0,[0]],\"rows\":[[0,0,0,1,1,[\"9007199254740993\"]],[0,0,0,2,1,[],3,\"9007199254740993\"],[0,0,0,3,1,[\"9007199254740993\"]],[0,0,0,4,1,[\"9007199254740993\",2]],[0,0,0,5,1,[9007199254740991]],[0,0,0,6,1,[],3,9007199254740991],[0,0,0,7,1,[1]],[0,0,0,8,1,[1,0]],[0,0,0,-3,1,[],\"p.0 fault divide\"]],\"end\":\"done\"}\n",
+    said: b"{\"parbegin\":1,\"kind\":\"run\",\"text\":\"process p\\nbegin\\n\\u0009integer x; // \\u003c/script> \\\"quoted\\\" \\\\ \\u000d\\n\\u0009x := 9007199254740993; x := x - 2; x := 1 div 0\\nend\\n\",\"object\":\"PBO 2\\nresources 0\\nprocesses 1\\nprocess p\\nvars 1 x\\narms 1\\nclaims\\narm 0\\ncode 11\\n4 push 9007199254740993\\n4 store 0\\n4 load 0\\n4 push 2\\n4 sub\\n4 store 0\\n4 push 1\\n4 push 0\\n4 div\\n4 store 0\\n0 end\\n\",\"lend\":\"banker\",\"picks\":9,\"from\":0,\"start\":[0,[],0,0,[0]],\"rows\":[[0,0,0,1,1,[\"9007199254740993\"]],[0,0,0,2,1,[],3,\"9007199254740993\"],[0,0,0,3,1,[\"9007199254740993\"]],[0,0,0,4,1,[\"9007199254740993\",2]],[0,0,0,5,1,[9007199254740991]],[0,0,0,6,1,[],3,9007199254740991],[0,0,0,7,1,[1]],[0,0,0,8,1,[1,0]],[0,0,0,-3,1,[],\"p.0 fault divide\"]],\"end\":\"done\"}\n",
     status: Status::Fault,
 };
 
@@ -56,20 +61,56 @@ const FAULT: Case = Case {
 const REFUSALS: [Case; 3] = [
     Case {
         input: b"process p begin print 1 end process\n%%\nq.0 1\n",
+        lending: Lending::ByBanker,
         shown: Shown { from: 0, rows: 1 },
         said: b"refused P1 at 35\n",
         status: Status::Refused,
     },
     Case {
         input: b"process p begin print 1 end\n%%\np.0 9\nq.0 1\n",
+        lending: Lending::ByBanker,
         shown: Shown { from: 0, rows: 1 },
         said: b"refused K1 at 6\n",
         status: Status::Refused,
     },
     Case {
         input: b"process p begin print 1 end\n%%\np.0 9\n",
+        lending: Lending::ByBanker,
         shown: Shown { from: 0, rows: 1 },
         said: b"refused H1 at 3\n",
+        status: Status::Refused,
+    },
+];
+
+/// Runs by the cash alone: into a deadlock, up to the pick before it, and the first row of that one; the banker
+/// refuses the last pick.
+const BY_THE_CASH: [Case; 4] = [
+    Case {
+        input: b"resource tape = 1;\nresource disk = 1;\nprocess a begin hold 1 of tape do hold 1 of disk do print 1 od od end\nprocess b begin hold 1 of disk do hold 1 of tape do print 2 od od end\n%%\na.0 1\nb.0 1\n",
+        lending: Lending::ByCash,
+        shown: Shown { from: 0, rows: 9 },
+        said: b"{\"parbegin\":1,\"kind\":\"run\",\"text\":\"resource tape = 1;\\nresource disk = 1;\\nprocess a begin hold 1 of tape do hold 1 of disk do print 1 od od end\\nprocess b begin hold 1 of disk do hold 1 of tape do print 2 od od end\\n\",\"object\":\"PBO 2\\nresources 2\\nresource tape 1\\nresource disk 1\\nprocesses 2\\nprocess a\\nvars 0\\narms 1\\nclaims 1 1\\narm 0\\ncode 7\\n3 take 0 1\\n3 take 1 1\\n3 push 1\\n3 print\\n3 give 1 1\\n3 give 0 1\\n0 end\\nprocess b\\nvars 0\\narms 1\\nclaims 1 1\\narm 0\\ncode 7\\n4 take 1 1\\n4 take 0 1\\n4 push 2\\n4 print\\n4 give 0 1\\n4 give 1 1\\n0 end\\n\",\"lend\":\"cash\",\"picks\":2,\"from\":0,\"start\":[0,0,[],[],1,1,0,0,0,0,[]],\"rows\":[[0,0,0,1,6,1,\"a.0 grant 1 tape\"],[1,0,1,1,4,[\"cash\",1],5,[\"cash\",0],9,1,\"b.0 grant 1 disk\"]],\"end\":\"deadlock\"}\n",
+        status: Status::Deadlock,
+    },
+    Case {
+        input: b"resource tape = 1;\nresource disk = 1;\nprocess a begin hold 1 of tape do hold 1 of disk do print 1 od od end\nprocess b begin hold 1 of disk do hold 1 of tape do print 2 od od end\n%%\na.0 1\n",
+        lending: Lending::ByCash,
+        shown: Shown { from: 0, rows: 9 },
+        said: b"{\"parbegin\":1,\"kind\":\"run\",\"text\":\"resource tape = 1;\\nresource disk = 1;\\nprocess a begin hold 1 of tape do hold 1 of disk do print 1 od od end\\nprocess b begin hold 1 of disk do hold 1 of tape do print 2 od od end\\n\",\"object\":\"PBO 2\\nresources 2\\nresource tape 1\\nresource disk 1\\nprocesses 2\\nprocess a\\nvars 0\\narms 1\\nclaims 1 1\\narm 0\\ncode 7\\n3 take 0 1\\n3 take 1 1\\n3 push 1\\n3 print\\n3 give 1 1\\n3 give 0 1\\n0 end\\nprocess b\\nvars 0\\narms 1\\nclaims 1 1\\narm 0\\ncode 7\\n4 take 1 1\\n4 take 0 1\\n4 push 2\\n4 print\\n4 give 0 1\\n4 give 1 1\\n0 end\\n\",\"lend\":\"cash\",\"picks\":1,\"from\":0,\"start\":[0,0,[],[],1,1,0,0,0,0,[]],\"rows\":[[0,0,0,1,6,1,\"a.0 grant 1 tape\"]],\"end\":\"open\"}\n",
+        status: Status::Done,
+    },
+    Case {
+        input: b"resource tape = 1;\nresource disk = 1;\nprocess a begin hold 1 of tape do hold 1 of disk do print 1 od od end\nprocess b begin hold 1 of disk do hold 1 of tape do print 2 od od end\n%%\na.0 1\nb.0 1\n",
+        lending: Lending::ByCash,
+        shown: Shown { from: 0, rows: 1 },
+        said: b"{\"parbegin\":1,\"kind\":\"run\",\"text\":\"resource tape = 1;\\nresource disk = 1;\\nprocess a begin hold 1 of tape do hold 1 of disk do print 1 od od end\\nprocess b begin hold 1 of disk do hold 1 of tape do print 2 od od end\\n\",\"object\":\"PBO 2\\nresources 2\\nresource tape 1\\nresource disk 1\\nprocesses 2\\nprocess a\\nvars 0\\narms 1\\nclaims 1 1\\narm 0\\ncode 7\\n3 take 0 1\\n3 take 1 1\\n3 push 1\\n3 print\\n3 give 1 1\\n3 give 0 1\\n0 end\\nprocess b\\nvars 0\\narms 1\\nclaims 1 1\\narm 0\\ncode 7\\n4 take 1 1\\n4 take 0 1\\n4 push 2\\n4 print\\n4 give 0 1\\n4 give 1 1\\n0 end\\n\",\"lend\":\"cash\",\"picks\":2,\"from\":0,\"start\":[0,0,[],[],1,1,0,0,0,0,[]],\"rows\":[[0,0,0,1,6,1,\"a.0 grant 1 tape\"]],\"end\":\"more\"}\n",
+        status: Status::Deadlock,
+    },
+    Case {
+        input: b"resource tape = 1;\nresource disk = 1;\nprocess a begin hold 1 of tape do hold 1 of disk do print 1 od od end\nprocess b begin hold 1 of disk do hold 1 of tape do print 2 od od end\n%%\na.0 1\nb.0 1\n",
+        lending: Lending::ByBanker,
+        shown: Shown { from: 0, rows: 9 },
+        said: b"refused H1 at 1\n",
         status: Status::Refused,
     },
 ];
@@ -81,6 +122,7 @@ fn says(alloc: Global, case: &Case) -> bool {
     };
     let status = states_engine(
         alloc,
+        case.lending,
         case.shown,
         &mut MemoryInput::new(case.input),
         &mut output,
@@ -102,6 +144,13 @@ fn a_limit_is_told(rt: HostRuntime) {
 #[test]
 fn a_fault_ends_a_process(rt: HostRuntime) {
     assert!(rt; says(rt.alloc(), &FAULT));
+}
+
+#[test]
+fn the_cash_alone_can_lead_to_a_deadlock(rt: HostRuntime) {
+    for case in &BY_THE_CASH {
+        assert!(rt; says(rt.alloc(), case));
+    }
 }
 
 #[test]

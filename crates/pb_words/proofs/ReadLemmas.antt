@@ -16,7 +16,7 @@ use Rattle.pb_command_line.specs.CommandLine.{bank_command, dap_command, states_
 use Rattle.clap.specs.declared.parser.matches.Found.{Found}
 use Rattle.clap.proofs.WalkLemmas.{one_text-rows}
 use Rattle.pb_words.specs.Read.{BlamesWords, HasCheckNumbers, HasCode, HasEmitNumber, HasFlag, HasNumber, HasNumberIn}
-use Rattle.pb_words.specs.Read.{HasDebugOptions, HasDrawLend, HasLend, HasOptionalNumber, HasOptionalNumberIn, HasReplayLend, HasSearchOptions, HasStatesNumbers}
+use Rattle.pb_words.specs.Read.{HasDebugOptions, HasDrawLend, HasLend, HasOptionalNumber, HasOptionalNumberIn, HasReplayLend, HasSearchOptions, HasStatesOptions}
 use Rattle.pb_words.specs.Read.{HasRecordNumbers, HasRunNumbers}
 use Rattle.pb_words.specs.Read.{IsReadFrom, IsReadFromMatches}
 use Rattle.pb_words.specs.declared.words.Options.{Options}
@@ -383,7 +383,7 @@ no_outcomes rows none (States o) says =
     let m : 111 ≡ 115 = ap (λ (l : Text). get_or l 0 0) says.0 in omega (arith, m)
 
 -- if its options cannot be read, the rows of `states` say nothing
-pub no_states : (rows : List Row) → ((o : StatesOptions) → HasStatesNumbers rows o → ⊥) → (o : Options)
+pub no_states : (rows : List Row) → ((o : StatesOptions) → HasStatesOptions rows o → ⊥) → (o : Options)
     → IsReadFrom (codes "states") rows o → ⊥
 no_states rows none Bank says =
     let m : 115 ≡ 98 = ap (λ (l : Text). get_or l 0 0) says in omega (arith, m)

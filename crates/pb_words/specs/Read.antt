@@ -92,8 +92,8 @@ HasDrawLend rows o = HasLend rows o.lend
 abbrev pub HasReplayLend : List Row → ReplayOptions → Type 0
 HasReplayLend rows o = HasLend rows o.lend
 
-abbrev pub HasStatesNumbers : List Row → StatesOptions → Type 0
-HasStatesNumbers rows o = HasNumber rows (codes "rows") o.rows × HasNumber rows (codes "from") o.from
+abbrev pub HasStatesOptions : List Row → StatesOptions → Type 0
+HasStatesOptions rows o = HasNumber rows (codes "rows") o.rows × HasNumber rows (codes "from") o.from × HasLend rows o.lend
 
 -- the options are those of this subcommand with these matches
 abbrev pub IsReadFrom : Text → List Row → Options → Type 0
@@ -112,7 +112,7 @@ IsReadFrom name rows option.Plan = name ≡ codes "plan"
 IsReadFrom name rows (option.Record o) = (name ≡ codes "record") × HasRecordNumbers rows o
 IsReadFrom name rows (option.Replay o) = (name ≡ codes "replay") × HasReplayLend rows o
 IsReadFrom name rows (option.Run o) = (name ≡ codes "run") × HasRunNumbers rows o
-IsReadFrom name rows (option.States o) = (name ≡ codes "states") × HasStatesNumbers rows o
+IsReadFrom name rows (option.States o) = (name ≡ codes "states") × HasStatesOptions rows o
 
 -- the same, if the parse entered a subcommand
 abbrev pub IsReadFromMatches : Option (Text × List Row) → Options → Type 0

@@ -3,7 +3,7 @@ ghost use Rattle.std.specs.Prelude.{◌≡◌, ◌↔◌, IfErr, IfNone, IfOk, I
 ghost use Rattle.clap.specs.Words.{found_of, kind_of, one_of, rows_of, subcommand_rows_of};
 ghost use Rattle.pb_words.specs.Read.{BlamesWords, HasCheckNumbers, HasCode, HasDebugOptions, HasDrawLend, HasEmitNumber};
 ghost use Rattle.pb_words.specs.Read.{HasFlag, HasNumberIn, HasOptionalNumberIn, HasRecordNumbers, HasRunNumbers, HasLend, HasReplayLend, HasSearchOptions};
-ghost use Rattle.pb_words.specs.Read.{HasStatesNumbers, IsReadFromMatches, WordsSay};
+ghost use Rattle.pb_words.specs.Read.{HasStatesOptions, IsReadFromMatches, WordsSay};
 ghost use Rattle.pb_words.specs.declared.words.Options.{Options as AnyOptions};
 ghost use Rattle.pb_options.specs.declared.options.CheckOptions.{CheckOptions as AnyCheckOptions};
 ghost use Rattle.pb_options.specs.declared.options.DebugOptions.{DebugOptions as AnyDebugOptions};
@@ -177,14 +177,16 @@ fn replay_options(matches: &ArgMatches<'_>) -> Option<ReplayOptions>
 }
 
 fn states_options(matches: &ArgMatches<'_>) -> Option<StatesOptions>
-    ensures some { IfSome result (HasStatesNumbers (rows_of (found_of matches.now))) }
-    ensures none { IfNone result ((o : AnyStatesOptions) → HasStatesNumbers (rows_of (found_of matches.now)) o → ⊥) }
+    ensures some { IfSome result (HasStatesOptions (rows_of (found_of matches.now))) }
+    ensures none { IfNone result ((o : AnyStatesOptions) → HasStatesOptions (rows_of (found_of matches.now)) o → ⊥) }
 {
     let rows = number(matches, "rows", 1, MAX_ROWS as u64)?;
     let from = number(matches, "from", 0, MAX_PICKS as u64)?;
+    let lend = lend(matches)?;
     Some(StatesOptions {
         rows: rows as u32,
         from: from as u32,
+        lend,
     })
 }
 

@@ -1,10 +1,6 @@
-use Rattle.std.proofs.Common.{IfSome, inl, inr, subst, rules}
+use Rattle.std.proofs.Common.{inl, inr, subst, rules}
 use Rattle.pb_words.specs.declared.words.Options.TheVariants.{Bank, Check, Dap, Debug, Emit, Exec, Explain, Outcomes, Record}
 use Rattle.pb_words.specs.declared.words.Options.TheVariants.{Run, States}
-use Rattle.pb_command_io.specs.Answers.{Tells}
-use Rattle.pb_command_io.specs.Inputs.{SaysOfInput}
-use Rattle.pb_page.specs.declared.run.Shown.{Shown}
-use Rattle.pb_page_engine.specs.States.{SaysOfStates}
 use Rattle.pb_words.specs.Read.{WordsSay}
 use Rattle.pb_answer.proofs.AnswerLemmas.{CallTellsFaults-debug, CallWrites-refused}
 use Rattle.pb_answer.proofs.answer.answer.Goals as goal
@@ -89,10 +85,7 @@ returns-in-Ok-Dap-clause-faults g c =
 pub returns-in-Ok-States-clause-text : goal.returns-in-Ok-States-clause-text
 returns-in-Ok-States-clause-text g c =
     let read = subst (WordsSay c.args.words.now) c.in-Ok-States.field-0-is c.in-Ok-States.ensures.read in
-    let text = subst (λ (shown : Shown). IfSome (g.I.Input.rest c.args.input.now) (λ bytes.
-    Tells (SaysOfInput (SaysOfStates shown) bytes) (g.O.Output.written c.args.output.now)
-    (g.O.Output.written c.states_engine.new.output) c.states_engine.result)) c.shown.ensures c.states_engine.ensures.text in
-    inl (States c.in-Ok-States.numbers, read, text)
+    inl (States c.in-Ok-States.options, read, c.states.ensures.text)
 
 pub returns-in-Ok-Outcomes-clause-faults : goal.returns-in-Ok-Outcomes-clause-faults
 returns-in-Ok-Outcomes-clause-faults g c = inl c.outcomes_engine.ensures.faults
@@ -101,4 +94,4 @@ pub returns-in-Ok-Record-clause-faults : goal.returns-in-Ok-Record-clause-faults
 returns-in-Ok-Record-clause-faults g c = inl c.record_engine.ensures.faults
 
 pub returns-in-Ok-States-clause-faults : goal.returns-in-Ok-States-clause-faults
-returns-in-Ok-States-clause-faults g c = inl c.states_engine.ensures.faults
+returns-in-Ok-States-clause-faults g c = inl c.states.ensures.faults

@@ -40,6 +40,13 @@ returns-in-Draw c =
     (subst (λ (l : Lending). IfOk c.message_of-in-Draw.result (λ message. SaysToPerson (Replayed l) bytes message.items))
     c.lending-in-Draw.ensures c.message_of-in-Draw.ensures)
 
+pub returns-in-States : goal.returns-in-States
+returns-in-States c =
+    let bytes = c.args.bytes.now in
+    subst (λ (o : Options). IfOk c.message_of-in-States.result (λ message. TellsRefused o bytes message.items)) (sym c.in-States.is)
+    (subst (λ (l : Lending). IfOk c.message_of-in-States.result (λ message. SaysToPerson (Replayed l) bytes message.items))
+    c.lending-in-States.ensures c.message_of-in-States.ensures)
+
 pub returns-in-Replay : goal.returns-in-Replay
 returns-in-Replay c =
     let bytes = c.args.bytes.now in
