@@ -1,3 +1,4 @@
 pub mod LineLemmas
 pub mod OrderLemmas
+pub mod PartLemmas
 pub mod PlanLemmas

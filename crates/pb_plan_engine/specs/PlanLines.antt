@@ -1,6 +1,6 @@
 -- What `plan` says of an input, and with which status.
-use Rattle.std.specs.Prelude.{◌≡◌, ℕ, List, [], ◌++◌, ◌==◌, codes, cond, length, slice_index, slice_index_or, map, MatchOption}
-use Rattle.std.specs.Prelude.{Option, Some, None}
+use Rattle.std.specs.Prelude.{◌≡◌, ℕ, ◌+◌, Bool, List, [], ◌++◌, ◌==◌, codes, cond, length, slice_index, slice_index_or, map, MatchOption}
+use Rattle.std.specs.Prelude.{Option, Some, None, option_map}
 use Rattle.std.specs.Fmt.{decimal}
 use Rattle.std.specs.List.{flat_map}
 use Rattle.pb_base.specs.Banker.{row_of}
@@ -8,8 +8,10 @@ use Rattle.pb_base.specs.Lines.{each_below, line}
 use Rattle.pb_base.specs.Steppers.{Table}
 use Rattle.pb_claims.specs.Fits.{FitCapital, IsFirstOver}
 use Rattle.pb_claims.specs.declared.over_capital.OverCapital.{OverCapital}
+use Rattle.pb_names.specs.Meaning.{AreClaims}
 use Rattle.pb_names.specs.Program.{Block, Skip, Name, Program, capital_of}
-use Rattle.pb_names.specs.Resolves.{process_names, resource_names}
+use Rattle.pb_names.specs.Resolves.{Resolves, resource_names}
+use Rattle.pb_tree.specs.Syntax.{ProgramSyntax}
 use Rattle.pb_plan.specs.Circles.{IsCircle}
 use Rattle.pb_plan.specs.Needs.{AllFree, IsBottleneck, free_capital, least_capital}
 use Rattle.pb_plan.specs.Nests.{IsOrder}
@@ -17,8 +19,12 @@ use Rattle.pb_plan.specs.Orders.{IsFollowed}
 use Rattle.pb_plan.specs.Parts.{parts}
 use Rattle.pb_plan.specs.declared.edge.Edge.{Edge}
 use Rattle.pb_plan.specs.declared.part.Part.{Part}
-use Rattle.pb_codegen.specs.Numbered.{IsReadAs}
-use Rattle.pb_accept.specs.Refusals.{RefusesEarly}
+use Rattle.pb_codegen.specs.declared.fault.CompileFault.{CompileFault}
+use Rattle.pb_codegen.specs.declared.fault.CompileFault.TheVariants.{Lex, Parse, Names, Claims, Memory}
+use Rattle.pb_accept.specs.Causes.{cause_line, text_cause}
+use Rattle.pb_accept.specs.Refusals.{lex_line, names_line, parse_line}
+use Rattle.pb_command_io.specs.Parts.{AreParts}
+use Rattle.pb_joint.specs.Texts.{AreReadAs, IsFirstFault, are_several, names_of}
 use Rattle.pb_command_io.specs.declared.status.Status.{Status}
 use Rattle.pb_command_io.specs.declared.status.Status.TheVariants.{Done, Refused}
 
@@ -46,10 +52,10 @@ plan_lines_of resources process body row =
 abbrev pub bodies_of : Program → List Block
 bodies_of program = map (λ process. process.body) program.processes
 
--- the lines of all processes, in their order
-abbrev pub claims_lines : Program → Table → List ℕ
-claims_lines program claims =
-    each_below (λ p. plan_lines_of (resource_names program) (slice_index_or (process_names program) p [])
+-- the lines of all processes, which are called so, in their order
+abbrev pub claims_lines : List Name → Program → Table → List ℕ
+claims_lines processes program claims =
+    each_below (λ p. plan_lines_of (resource_names program) (slice_index_or processes p [])
     (slice_index_or (bodies_of program) p Skip) (row_of claims p)) (length program.processes)
 
 -- the line of a resource: its capital, the greatest claim, and the sum of the claims
@@ -90,9 +96,9 @@ abbrev pub circle_lines : (processes resources : List Name) → List Edge → Li
 circle_lines processes resources circle = flat_map (edge_line processes resources) circle
 
 -- all but the lines of a circle
-abbrev pub plan_text : Program → Table → Option ℕ → Option (List ℕ) → List ℕ
-plan_text program claims found order =
-    claims_lines program claims ++ (resources_lines (resource_names program) (capital_of program) claims
+abbrev pub plan_text : (processes : List Name) → Program → Table → Option ℕ → Option (List ℕ) → List ℕ
+plan_text processes program claims found order =
+    claims_lines processes program claims ++ (resources_lines (resource_names program) (capital_of program) claims
     ++ (last_line (resource_names program) found ++ order_line (resource_names program) order))
 
 -- an order of all resources that each process follows: inside a hold it asks only for later ones
@@ -105,18 +111,41 @@ pub data HasStatus (program : Program) (claims : Table) : Status → Type 0 wher
   enough : FitCapital claims (capital_of program) → HasStatus program claims Done
   too_little : (over : OverCapital) → IsFirstOver claims (capital_of program) over → HasStatus program claims Refused
 
--- this text is the plan of the program with these claims: behind `no order` come the lines of a circle
-pub record IsPlan (program : Program) (claims : Table) (said : List ℕ) : Type 0 where
+-- some tree is that of the program, with these claims
+pub record IsOfTree (program : Program) (claims : Table) : Type 0 where
+  pub tree : ProgramSyntax
+  pub numbered : Resolves tree program
+  pub claimed : AreClaims program claims
+
+-- this text is the plan of the program with these claims, whose processes are called so: behind `no order` come the
+-- lines of a circle
+pub record IsPlan (processes : List Name) (program : Program) (claims : Table) (said : List ℕ) : Type 0 where
   pub found : Option ℕ
   pub bottleneck : MatchOption found (AllFree claims (capital_of program)) (IsBottleneck claims (capital_of program))
   pub order : Option (List ℕ)
   pub ordered : MatchOption order ((other : List ℕ) → ¬ IsFollowed other program.processes) (IsOrderOf program)
   pub circle : List Edge
   pub closed : MatchOption order (IsCircle program.processes circle) (λ some. circle ≡ [])
-  pub text : said ≡ plan_text program claims found order ++ circle_lines (process_names program) (resource_names program) circle
+  pub text : said ≡ plan_text processes program claims found order ++ circle_lines processes (resource_names program) circle
 
--- what is said of a text: it spells no program; or it spells one, and that is planned, whatever its capital
-pub data SaysOfPlan (text : List ℕ) : List ℕ → Status → Type 0 where
-  refused : (refusal : List ℕ) → RefusesEarly text refusal → SaysOfPlan text (line refusal) Refused
-  planned : (program : Program) (claims : Table) (said : List ℕ) (status : Status) → IsReadAs text program claims
-      → IsPlan program claims said → HasStatus program claims status → SaysOfPlan text said status
+-- the line of a fault of a text, which is none of claims; out of memory has none
+abbrev pub fault_line : CompileFault → Option (List ℕ)
+fault_line (Lex fault) = lex_line fault
+fault_line (Parse fault) = parse_line fault
+fault_line (Names fault) = names_line fault
+fault_line (Claims fault) = option_map cause_line (text_cause (Claims fault))
+fault_line Memory = None
+
+-- before the refusal of a text: its number, from 1, if there are several
+abbrev pub text_words : (several : Bool) → (number : ℕ) → List ℕ
+text_words several number = cond several (codes "text " ++ decimal number ++ codes " ") []
+
+-- what is said of an input, whose parts are texts: one of them is refused, by itself or together with those before it;
+-- or they are one program, and that is planned, whatever its capital
+pub data SaysOfPlan (bytes : List ℕ) : List ℕ → Status → Type 0 where
+  refused : (texts : List (List ℕ)) (index : ℕ) (fault : CompileFault) (refusal : List ℕ) → AreParts bytes texts
+      → IsFirstFault texts index fault → fault_line fault ≡ Some refusal
+      → SaysOfPlan bytes (line (text_words (are_several texts) (index + 1) ++ refusal)) Refused
+  planned : (texts : List (List ℕ)) (trees : List ProgramSyntax) (program : Program) (claims : Table) (said : List ℕ)
+      (status : Status) → AreParts bytes texts → AreReadAs texts trees program claims
+      → IsPlan (names_of trees) program claims said → HasStatus program claims status → SaysOfPlan bytes said status

@@ -4,5 +4,8 @@
 
 mod lines;
 mod plan;
+mod refusal;
+mod texts;
 
 pub use plan::plan_engine;
+pub use texts::texts_of;

@@ -62,10 +62,11 @@ fn put_claim(
     put(text, b"\n")
 }
 
-/// Appends the lines of process p to a text.
+/// Appends the lines of process p, which is called so, to a text.
 pub(crate) fn put_process<A: Allocator>(
     alloc: Global,
     text: &mut Vec<u8>,
+    called: &[u8],
     process: &Process<A>,
     claims: &Claims,
     p: usize,
@@ -74,13 +75,13 @@ pub(crate) fn put_process<A: Allocator>(
     requires process { p < length claims.now }
     requires width { (q : ℕ) → q < length claims.now → length (row_of claims.now q) ≡ length resources.now }
     ensures { OnOk result (text.new.items ≡ text.old.items
-        ++ plan_lines_of (map (λ r. r.name.items) resources.now) process.now.name.items
+        ++ plan_lines_of (map (λ r. r.name.items) resources.now) called.now
         (block_view process.now.body.items) (row_of claims.now p)) }
 {
     for r in 0..resources.len() {
         let parts = claim_parts(alloc, process, r)?;
         let amount = claims.get(p, r);
-        put_claim(text, &process.name, amount, name_of(resources, r), &parts)?;
+        put_claim(text, called, amount, name_of(resources, r), &parts)?;
     }
     Ok(())
 }
@@ -173,12 +174,12 @@ pub(crate) fn put_order<A: Allocator>(
     put(text, b"\n")
 }
 
-/// Returns the name of a process.
-fn process_name<A: Allocator>(processes: &[Process<A>], p: usize) -> &[u8]
+/// Returns what a process is called.
+pub(crate) fn process_name(processes: &[Vec<u8>], p: usize) -> &[u8]
     requires { p < length processes.now }
-    ensures { result.now ≡ slice_index_or (map (λ q. q.name.items) processes.now) p [] }
+    ensures { result.now ≡ slice_index_or (map (λ name. name.items) processes.now) p [] }
 {
-    &processes[p].name
+    &processes[p]
 }
 
 /// Appends the name of a resource and the line of a hold that asks for it to a text, behind a word.
@@ -192,13 +193,13 @@ fn put_hold(text: &mut Vec<u8>, word: &[u8], resource: &[u8], line: u32) -> Resu
 /// Appends the line of a hold inside another one to a text.
 fn put_edge<A: Allocator>(
     text: &mut Vec<u8>,
-    processes: &[Process<A>],
+    processes: &[Vec<u8>],
     resources: &[Resource<A>],
     edge: &Edge,
 ) -> Result<(), NoMemory>
     requires { IsBelow (length processes.now) (length resources.now) edge.now }
     ensures { OnOk result (text.new.items ≡ text.old.items
-        ++ edge_line (map (λ p. p.name.items) processes.now) (map (λ r. r.name.items) resources.now) edge.now) }
+        ++ edge_line (map (λ name. name.items) processes.now) (map (λ r. r.name.items) resources.now) edge.now) }
 {
     let outer = name_of(resources, edge.nest.outer);
     let inner = name_of(resources, edge.nest.inner);
@@ -211,13 +212,13 @@ fn put_edge<A: Allocator>(
 /// Appends the lines of a circle of nested holds to a text.
 pub(crate) fn put_circle<A: Allocator>(
     text: &mut Vec<u8>,
-    processes: &[Process<A>],
+    processes: &[Vec<u8>],
     resources: &[Resource<A>],
     circle: &[Edge],
 ) -> Result<(), NoMemory>
     requires { All (IsBelow (length processes.now) (length resources.now)) circle.now }
     ensures { OnOk result (text.new.items ≡ text.old.items
-        ++ circle_lines (map (λ p. p.name.items) processes.now) (map (λ r. r.name.items) resources.now) circle.now) }
+        ++ circle_lines (map (λ name. name.items) processes.now) (map (λ r. r.name.items) resources.now) circle.now) }
 {
     for edge in circle {
         put_edge(text, processes, resources, edge)?;

@@ -1,44 +1,56 @@
 //! The command `plan`, over any input and output.
 
-ghost use Rattle.std.specs.Prelude.{◌≡◌, ◌≢◌, ◌≤◌, ◌++◌, ℕ, IfOk, IfSome, List, OnOk, length};
-ghost use Rattle.pb_codegen.specs.Numbered.{IsSpelled};
+ghost use Rattle.std.specs.Prelude.{◌≡◌, ◌≢◌, ◌≤◌, ◌++◌, ℕ, IfOk, IfSome, List, OnOk, length, map};
 ghost use Rattle.pb_command_io.specs.Answers.{Tells};
 ghost use Rattle.pb_command_io.specs.Faults.{TellsFaults, TellsWriteFaults};
 ghost use Rattle.pb_command_io.specs.Inputs.{SaysOfInput};
 ghost use Rattle.pb_names.specs.Program.{capital_of};
 ghost use Rattle.pb_names.specs.View.{resolved_view};
-ghost use Rattle.pb_names.specs.Resolves.{process_names, resource_names};
+ghost use Rattle.pb_names.specs.Resolves.{resource_names};
 ghost use Rattle.pb_plan.specs.Circles.{IsCircle};
 ghost use Rattle.pb_plan.specs.Nests.{AskBelow};
 ghost use Rattle.pb_plan.specs.Orders.{IsFollowed};
 ghost use Rattle.pb_plan.specs.declared.edge.Edge.{Edge as EdgeValue};
-ghost use Rattle.pb_plan_engine.specs.PlanLines.{HasStatus, IsPlan, SaysOfPlan, circle_lines, claims_lines};
+ghost use Rattle.pb_plan_engine.specs.PlanLines.{HasStatus, IsOfTree, IsPlan, SaysOfPlan, circle_lines, claims_lines};
 ghost use Rattle.pb_base.specs.Tables.{width_of};
 
-use crate::lines::{put_circle, put_last, put_order, put_process, put_resources};
-use bumpalo::Bump;
-use pb_accept::{Refusal, analyze_text};
+use crate::lines::{process_name, put_circle, put_last, put_order, put_process, put_resources};
+use crate::refusal::refusal_text;
+use crate::texts::texts_of;
 use pb_base::limits::MAX_INPUT;
 use pb_base::{Capital, Claims, Input, NoMemory, Output};
 use pb_claims::fits;
 use pb_command_io::{Reply, Status, read_input, refused, tell};
+use pb_joint::read_texts;
 use pb_names::Resolved;
 use pb_plan::{bottleneck, find_circle, find_order};
 use std::alloc::{Allocator, Global};
 
-/// Appends the lines of all processes to a text.
+/// Appends the lines of all processes, which are called so, to a text.
 fn put_processes<A: Allocator>(
     alloc: Global,
     text: &mut Vec<u8>,
+    names: &[Vec<u8>],
     program: &Resolved<A>,
     claims: &Claims,
 ) -> Result<(), NoMemory>
-    requires { IsSpelled (resolved_view program.now) claims.now }
-    ensures { OnOk result (text.new.items ≡ text.old.items ++ claims_lines (resolved_view program.now) claims.now) }
+    requires numbered { IsOfTree (resolved_view program.now) claims.now }
+    requires names { length names.now ≡ length program.now.processes.items }
+    ensures { OnOk result (text.new.items ≡ text.old.items
+        ++ claims_lines (map (λ name. name.items) names.now) (resolved_view program.now) claims.now) }
 {
     let processes = &program.processes;
     for p in 0..processes.len() {
-        put_process(alloc, text, &processes[p], claims, p, &program.resources)?;
+        let called = process_name(names, p);
+        put_process(
+            alloc,
+            text,
+            called,
+            &processes[p],
+            claims,
+            p,
+            &program.resources,
+        )?;
     }
     Ok(())
 }
@@ -63,36 +75,40 @@ fn status<A: Allocator>(program: &Resolved<A>, claims: &Claims, capital: &Capita
 fn with_circle<A: Allocator>(
     alloc: Global,
     text: Vec<u8>,
+    names: &[Vec<u8>],
     program: &Resolved<A>,
 ) -> Result<Vec<u8>, NoMemory>
+    requires names { length names.now ≡ length program.now.processes.items }
     requires below { AskBelow (length (resolved_view program.now).resources) (resolved_view program.now).processes }
     requires none { (order : List ℕ) → IsFollowed order (resolved_view program.now).processes → ⊥ }
     ensures { IfOk result (λ whole. (circle : List EdgeValue) × IsCircle (resolved_view program.now).processes circle
-        × (whole.items ≡ text.items ++ circle_lines (process_names (resolved_view program.now))
+        × (whole.items ≡ text.items ++ circle_lines (map (λ name. name.items) names.now)
         (resource_names (resolved_view program.now)) circle)) }
 {
     let mut whole = text;
     let found = find_circle(alloc, &program.processes, program.resources.len())?;
     let Some(circle) = found else { unreachable!() };
-    put_circle(&mut whole, &program.processes, &program.resources, &circle)?;
+    put_circle(&mut whole, names, &program.resources, &circle)?;
     Ok(whole)
 }
 
-/// Returns the text of the plan of a program with this capital.
+/// Returns the text of the plan of a program with this capital, whose processes are called so.
 fn plan_text<A: Allocator>(
     alloc: Global,
+    names: &[Vec<u8>],
     program: &Resolved<A>,
     claims: &Claims,
     capital: &Capital,
 ) -> Result<Vec<u8>, NoMemory>
-    requires spelled { IsSpelled (resolved_view program.now) claims.now }
+    requires numbered { IsOfTree (resolved_view program.now) claims.now }
+    requires names { length names.now ≡ length program.now.processes.items }
     requires capital { capital.now ≡ capital_of (resolved_view program.now) }
     requires resources { length capital.now ≡ length program.now.resources.items }
     requires width { width_of claims.now ≡ length capital.now }
-    ensures { IfOk result (λ text. IsPlan (resolved_view program.now) claims.now text.items) }
+    ensures { IfOk result (λ text. IsPlan (map (λ name. name.items) names.now) (resolved_view program.now) claims.now text.items) }
 {
     let mut text = Vec::new(alloc);
-    put_processes(alloc, &mut text, program, claims)?;
+    put_processes(alloc, &mut text, names, program, claims)?;
     put_resources(&mut text, &program.resources, capital, claims)?;
     let found = bottleneck(claims, capital);
     put_last(&mut text, &program.resources, found)?;
@@ -100,45 +116,46 @@ fn plan_text<A: Allocator>(
     put_order(&mut text, &program.resources, &order)?;
     match order {
         Some(_) => Ok(text),
-        None => with_circle(alloc, text, program),
+        None => with_circle(alloc, text, names, program),
     }
 }
 
-/// Returns the plan of a program.
+/// Returns the plan of a program, whose processes are called so.
 fn plan<A: Allocator>(
     alloc: Global,
+    names: &[Vec<u8>],
     program: &Resolved<A>,
     claims: &Claims,
 ) -> Result<Reply, NoMemory>
-    requires { IsSpelled (resolved_view program.now) claims.now }
-    ensures { IfOk result (λ r. IsPlan (resolved_view program.now) claims.now r.text.items
+    requires numbered { IsOfTree (resolved_view program.now) claims.now }
+    requires names { length names.now ≡ length program.now.processes.items }
+    ensures { IfOk result (λ r. IsPlan (map (λ name. name.items) names.now) (resolved_view program.now) claims.now r.text.items
         × HasStatus (resolved_view program.now) claims.now r.status) }
 {
     let capital = program.capital(alloc)?;
-    let text = plan_text(alloc, program, claims, &capital)?;
+    let text = plan_text(alloc, names, program, claims, &capital)?;
     let status = status(program, claims, &capital);
     Ok(Reply { text, status })
 }
 
-/// Returns the plan of the program of a text, or the line of its refusal.
-fn plan_reply(alloc: Global, text: &[u8]) -> Result<Reply, NoMemory>
-    ensures { IfOk result (λ reply. SaysOfPlan text.now reply.text.items reply.status) }
+/// Returns the plan of the program of texts, or the line of the first refusal of them.
+fn plan_reply(alloc: Global, bytes: &[u8]) -> Result<Reply, NoMemory>
+    ensures { IfOk result (λ reply. SaysOfPlan bytes.now reply.text.items reply.status) }
 {
-    let arena = Bump::new(alloc);
-    match analyze_text(alloc, &arena, text) {
-        Ok(analysis) => plan(alloc, &analysis.program, &analysis.claims),
-        Err(Refusal::Line(line)) => refused(line),
-        Err(Refusal::NoMemory) => Err(NoMemory),
+    let texts = texts_of(alloc, bytes)?;
+    match read_texts(alloc, &texts) {
+        Ok(joint) => plan(alloc, &joint.names, &joint.program, &joint.claims),
+        Err(fault) => refused(refusal_text(alloc, texts.len() > 1, &fault)?),
     }
 }
 
-/// Writes the reply to a text.
-fn tell_plan<O: Output>(alloc: Global, text: &[u8], output: &mut O) -> Status
-    requires { length text.now ≤ MAX_INPUT }
-    ensures text { Tells (SaysOfInput SaysOfPlan text.now) (O.written output.old) (O.written output.new) result }
+/// Writes the reply to an input.
+fn tell_plan<O: Output>(alloc: Global, bytes: &[u8], output: &mut O) -> Status
+    requires { length bytes.now ≤ MAX_INPUT }
+    ensures text { Tells (SaysOfInput SaysOfPlan bytes.now) (O.written output.old) (O.written output.new) result }
     ensures faults { TellsWriteFaults (O.failures output.old) (O.failures output.new) result }
 {
-    tell(alloc, plan_reply(alloc, text), output)
+    tell(alloc, plan_reply(alloc, bytes), output)
 }
 
 /// Writes the plan of the text on the input: for each process and each resource, in the order in which they are
@@ -147,6 +164,9 @@ fn tell_plan<O: Output>(alloc: Global, text: &[u8], output: &mut O) -> Status
 /// then the resource of which most is lacking for that, or that no request waits; and at the end an order of the
 /// resources that all processes follow, or that there is none, with a circle of nested holds. The status is
 /// `Refused` if some claim is over its capital. Of a text that is not a program the refusal line is written.
+///
+/// If lines `%%` part the input, its texts are planned as one program: a process is told with the number of its text,
+/// and so is the refusal of a text that is none by itself, or not together with those before it.
 ///
 /// Writes nothing after a failed read; after a failed write, a prefix of the reply has been written.
 pub fn plan_engine<I: Input, O: Output>(alloc: Global, input: &mut I, output: &mut O) -> Status

@@ -12,17 +12,16 @@ use Rattle.pb_plan_engine.proofs.lines.put_process.Goals as goal
 pub loop-r-preserved : goal.loop-r-preserved
 loop-r-preserved g c =
     let names = map (λ (q : Resource _). q.name.items) c.args.resources.now in
-    let name = c.args.process.now.name.items in
+    let name = c.args.called.now in
     let body = block_view c.args.process.now.body.items in
     let row = row_of c.args.claims.now c.args.p in
     let r = c.loop-r.r in
     let amount = c.get-amount.result in
-    let found = c.deref-in-loop-r.result.now in
+    let found = c.deref.result.now in
     each_next (λ k. claim_line name (slice_index row k) (resource_name names k) (parts k body))
-    r c.args.text.now.items c.loop-r.text.items _ (claim_line c.deref.result.now amount c.name_of.result.now found)
+    r c.args.text.now.items c.loop-r.text.items _ (claim_line name amount c.name_of.result.now found)
     c.loop-r.invariant c.in_ok-put_claim.ensures
-    (ap (λ (n : List ℕ). claim_line n amount c.name_of.result.now found) c.deref.ensures.value
-    ∙ ap (λ (k : ℕ). claim_line name k c.name_of.result.now found) c.get-amount.ensures
+    (ap (λ (k : ℕ). claim_line name k c.name_of.result.now found) c.get-amount.ensures
     ∙ ap (λ (n : List ℕ). claim_line name (slice_index row r) n found) c.name_of.ensures
     ∙ ap (λ (l : List Part). claim_line name (slice_index row r) (resource_name names r) l)
-    (c.deref-in-loop-r.ensures.value ∙ c.in_ok-parts.ensures))
+    (c.deref.ensures.value ∙ c.in_ok-parts.ensures))

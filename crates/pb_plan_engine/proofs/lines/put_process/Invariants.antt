@@ -10,5 +10,5 @@ use Rattle.pb_plan_engine.proofs.lines.put_process.Given as goal
 abbrev pub invariant-loop-r : goal.invariant-loop-r
 invariant-loop-r g l =
     l.text.items ≡ l.initial.text.items
-    ++ each_below (λ r. claim_line l.process.name.items (slice_index (row_of l.claims l.p) r)
+    ++ each_below (λ r. claim_line l.called (slice_index (row_of l.claims l.p) r)
     (resource_name (map (λ q. q.name.items) l.resources) r) (parts r (block_view l.process.body.items))) l.r

@@ -1,27 +1,22 @@
-use Rattle.std.proofs.Common.{◌≤◌}
-use Rattle.pb_codegen.proofs.VerifiedProcesses.{generatable}
 use Rattle.pb_codegen.proofs.TextOutcomes.{capital_width, claims_width}
-use Rattle.std.proofs.lemmas.List.Elements.{All-map}
 use Rattle.pb_names.specs.View.{resolved_view}
+use Rattle.pb_plan_engine.proofs.PlanLemmas.{capitals_are_small}
 use Rattle.pb_plan_engine.proofs.plan.plan.Goals as goal
 
 pub capital-requires-clause-small : goal.capital-requires-clause-small
 capital-requires-clause-small g c =
-    let is = c.requires.1 in
-    All-map (λ n. n ≤ 1000000) (λ r. r.capital) (resolved_view c.args.program.now).resources
-    (generatable is.tree (resolved_view c.args.program.now) is.spelled.limits is.numbered).small
+    let is = c.requires.numbered in
+    capitals_are_small is.tree (resolved_view c.args.program.now) is.numbered
 
 pub capital-requires-clause-few : goal.capital-requires-clause-few
-capital-requires-clause-few g c =
-    let is = c.requires.1 in
-    (generatable is.tree (resolved_view c.args.program.now) is.spelled.limits is.numbered).few_resources
+capital-requires-clause-few g c = c.requires.numbered.numbered.few_resources
 
 pub plan_text-requires-clause-capital : goal.plan_text-requires-clause-capital
 plan_text-requires-clause-capital g c = c.in_ok-capital.ensures
 
 pub status-status-requires-clause-width : goal.status-status-requires-clause-width
 status-status-requires-clause-width g c =
-    let is = c.requires.1 in
+    let is = c.requires.numbered in
     capital_width (resolved_view c.args.program.now) c.in_ok-capital.capital c.args.claims.now c.in_ok-capital.ensures
     (claims_width is.tree (resolved_view c.args.program.now) c.args.claims.now is.numbered is.claimed)
 

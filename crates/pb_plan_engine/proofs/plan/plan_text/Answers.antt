@@ -16,7 +16,7 @@ use Rattle.pb_plan_engine.proofs.plan.plan_text.Goals as goal
 pub find_order-requires : goal.find_order-requires
 find_order-requires g c =
     let view = resolved_view c.args.program.now in
-    let is = c.requires.spelled.1 in
+    let is = c.requires.numbered in
     let seen = length-map c.args.program.now.resources.items resource_view in
     let long = c.args.program.now.resources.ok.0 in
     let told = c.len.ensures in
@@ -38,7 +38,7 @@ put_order-requires g c =
 pub with_circle-requires-clause-below : goal.with_circle-requires-clause-below
 with_circle-requires-clause-below g c =
     let view = resolved_view c.args.program.now in
-    let is = c.requires.spelled.1 in
+    let is = c.requires.numbered in
     ask_below is.tree view is.numbered
 
 pub with_circle-requires-clause-none : goal.with_circle-requires-clause-none
@@ -58,7 +58,7 @@ returns-in-Some g c =
     let same : map process_view c.deref-3.result.now ≡ view.processes =
     ap (λ (ps : List (GivenProcess _)). map process_view ps) c.deref-3.ensures.value in
     let none : List Edge = [] in
-    is_plan c.args.program.now c.args.claims.now c.args.capital.now c.bottleneck-found.result
+    is_plan (map (λ (n : Vec ℕ Global). n.items) c.args.names.now) c.args.program.now c.args.claims.now c.args.capital.now c.bottleneck-found.result
     (option_map (λ (o : Vec ℕ Global). o.items) c.in_ok-order.order) none c.new-text.result.items _ _ _ _ _
     c.deref.result.now c.deref-2.result.now c.deref-4.result.now c.requires.capital c.bottleneck-found.ensures
     (is_ordered (λ (o : Vec ℕ Global). o.items) c.in_ok-order.order c.len.result (map process_view c.deref-3.result.now) view many same
@@ -76,9 +76,9 @@ returns g c =
     let many : c.len.result ≡ length view.resources = omega (arith, seen, long, told) in
     let same : map process_view c.deref-3.result.now ≡ view.processes =
     ap (λ (ps : List (GivenProcess _)). map process_view ps) c.deref-3.ensures.value in
-    closed_plan c.with_circle.result (IsPlan view c.args.claims.now) (IsCircle view.processes) _ c.with_circle.ensures
+    closed_plan c.with_circle.result (IsPlan (map (λ (n : Vec ℕ Global). n.items) c.args.names.now) view c.args.claims.now) (IsCircle view.processes) _ c.with_circle.ensures
     (λ circle whole is made.
-    is_plan c.args.program.now c.args.claims.now c.args.capital.now c.bottleneck-found.result
+    is_plan (map (λ (n : Vec ℕ Global). n.items) c.args.names.now) c.args.program.now c.args.claims.now c.args.capital.now c.bottleneck-found.result
     (option_map (λ (o : Vec ℕ Global). o.items) c.in_ok-order.order) circle c.new-text.result.items _ _ _ _ whole
     c.deref.result.now c.deref-2.result.now c.deref-4.result.now c.requires.capital c.bottleneck-found.ensures
     (is_ordered (λ (o : Vec ℕ Global). o.items) c.in_ok-order.order c.len.result (map process_view c.deref-3.result.now) view many same

@@ -1,10 +1,10 @@
-use Rattle.std.proofs.Common.{◌≡◌, ◌∙◌, ◌<◌, List, [], length, map, ap, sym, arith}
+use Rattle.std.proofs.Common.{Vec, Global, ◌≡◌, ◌∙◌, ℕ, ◌<◌, List, [], length, map, ap, sym, arith}
 use Rattle.std.specs.Prelude.{slice_index_or}
 use Rattle.std.proofs.lemmas.List.{length-map}
-use Rattle.pb_accept.proofs.ClaimLemmas.{names_of_processes, names_of_resources}
+use Rattle.pb_accept.proofs.ClaimLemmas.{names_of_resources}
 use Rattle.pb_base.specs.Banker.{row_of}
 use Rattle.pb_names.specs.Program.{Block, Name, Skip}
-use Rattle.pb_names.specs.Resolves.{process_names, resource_names}
+use Rattle.pb_names.specs.Resolves.{resource_names}
 use Rattle.pb_names.specs.View.{block_view, process_view, resolved_view}
 use Rattle.pb_names.specs.declared.resolved.Process.{Process}
 use Rattle.pb_names.specs.declared.resolved.Resource.{Resource}
@@ -24,35 +24,33 @@ loop-p-preserved g c =
     let within : p < length given.processes.items =
     (let n = c.len-p-end.ensures in let t = c.loop-p-test.true in omega (arith, n, t))
     in
-    let name : slice_index_or (process_names view) p [] ≡ process.name.items =
-    ap (λ (l : List Name). slice_index_or l p []) (sym (names_of_processes given))
-    ∙ seen_at (λ (q : Process _). q.name.items) given.processes.items p process [] within c.index.ensures
-    in
+    let names = map (λ (n : Vec ℕ Global). n.items) c.args.names.now in
     let body : slice_index_or (bodies_of view) p Skip ≡ block_view process.body.items =
     ap (λ (l : List Block). slice_index_or l p Skip) (sym (bodies_of_processes given))
     ∙ seen_at (λ (q : Process _). block_view q.body.items) given.processes.items p process Skip within c.index.ensures
     in
-    each_next (λ k. plan_lines_of (resource_names view) (slice_index_or (process_names view) k [])
+    each_next (λ k. plan_lines_of (resource_names view) (slice_index_or names k [])
     (slice_index_or (bodies_of view) k Skip) (row_of claims k))
     p c.args.text.now.items c.loop-p.text.items _
-    (plan_lines_of (map (λ (q : Resource _). q.name.items) c.deref.result.now) process.name.items (block_view process.body.items) row)
+    (plan_lines_of (map (λ (q : Resource _). q.name.items) c.deref.result.now) c.process_name-called.result.now (block_view process.body.items) row)
     c.loop-p.invariant c.in_ok-put_process.ensures
-    (ap (λ (l : List (Resource _)). plan_lines_of (map (λ q. q.name.items) l) process.name.items (block_view process.body.items) row)
+    (ap (λ (l : List (Resource _)). plan_lines_of (map (λ q. q.name.items) l) c.process_name-called.result.now (block_view process.body.items) row)
     c.deref.ensures.value
-    ∙ ap (λ (l : List Name). plan_lines_of l process.name.items (block_view process.body.items) row) (names_of_resources given)
-    ∙ ap (λ (n : Name). plan_lines_of (resource_names view) n (block_view process.body.items) row) (sym name)
-    ∙ ap (λ (b : Block). plan_lines_of (resource_names view) (slice_index_or (process_names view) p []) b row) (sym body))
+    ∙ ap (λ (l : List Name). plan_lines_of l c.process_name-called.result.now (block_view process.body.items) row) (names_of_resources given)
+    ∙ ap (λ (n : Name). plan_lines_of (resource_names view) n (block_view process.body.items) row) c.process_name-called.ensures
+    ∙ ap (λ (b : Block). plan_lines_of (resource_names view) (slice_index_or names p []) b row) (sym body))
 
 pub returns : goal.returns
 returns g c =
     let given = c.args.program.now in
     let view = resolved_view given in
     let claims = c.args.claims.now in
+    let names = map (λ (n : Vec ℕ Global). n.items) c.args.names.now in
     let all = length-map given.processes.items process_view in
     let n = c.len-p-end.ensures in
     let past = c.loop-p-test.false in
     let within = c.loop-p.auto.p-end in
     let same : c.loop-p.p ≡ length view.processes = omega (arith, all, n, past, within) in
-    each_last (λ k. plan_lines_of (resource_names view) (slice_index_or (process_names view) k [])
+    each_last (λ k. plan_lines_of (resource_names view) (slice_index_or names k [])
     (slice_index_or (bodies_of view) k Skip) (row_of claims k))
     c.loop-p.p (length view.processes) c.args.text.now.items c.loop-p.text.items same c.loop-p.invariant

@@ -1,9 +1,9 @@
 use Rattle.std.proofs.Common.{Vec, Global, ◌≡◌, ◌∙◌, ◌++◌, ℕ, List, length, map, ap, subst, sym, arith}
 use Rattle.std.specs.Prelude.{All}
 use Rattle.std.proofs.lemmas.List.{length-map}
-use Rattle.pb_accept.proofs.ClaimLemmas.{names_of_processes, names_of_resources}
+use Rattle.pb_accept.proofs.ClaimLemmas.{names_of_resources}
 use Rattle.pb_names.specs.Program.{Name, Process}
-use Rattle.pb_names.specs.Resolves.{process_names, resource_names}
+use Rattle.pb_names.specs.Resolves.{resource_names}
 use Rattle.pb_names.specs.View.{process_view, resolved_view, resource_view}
 use Rattle.pb_names.specs.declared.resolved.Process.{Process as GivenProcess}
 use Rattle.pb_names.specs.declared.resolved.Resource.{Resource}
@@ -38,16 +38,17 @@ pub put_circle-requires : goal.put_circle-requires
 put_circle-requires g c =
     let processes = c.args.program.now.processes.items in
     let resources = c.args.program.now.resources.items in
-    let first : length c.deref.result.now ≡ length c.deref-2.result.now =
-    ap (λ (ps : List (GivenProcess _)). length ps) (c.deref.ensures.value ∙ sym c.deref-2.ensures.value) in
+    let all = ap (λ (ps : List (GivenProcess _)). length ps) c.deref.ensures.value in
+    let called = c.requires.names in
+    let first : length c.deref.result.now ≡ length c.args.names.now = omega (arith, all, called) in
     let long = c.args.program.now.resources.ok.0 in
     let told = c.len.ensures in
-    let there = ap (λ (rs : List (Resource _)). length rs) c.deref-3.ensures.value in
-    let many : c.len.result ≡ length c.deref-3.result.now = omega (arith, long, told, there) in
+    let there = ap (λ (rs : List (Resource _)). length rs) c.deref-2.ensures.value in
+    let many : c.len.result ≡ length c.deref-2.result.now = omega (arith, long, told, there) in
     let below = some_of (λ (v : Vec Edge Global). All (IsBelow (length c.deref.result.now) c.len.result) v.items) c.in_ok-found.found
     c.in-Some.circle c.in-Some.is c.in_ok-found.ensures.below in
-    subst (λ (es : List Edge). All (IsBelow (length c.deref-2.result.now) (length c.deref-3.result.now)) es) (sym c.deref-4.ensures.value)
-    (subst (λ (n : ℕ). All (IsBelow (length c.deref-2.result.now) n) c.in-Some.circle.items) many
+    subst (λ (es : List Edge). All (IsBelow (length c.args.names.now) (length c.deref-2.result.now)) es) (sym c.deref-3.ensures.value)
+    (subst (λ (n : ℕ). All (IsBelow (length c.args.names.now) n) c.in-Some.circle.items) many
     (subst (λ (n : ℕ). All (IsBelow n c.len.result) c.in-Some.circle.items) first below))
 
 pub returns : goal.returns
@@ -57,19 +58,15 @@ returns g c =
     ap (λ (ps : List (GivenProcess _)). map process_view ps) c.deref.ensures.value in
     let is = some_of (λ (v : Vec Edge Global). IsCircle (map process_view c.deref.result.now) v.items) c.in_ok-found.found
     c.in-Some.circle c.in-Some.is c.in_ok-found.ensures.circle in
-    let processes : map (λ (p : GivenProcess _). p.name.items) c.deref-2.result.now ≡ process_names view =
-    ap (λ (ps : List (GivenProcess _)). map (λ (p : GivenProcess _). p.name.items) ps) c.deref-2.ensures.value
-    ∙ names_of_processes c.args.program.now in
-    let resources : map (λ (r : Resource _). r.name.items) c.deref-3.result.now ≡ resource_names view =
-    ap (λ (rs : List (Resource _)). map (λ (r : Resource _). r.name.items) rs) c.deref-3.ensures.value
+    let names = map (λ (n : Vec ℕ Global). n.items) c.args.names.now in
+    let resources : map (λ (r : Resource _). r.name.items) c.deref-2.result.now ≡ resource_names view =
+    ap (λ (rs : List (Resource _)). map (λ (r : Resource _). r.name.items) rs) c.deref-2.ensures.value
     ∙ names_of_resources c.args.program.now in (
       c.in-Some.circle.items,
       subst (λ (ps : List Process). IsCircle ps c.in-Some.circle.items) same is,
       c.in_ok-put_circle.ensures
           ∙ (ap (λ (es : List Edge). c.args.text.items
-          ++ circle_lines (map (λ (p : GivenProcess _). p.name.items) c.deref-2.result.now)
-          (map (λ (r : Resource _). r.name.items) c.deref-3.result.now) es) c.deref-4.ensures.value
-          ∙ (ap (λ (ns : List Name). c.args.text.items
-          ++ circle_lines ns (map (λ (r : Resource _). r.name.items) c.deref-3.result.now) c.in-Some.circle.items) processes
-          ∙ ap (λ (ns : List Name). c.args.text.items ++ circle_lines (process_names view) ns c.in-Some.circle.items) resources)),
+          ++ circle_lines names
+          (map (λ (r : Resource _). r.name.items) c.deref-2.result.now) es) c.deref-3.ensures.value
+          ∙ ap (λ (ns : List Name). c.args.text.items ++ circle_lines names ns c.in-Some.circle.items) resources),
     )

@@ -1,0 +1,7 @@
+//! Texts whose processes run beside one another, read as one program.
+#![tactic(auto)]
+
+mod joining;
+mod texts;
+
+pub use texts::{Joint, TextFault, read_texts};
