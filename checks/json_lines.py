@@ -40,13 +40,18 @@ LINES: list[tuple[str, dict[str, Any]]] = [
     ("<process> end", {"kind": "end"}), ("done", {"kind": "done"}), ("open", {"kind": "open"}), ("deadlock", {"kind": "deadlocked"}),
     ("limit <limit>", {"kind": "limit"}), ("memory", {"kind": "memory"}), ("threads", {"kind": "threads"}), ("ok", {"kind": "ok"}),
     ("<process> claim <claim> <resource>", {"kind": "claim"}), ("<process> claim <claim> <resource> lines<lines>", {"kind": "claim"}),
+    ("<process> of text <of_text> claim <claim> <resource>", {"kind": "claim"}),
+    ("<process> of text <of_text> claim <claim> <resource> lines<lines>", {"kind": "claim"}),
     ("<resource> capital <capital> least <least> free <free>", {"kind": "resource"}),
     ("bottleneck <resource>", {"kind": "bottleneck"}), ("no request waits", {"kind": "no request waits"}),
     ("<process> holds <outer> line <outer_line> around <inner> line <inner_line>", {"kind": "nest"}),
+    ("<process> of text <of_text> holds <outer> line <outer_line> around <inner> line <inner_line>", {"kind": "nest"}),
     ("order", {"kind": "order", "text": ""}), ("order <text>", {"kind": "order"}), ("no order", {"kind": "no order"}),
     ("refused <code>", {"kind": "refused"}), ("refused <code> at <at>", {"kind": "refused"}),
     ("refused <code> <process> <resource> claim <claim> capital <capital>", {"kind": "refused"}),
     ("refused <code> <text>", {"kind": "refused"}),
+    ("text <of_text> refused <code>", {"kind": "refused"}), ("text <of_text> refused <code> at <at>", {"kind": "refused"}),
+    ("text <of_text> refused <code> <text>", {"kind": "refused"}),
     ("outcome <number>", {"kind": "outcome"}), ("deadlock <number>", {"kind": "deadlock"}),
     ("<process>.<arm> <count>", {"kind": "picks"}),
     ("<outcomes> outcomes?", {"kind": "outcomes", "deadlocks": 0, "endless": False}),
@@ -61,7 +66,7 @@ LINES: list[tuple[str, dict[str, Any]]] = [
     ("no outcome <number>", {"kind": "no outcome"}), ("no deadlock <number>", {"kind": "no deadlock"}),
     ("as expected", {"kind": "as expected"}), ("not as expected: <text>", {"kind": "not as expected"}), ("<text>", {"kind": "line"}),
 ]
-REFUSALS = [it for it in LINES if it[1]["kind"] == "refused"]
+REFUSALS = [it for it in LINES if it[1]["kind"] == "refused" and it[0].startswith("refused")]
 LINE = ("<text>", {"kind": "line"})
 RECORD: list[tuple[str, dict[str, Any]]] = [
     ("%%", {"kind": "picks follow"}), ("<process>.<arm> <count>", {"kind": "picks"}), ("<text>", {"kind": "source"}),

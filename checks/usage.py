@@ -24,6 +24,7 @@ CALLS = [
     (["explain", "nosuch"], WORDS, None, "no refusal has this code"),
     (["run", "folder"], DEVICE, None, "parbegin: folder: Is a directory\n"),
     (["run", "hello.pb", "lost.pb"], WORDS, None, "run reads one file, and here are 2"),
+    (["plan", "hello.pb", "missing.pb"], DEVICE, None, "no such file: missing.pb"),
     (["run", "--steps", "x", "hello.pb"], WORDS, None, "invalid value 'x'"),
     (["run", "--steps", "5", "hello.pb"], DONE, "p end\n", None),
     (["run", "--steps=5", "hello.pb"], DONE, "p end\n", None),

@@ -6,6 +6,7 @@ import re
 import stat
 import subprocess
 import sys
+import tempfile
 from typing import BinaryIO, NamedTuple
 
 from script.places import DEVICE, say
@@ -75,6 +76,27 @@ def give_file(name: str) -> None:
         os.dup2(file.fileno(), 0)
 
 
+def give_together(names: list[str]) -> None:
+    """Makes several files, with lines `%%` between them, the standard input, or ends the script."""
+    with tempfile.TemporaryFile() as whole:
+        for number, name in enumerate(names):
+            file = opened(name)
+            if file is None:
+                sys.exit(DEVICE)
+            with file:
+                given = file.read(MOST_READ + 1)
+            if number + 1 < len(names):
+                given += b"%%\n" if not given or given.endswith(b"\n") else b"\n%%\n"
+            whole.write(given)
+        whole.seek(0)
+        os.dup2(whole.fileno(), 0)
+
+
+def tell_numbers(names: list[str]) -> None:
+    """Says which number the text of each file has."""
+    say(", ".join(f"text {number} is {name}" for number, name in enumerate(names, 1)))
+
+
 def parts_of(given: bytes) -> list[bytes]:
     """Returns the parts of an input between its lines `%%`."""
     return re.split(rb"^%%(?:\n|\Z)", given, flags=re.M)
@@ -97,7 +119,7 @@ def advice(command: str, name: str, given: bytes) -> str | None:
         return f"{name} is an object: exec runs it, and debug and migrate read it"
     if command in OF_TEXTS and len(parts) > 1 and has_picks(parts):
         return f"{name} has picks behind a line %%: replay makes them, and debug and draw read them"
-    if command in OF_TEXTS and len(parts) > 1:
+    if command in OF_TEXTS and command != "plan" and len(parts) > 1:
         return f"{name} has several texts, between lines %%: check reads these, and {command} one text"
     if command in OF_OBJECTS and not is_object(given) and given.strip():
         return f"{name} is no object, which begins with PBO: run runs a text, and emit writes its object"

@@ -12,7 +12,7 @@ from script.program import program, record_of_gate
 
 # What each command waits for at a terminal; any other waits for a text.
 AWAITED = {
-    "check": "texts, with lines %% between them", "exec": "an object", "migrate": "an object",
+    "check": "texts, with lines %% between them", "plan": "a text, or several with lines %% between them", "exec": "an object", "migrate": "an object",
     "replay": "a text, a line %% and pick lines", "draw": "a text, a line %% and pick lines",
     "debug": "a text, a line %%, pick lines, a line %% and commands", "states": "a text, a line %% and pick lines",
     "bank": "commands, of which help lists all", "dap": "messages of the Debug Adapter Protocol",
@@ -54,16 +54,21 @@ def run_command(start: list[str], command: str, words: list[str]) -> int:
 
 
 def run_on_file(start: list[str], command: str, words: files.Words) -> int:
-    """Runs a command on its file, or on standard input if none is named."""
+    """Runs a command on its file, or on standard input if none is named; `plan` on several as one input."""
     if (words.others or words.missing or len(words.named) > 1) and helping.are_refused(start, [command, *words.others]):
         return WORDS
     for name in words.missing:
         files.tell_missing(name)
     if words.missing:
         return DEVICE
-    if len(words.named) > 1:
+    if len(words.named) > 1 and command != "plan":
         say(f"{command} reads one file, and here are {len(words.named)}: {', '.join(words.named)}")
         return WORDS
+    if len(words.named) > 1:
+        files.give_together(words.named)
+        if "--quiet" not in start:
+            files.tell_numbers(words.named)
+        start_program(start, [command, *words.others])
     name = words.named[0] if words.named else None
     if name and command == "debug" and "--json" not in start:
         from script.debugging import debug

@@ -26,8 +26,11 @@ const TWO_OUTCOMES: &[u8] = b"process p begin integer x; parbegin x := 1; x := 2
 /// A program, the picks of its run, and commands of a debugger, the second of which it refuses.
 const SESSION: &[u8] = b"process p begin print 1 end\n%%\np.0 2\n%%\nto 2\nstep 1\n";
 
+/// Two programs that run beside one another, with a resource that both declare.
+const BESIDE: &[u8] = b"resource r = 1; process p begin hold 1 of r do skip od end\n%%\nresource r = 1; process q begin skip end";
+
 /// At least one call of each crate with an engine but pb_explain, and one of words that say no command.
-const CALLS: [Call; 7] = [
+const CALLS: [Call; 10] = [
     Call {
         words: "run --steps 1",
         input: b"process p begin print 1 end",
@@ -75,6 +78,30 @@ const CALLS: [Call; 7] = [
         last: b"more than 2 configurations, there may be others\n",
         length: None,
         status: Status::Limit,
+    },
+    Call {
+        words: "plan",
+        input: BESIDE,
+        first: b"p of text 1 claim 1 r lines 1\nq of text 2 claim 0 r\nr capital 1 least 1 free 1\n",
+        last: b"no request waits\norder r\n",
+        length: Some(104),
+        status: Status::Done,
+    },
+    Call {
+        words: "plan",
+        input: b"process p begin skip end\n%%\nprocess p begin skip end",
+        first: b"text 2 refused N2 at 8\n",
+        last: b"",
+        length: Some(23),
+        status: Status::Refused,
+    },
+    Call {
+        words: "plan",
+        input: b"process p begin skip\n%%\nprocess q begin skip end",
+        first: b"text 1 refused P1 at 20\n",
+        last: b"",
+        length: Some(24),
+        status: Status::Refused,
     },
     Call {
         words: "fly",

@@ -18,7 +18,7 @@ use Rattle.pb_json_lines.specs.declared.marker.Marker.TheVariants.{Label, Code}
 abbrev pub marker_of : ℕ → Marker
 marker_of p =
     cond (list_any (λ b. b == p) (codes "PRXCFTU2")) Name (
-    cond (list_any (λ b. b == p) (codes "AVKMGLENODSIQJY01567")) Number (
+    cond (list_any (λ b. b == p) (codes "AVKMGLENODSIQJY015679")) Number (
     cond (p == 66) Pairs (
     cond (p == 72) Numbers (
     cond (p == 87) Rest (
@@ -61,7 +61,8 @@ key_of p =
     cond (p == 53) (codes "cash") (
     cond (p == 54) (codes "needs") (
     cond (p == 55) (codes "holds") (
-    cond (p == 56) (codes "code") (codes "text")))))))))))))))))))))))))))))))))
+    cond (p == 56) (codes "code") (
+    cond (p == 57) (codes "of_text") (codes "text"))))))))))))))))))))))))))))))))))
 
 -- a digit or a minus sign
 abbrev pub is_number_byte : ℕ → Bool

@@ -46,7 +46,7 @@ pub(crate) fn marker_of(byte: u8) -> Marker
 {
     if is_among(b"PRXCFTU2", byte) {
         Marker::Name
-    } else if is_among(b"AVKMGLENODSIQJY01567", byte) {
+    } else if is_among(b"AVKMGLENODSIQJY015679", byte) {
         Marker::Number
     } else if byte == b'B' {
         Marker::Pairs

@@ -105,6 +105,8 @@ fn key_of(byte: u8) -> &'static str
         "holds"
     } else if byte == b'8' {
         "code"
+    } else if byte == b'9' {
+        "of_text"
     } else {
         "text"
     }

@@ -61,7 +61,7 @@ static PARTS: [Form; 10] = [
 ];
 
 /// All others, in the order in which they are tried.
-static FORMS: [Form; 44] = [
+static FORMS: [Form; 50] = [
     Form {
         section: Section::Alone,
         first: "\"kind\":\"grant\"",
@@ -134,6 +134,16 @@ static FORMS: [Form; 44] = [
     },
     Form {
         section: Section::Alone,
+        first: "\"kind\":\"claim\"",
+        pattern: "P of text 9 claim K R",
+    },
+    Form {
+        section: Section::Alone,
+        first: "\"kind\":\"claim\"",
+        pattern: "P of text 9 claim K R linesH",
+    },
+    Form {
+        section: Section::Alone,
         first: "\"kind\":\"resource\"",
         pattern: "R capital G least L free E",
     },
@@ -151,6 +161,11 @@ static FORMS: [Form; 44] = [
         section: Section::Alone,
         first: "\"kind\":\"nest\"",
         pattern: "P holds T line J around U line Y",
+    },
+    Form {
+        section: Section::Alone,
+        first: "\"kind\":\"nest\"",
+        pattern: "P of text 9 holds T line J around U line Y",
     },
     Form {
         section: Section::Alone,
@@ -186,6 +201,21 @@ static FORMS: [Form; 44] = [
         section: Section::Alone,
         first: "\"kind\":\"refused\"",
         pattern: "refused C W",
+    },
+    Form {
+        section: Section::Alone,
+        first: "\"kind\":\"refused\"",
+        pattern: "text 9 refused C",
+    },
+    Form {
+        section: Section::Alone,
+        first: "\"kind\":\"refused\"",
+        pattern: "text 9 refused C at I",
+    },
+    Form {
+        section: Section::Alone,
+        first: "\"kind\":\"refused\"",
+        pattern: "text 9 refused C W",
     },
     Form {
         section: Section::Opens,

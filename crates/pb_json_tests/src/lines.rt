@@ -65,11 +65,17 @@ const OUTCOMES: [Case; 3] = [
     },
 ];
 
-/// What `plan` writes behind `no order`.
-const CIRCLES: [Case; 1] = [Case {
-    text: b"no order\norder holds tape line 7 around disk line 8\nb holds disk line 11 around tape line 12\norder tape disk\n",
-    lines: b"{\"kind\":\"no order\"}\n{\"kind\":\"nest\",\"process\":\"order\",\"outer\":\"tape\",\"outer_line\":7,\"inner\":\"disk\",\"inner_line\":8}\n{\"kind\":\"nest\",\"process\":\"b\",\"outer\":\"disk\",\"outer_line\":11,\"inner\":\"tape\",\"inner_line\":12}\n{\"kind\":\"order\",\"text\":\"tape disk\"}\n",
-}];
+/// What `plan` writes behind `no order`, and of several texts.
+const CIRCLES: [Case; 2] = [
+    Case {
+        text: b"no order\norder holds tape line 7 around disk line 8\nb holds disk line 11 around tape line 12\norder tape disk\n",
+        lines: b"{\"kind\":\"no order\"}\n{\"kind\":\"nest\",\"process\":\"order\",\"outer\":\"tape\",\"outer_line\":7,\"inner\":\"disk\",\"inner_line\":8}\n{\"kind\":\"nest\",\"process\":\"b\",\"outer\":\"disk\",\"outer_line\":11,\"inner\":\"tape\",\"inner_line\":12}\n{\"kind\":\"order\",\"text\":\"tape disk\"}\n",
+    },
+    Case {
+        text: b"night of text 1 claim 1 tape lines 7\nday of text 2 claim 0 disk\nday of text 2 holds disk line 3 around tape line 4\ntext 2 refused N2 at 9\ntext 2 refused P2\ntext 3 refused N1 processes\n",
+        lines: b"{\"kind\":\"claim\",\"process\":\"night\",\"of_text\":1,\"claim\":1,\"resource\":\"tape\",\"lines\":[7]}\n{\"kind\":\"claim\",\"process\":\"day\",\"of_text\":2,\"claim\":0,\"resource\":\"disk\"}\n{\"kind\":\"nest\",\"process\":\"day\",\"of_text\":2,\"outer\":\"disk\",\"outer_line\":3,\"inner\":\"tape\",\"inner_line\":4}\n{\"kind\":\"refused\",\"of_text\":2,\"code\":\"N2\",\"at\":9}\n{\"kind\":\"refused\",\"of_text\":2,\"code\":\"P2\"}\n{\"kind\":\"refused\",\"of_text\":3,\"code\":\"N1\",\"text\":\"processes\"}\n",
+    },
+];
 
 /// What `record` and `explain` write.
 const TEXTS: [Case; 1] = [Case {

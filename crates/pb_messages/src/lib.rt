@@ -10,6 +10,7 @@ mod picks;
 mod prints;
 mod standard_error;
 mod texts;
+mod together;
 mod worded;
 
 pub use kept::KeptInput;

@@ -3,7 +3,7 @@
 ghost use Rattle.std.specs.Prelude.{◌≡◌, ◌↔◌, ◌≤◌, [], IfNone, IfOk, IfSome, IsTrue, false, OnOk, codes, length, string_bytes, take};
 ghost use Rattle.pb_accept.specs.Refusals.{IsAcceptedText};
 ghost use Rattle.pb_messages.specs.Messages.{TellsRefusal};
-ghost use Rattle.pb_messages.specs.Said.{SaysByReading, SaysOfExpectedText, SaysOfObjectText, SaysOfPickedObject, SaysOfPickedText, SaysOfProgram, SaysOfText, SaysOfTexts};
+ghost use Rattle.pb_messages.specs.Said.{SaysByReading, SaysOfExpectedText, SaysOfObjectText, SaysOfPickedObject, SaysOfPickedText, SaysOfProgram, SaysOfText, SaysOfTexts, SaysOfTogether};
 ghost use Rattle.pb_messages.specs.Said.{IsLastLabel, SaysMore, SaysToPerson, behind, long_output, text_label};
 ghost use Rattle.pb_messages.specs.declared.message.Reading.TheVariants.{Debugged, Expected, Replayed};
 
@@ -12,11 +12,14 @@ use crate::objects::object_message;
 use crate::picks::lines_message;
 use crate::prints::prints_message;
 use crate::texts::{early_message, text_message};
+use crate::together::refused_message;
 use pb_base::limits::MAX_INPUT;
 use pb_base::{Lending, NoMemory};
 use pb_command_io::{first_part, two_parts};
+use pb_joint::read_texts;
 use pb_message_excerpts::place_of;
 use pb_message_stops::Lines;
+use pb_plan_engine::texts_of;
 use std::alloc::{AllocError, Global};
 
 /// What is said of an input that is too long.
@@ -42,6 +45,8 @@ pub enum Reading {
     FirstFormat,
     /// Texts, which lines `%%` part.
     Texts,
+    /// Texts, which lines `%%` part, as one program.
+    Together,
     /// An object.
     Object,
     /// A text, and pick lines behind the first line `%%`, made under this lending.
@@ -74,6 +79,7 @@ fn whole_message(alloc: Global, reading: Reading, bytes: &[u8]) -> Result<Vec<u8
         Reading::Claims => claims_message(alloc, bytes),
         Reading::FirstFormat => first_format_message(alloc, bytes),
         Reading::Texts => texts_messages(alloc, bytes),
+        Reading::Together => together_message(alloc, bytes),
         Reading::Object => whole_object_message(alloc, bytes),
         Reading::Replayed(lending) => replayed_message(alloc, lending, bytes),
         Reading::Expected => expected_message(alloc, bytes),
@@ -152,6 +158,19 @@ fn texts_messages(alloc: Global, bytes: &[u8]) -> Result<Vec<u8>, NoMemory>
         }
         number = number.saturating_add(1);
         rest = more;
+    }
+}
+
+/// Returns the message of the first fault of texts that are read as one program, or those of the texts whose capital is
+/// too little for a claim.
+fn together_message(alloc: Global, bytes: &[u8]) -> Result<Vec<u8>, NoMemory>
+    requires { length bytes.now ≤ MAX_INPUT }
+    ensures { IfOk result (λ message. SaysOfTogether bytes.now message.items) }
+{
+    let texts = texts_of(alloc, bytes)?;
+    match read_texts(alloc, &texts) {
+        Ok(_) => texts_messages(alloc, bytes),
+        Err(refused) => refused_message(alloc, &texts, &refused),
     }
 }
 
