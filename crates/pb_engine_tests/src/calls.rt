@@ -27,7 +27,8 @@ const TWO_OUTCOMES: &[u8] = b"process p begin integer x; parbegin x := 1; x := 2
 const SESSION: &[u8] = b"process p begin print 1 end\n%%\np.0 2\n%%\nto 2\nstep 1\n";
 
 /// Two programs that run beside one another, with a resource that both declare.
-const BESIDE: &[u8] = b"resource r = 1; process p begin hold 1 of r do skip od end\n%%\nresource r = 1; process q begin skip end";
+const BESIDE: &[u8] =
+    b"resource r = 1; process p begin hold 1 of r do skip od end\n%%\nresource r = 1; process q begin skip end";
 
 /// At least one call of each crate with an engine but pb_explain, and one of words that say no command.
 const CALLS: [Call; 10] = [

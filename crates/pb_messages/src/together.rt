@@ -15,7 +15,11 @@ use pb_names::{Kind, NameFault};
 use std::alloc::{AllocError, Global};
 
 /// Returns the message of the first fault of texts.
-pub(crate) fn refused_message(alloc: Global, texts: &[&[u8]], refused: &TextFault) -> Result<Vec<u8>, NoMemory>
+pub(crate) fn refused_message(
+    alloc: Global,
+    texts: &[&[u8]],
+    refused: &TextFault,
+) -> Result<Vec<u8>, NoMemory>
     requires { (refused.now.fault ≡ CompileFault.Memory)
         ⊎ IsFirstFault (map (λ text. text.now) texts.now) refused.now.index refused.now.fault }
     ensures { IfOk result (λ message. TellsFirstFault (map (λ text. text.now) texts.now) message.items) }
