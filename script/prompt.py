@@ -223,6 +223,12 @@ class Prompt(Completion, cmd.Cmd):
             position = int(answer.split()[1])
             self.say(f"  {position}/{self.session.picks.total} {self.teller.of_pick(position - 1)}")
 
+    def do_fault(self, words: str) -> None:
+        """Carries out `fault P`."""
+        name = self.process(words)
+        answer = self.session.ask(f"fault {name}")
+        self.say(f"  {name} has not faulted" if answer == "no fault" else f"  {answer}")
+
     def do_line(self, words: str) -> None:
         """Carries out `line P.a`."""
         arm = self.arm(words)
