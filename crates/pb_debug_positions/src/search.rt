@@ -32,7 +32,9 @@ pub enum Watch {
         line: u32,
     },
     /// A pick with which a process faults.
-    Fault { process: usize },
+    Fault {
+        process: usize,
+    },
 }
 
 /// Returns an integer of a process of a machine, if both are there.

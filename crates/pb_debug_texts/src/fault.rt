@@ -74,11 +74,7 @@ fn put_between(text: &mut Vec<u8>, word: &str, operands: &[i64]) -> Result<(), N
 }
 
 /// Appends the operator that an instruction is to a text, with its operands.
-fn put_applied(
-    text: &mut Vec<u8>,
-    instr: Option<Instr>,
-    operands: &[i64],
-) -> Result<(), NoMemory>
+fn put_applied(text: &mut Vec<u8>, instr: Option<Instr>, operands: &[i64]) -> Result<(), NoMemory>
     ensures { OnOk result ((bundles : List Bundle) → text.new.items
         ≡ text.old.items ++ said.operation_text (option_map (instr_view bundles) instr) (reverse operands.now)) }
 {
