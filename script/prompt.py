@@ -102,12 +102,21 @@ class Prompt(Completion, cmd.Cmd):
         here, total = self.session.position, self.session.picks.total
         if here > before:
             first = before if here - before <= MOST_TOLD else here - 1
+            told = ""
             for pick in range(first, here):
-                self.say(f"{pick + 1}/{total} {self.teller.of_pick(pick)}")
+                told = self.teller.of_pick(pick)
+                self.say(f"{pick + 1}/{total} {told}")
+            if ": faults (" not in told:
+                self.tell_fault(self.session.picks.arm_of(here - 1).split(".")[0])
         elif here < before:
             self.say(f"{here}/{total} before {self.teller.of_pick(here)}")
         else:
             self.say(f"{here}/{total} is where it was")
+
+    def tell_fault(self, name: str) -> None:
+        """Tells where a process faulted, if it has: it was the last pick of the process."""
+        if "faulted" in self.session.places(name).values():
+            self.say(f"  fault: {self.session.ask(f'fault {name}')}")
 
     def step_by(self, by: int, line: str) -> None:
         """Goes on or back, at most to an end of the picks."""
