@@ -16,8 +16,9 @@ use pb_base::NoMemory;
 use pb_debug_commands::{ArmWord, Command, IntegerWord, StopWord, read_command};
 use pb_debug_positions::{Watch, line_of_arm};
 use pb_debug_texts::{
-    put_at, put_circle, put_event, put_fault, put_help, put_loans, put_mark, put_never, put_no_event, put_no_fault, put_not_reached,
-    put_source, put_source_line, put_stack, put_threads, put_vars, put_who, put_why, put_wrote,
+    put_at, put_circle, put_event, put_fault, put_help, put_loans, put_mark, put_never,
+    put_no_event, put_no_fault, put_not_reached, put_source, put_source_line, put_stack,
+    put_threads, put_vars, put_who, put_why, put_wrote,
 };
 
 /// Returns the number of a name among others.
@@ -157,7 +158,14 @@ impl<'c> Debugger<'c> {
         let line = line_of_arm(self.labels, &walker.machine, p, arm);
         let verified = self.verified.code();
         let thread = walker.machine.proc(p).thread(arm);
-        put_fault(text, &verified.names, pick, line, &verified.processes[p], thread)
+        put_fault(
+            text,
+            &verified.names,
+            pick,
+            line,
+            &verified.processes[p],
+            thread,
+        )
     }
 
     fn say_fault(&self, text: &mut Vec<u8>, word: &[u8]) -> Result<(), NoMemory>
