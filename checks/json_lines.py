@@ -77,7 +77,9 @@ DEBUG: list[tuple[str, dict[str, Any]]] = [
     ("at <at> <process>.<arm> print <value>", {"kind": "at", "event": "print"}),
     ("at <at> <process>.<arm> fault <fault>", {"kind": "at", "event": "fault"}), ("at <at> <process> end", {"kind": "at", "event": "end"}),
     ("at <at> <process>.<arm> line <line>", {"kind": "wrote"}), ("at <at> <process>.<arm> line none", {"kind": "wrote"}),
-    *((words, {"kind": words}) for words in ("no event", "never", "not reached", "faulted", "no circle", "no text", "not asking", "granted")),
+    ("mark <number>", {"kind": "mark"}),
+    *((words, {"kind": words}) for words in ("no event", "never", "not reached", "faulted", "no fault", "no circle", "no text", "not asking", "granted")),
+    ("<process>.<arm> line <line> <text>", {"kind": "faulted at"}), ("<process>.<arm> line none <text>", {"kind": "faulted at"}),
     ("<arm> idle", {"kind": "arm", "state": "idle"}), ("<arm> at <place>", {"kind": "arm", "state": "at"}),
     ("<arm> ended", {"kind": "arm", "state": "ended"}), ("<process> holds <amount> <resource> claim <claim>", {"kind": "loan"}),
     ("cash <amount> <resource>", {"kind": "cash"}), ("<process>.<arm> asks<amounts>", {"kind": "asks"}),
@@ -234,7 +236,7 @@ def calls() -> list[tuple[list[str], bytes]]:
     nothing = b"process refused begin print 1 end\n"
     odd = b"process p // \t\"\\<%%\r\nbegin integer ok, memory;\nok\n:= 1;\nmemory\n:= 2; print ok end\n"
     asks = (b"to 2\nvars p\nthreads p\nloans\nwho tape\ncircle\nline p.0\ntext p.0\nwhy p.0\nnext\nprev\nwrote p ok\nuntil p.0 3\n"
-            b"pick p.0\nback\nback\nstack p.0\nback\nstack p.0\nhelp\nto 99\nvars q\nthreads p\nnonsense\n")
+            b"pick p.0\nback\nback\nstack p.0\nback\nstack p.0\nfault p\nmark 0\nmark 4294967295\nmark 4294967296\nhelp\nto 99\nvars q\nthreads p\nnonsense\n")
     jobs = (b"resource tape-1 4\nresource 2.d 2\njob a 3 tape-1, 1 2.d\njob 1-b 4 tape-1\nask a 2 tape-1\nask a 2 tape-1\nask 1-b 4 tape-1\n"
             b"want 1-b 3 tape-1\nwhy a 1 2.d\norder\norder a 1-b\norder 1-b a\norder a a\norder a\nstate\ngive a 2 tape-1\nhelp\n"
             b"hold a 1 2.d\ndrop a\nleave a\nnonsense\n")
@@ -245,6 +247,7 @@ def calls() -> list[tuple[list[str], bytes]]:
     made.append((["record"], b"process p begin print x end\n"))
     made.append((["debug"], odd + b"%%\np.0 3\n%%\n" + asks))
     made.append((["debug"], b"process p begin print x end\n%%\n%%\nto 1\n"))
+    made.append((["debug"], b"process p begin\nprint 1;\nprint 7 div 0 end\n%%\np.0 5\n%%\nfault p\nto 5\nfault p\nfault q\n"))
     made.append((["debug", "--lend", "cash"], (TOP / "examples/devices.pb").read_bytes() + b"%%\na.0 1\nb.0 1\n%%\n"
                  + b"to 2\ncircle\nloans\nwho tape\nwhy a.0\npick a.0\nline a.0\ntext a.0\nprev\n"))
     made.append((["debug"], (TOP / "examples/devices.pb").read_bytes() + b"%%\na.0 1\n%%\nto 1\nwhy a.0\nwhy b.0\nprev\npick b.0\n"))

@@ -61,7 +61,7 @@ ASKED = [
     ("", "the picks end here"), ("vars", "p: x = 1"), ("vars q", "no process q; there is p"),
     ("why p.7", "p has the arms 0 to 2"),
     ("wrote p x", "7/15 p.1 line 7: assigns 1 to x (it was 0)"), ("wrote p y", "no integer y in p; there is x"),
-    ("wrote p", "an integer is missing; there is x"), ("who tape", "no resource tape; there are none"),
+    ("wrote p", "an integer is missing; there is x"), ("fault", "p has not faulted"), ("who tape", "no resource tape; there are none"),
     ("frob", "no command frob"), ("t", "a number is missing"), ("to 16", "the positions are 0 to 15"),
     ("to x", "x is no number"), ("pick p.1", "p.1 can't be picked: idle"), ("b", "14/15 before p.0: ends the process"),
     ("", "13/15 before p.0 line 10: prints 1"),

@@ -26,6 +26,7 @@ COMMANDS = {
     "vars": Command("vars [P]", "shows the integers of a process, or of all", "vars p"),
     "wrote": Command("wrote P X", "shows the last pick that changed an integer of a process", "wrote p x"),
     "threads": Command("threads [P]", "shows where the arms of a process are, or of all", "threads p"),
+    "fault": Command("fault P", "shows the operator at which a process faulted, with its operands", "fault p"),
     "line": Command("line P.a", "shows what an arm does next", "line p.1"),
     "text": Command("text P.a", "shows the source line of what an arm does next", "text p.1"),
     "loans": Command("loans", "shows who holds what, and what is left", "loans"),

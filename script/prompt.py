@@ -102,12 +102,21 @@ class Prompt(Completion, cmd.Cmd):
         here, total = self.session.position, self.session.picks.total
         if here > before:
             first = before if here - before <= MOST_TOLD else here - 1
+            told = ""
             for pick in range(first, here):
-                self.say(f"{pick + 1}/{total} {self.teller.of_pick(pick)}")
+                told = self.teller.of_pick(pick)
+                self.say(f"{pick + 1}/{total} {told}")
+            if ": faults (" not in told:
+                self.tell_fault(self.session.picks.arm_of(here - 1).split(".")[0])
         elif here < before:
             self.say(f"{here}/{total} before {self.teller.of_pick(here)}")
         else:
             self.say(f"{here}/{total} is where it was")
+
+    def tell_fault(self, name: str) -> None:
+        """Tells where a process faulted, if it has: it was the last pick of the process."""
+        if "faulted" in self.session.places(name).values():
+            self.say(f"  fault: {self.session.ask(f'fault {name}')}")
 
     def step_by(self, by: int, line: str) -> None:
         """Goes on or back, at most to an end of the picks."""
@@ -222,6 +231,12 @@ class Prompt(Completion, cmd.Cmd):
         else:
             position = int(answer.split()[1])
             self.say(f"  {position}/{self.session.picks.total} {self.teller.of_pick(position - 1)}")
+
+    def do_fault(self, words: str) -> None:
+        """Carries out `fault P`."""
+        name = self.process(words)
+        answer = self.session.ask(f"fault {name}")
+        self.say(f"  {name} has not faulted" if answer == "no fault" else f"  {answer}")
 
     def do_line(self, words: str) -> None:
         """Carries out `line P.a`."""

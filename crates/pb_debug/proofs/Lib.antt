@@ -1,3 +1,4 @@
+pub mod Faults
 pub mod FurtherPicks
 pub mod LineParts
 pub mod Lines

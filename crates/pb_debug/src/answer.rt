@@ -1,7 +1,7 @@
 //! What a session answers to a line.
 
 ghost use Rattle.std.specs.Prelude.{◌≡◌, ◌++◌, ◌<◌, ◌≤◌, ℕ, List, length, map, slice_get, Some, OnOk, OnErr, IfSome, IfNone};
-ghost use Rattle.pb_debug.specs.Answers.{shown_names, HasNoName, OfProcess, SaysVars, SaysThreads, SaysLine, SaysStack, SaysText, SaysWho, SaysWhy};
+ghost use Rattle.pb_debug.specs.Answers.{shown_names, HasNoName, OfProcess, SaysFault, SaysFaulted, SaysVars, SaysThreads, SaysLine, SaysStack, SaysText, SaysWho, SaysWhy};
 ghost use Rattle.pb_debug.specs.Answers.{AnswersLine, AnswersCommand, AnswersNext, AnswersPick, AnswersPrev};
 ghost use Rattle.pb_debug.specs.Answers.{AnswersUntil, SaysEvent, SaysWrite, SaysWrote, ShowsAny};
 ghost use Rattle.pb_debug_texts.specs.Circles.{SaysCircle};
@@ -16,8 +16,9 @@ use pb_base::NoMemory;
 use pb_debug_commands::{ArmWord, Command, IntegerWord, StopWord, read_command};
 use pb_debug_positions::{Watch, line_of_arm};
 use pb_debug_texts::{
-    put_at, put_circle, put_event, put_help, put_loans, put_never, put_no_event, put_not_reached,
-    put_source, put_source_line, put_stack, put_threads, put_vars, put_who, put_why, put_wrote,
+    put_at, put_circle, put_event, put_fault, put_help, put_loans, put_mark, put_never,
+    put_no_event, put_no_fault, put_not_reached, put_source, put_source_line, put_stack,
+    put_threads, put_vars, put_who, put_why, put_wrote,
 };
 
 /// Returns the number of a name among others.
@@ -141,6 +142,43 @@ impl<'c> Debugger<'c> {
         match self.find_last(self.position(), Watch::Integer { process, integer })? {
             Some(k) => self.say_write(text, k),
             None => put_never(text),
+        }
+    }
+
+    /// Appends the line of the arm of a pick to a text, at the operator at which it is before the pick.
+    fn say_faulted(&self, text: &mut Vec<u8>, k: u32) -> Result<(), NoMemory>
+        requires { k < length self.now.picks }
+        ensures { OnOk result ((said : List ℕ) × SaysFaulted self.now k said
+            × (text.new.items ≡ text.old.items ++ said)) }
+    {
+        let walker = self.walker_at(k)?;
+        let pick = self.trace.pick(k);
+        let p = usize::from(pick.process);
+        let arm = usize::from(pick.arm);
+        let line = line_of_arm(self.labels, &walker.machine, p, arm);
+        let verified = self.verified.code();
+        let thread = walker.machine.proc(p).thread(arm);
+        put_fault(
+            text,
+            &verified.names,
+            pick,
+            line,
+            &verified.processes[p],
+            thread,
+        )
+    }
+
+    fn say_fault(&self, text: &mut Vec<u8>, word: &[u8]) -> Result<(), NoMemory>
+        ensures { OnOk result ((said : List ℕ)
+            × OfProcess (shown_names self.now) word.now (SaysFault self.now said) said
+            × (text.new.items ≡ text.old.items ++ said)) }
+    {
+        let Some(process) = self.process(word) else {
+            return put_refusal(text, DebugFault::NoProcess);
+        };
+        match self.find_last(self.position(), Watch::Fault { process })? {
+            Some(k) => self.say_faulted(text, k),
+            None => put_no_fault(text),
         }
     }
 
@@ -307,10 +345,12 @@ impl<'c> Debugger<'c> {
             Command::To(_) | Command::Step(_) | Command::Back(_) => {
                 put_refusal(text, DebugFault::PastEnd)
             }
+            Command::Mark(number) => put_mark(text, number),
             Command::Vars(word) => self.say_vars(text, word),
             Command::Wrote(word) => self.say_wrote(text, word),
             Command::Until(word) => self.say_until(text, word),
             Command::Threads(word) => self.say_threads(text, word),
+            Command::Fault(word) => self.say_fault(text, word),
             Command::Loans => self.say_loans(text),
             Command::Circle => self.say_circle(text),
             Command::Who(word) => self.say_who(text, word),

@@ -17,9 +17,9 @@ use Rattle.pb_base.proofs.Cases.{both_true}
 use Rattle.pb_code.proofs.NumeralLemmas.{own, numeral_is, is_numeral_decimal}
 use Rattle.pb_code.specs.Names.{is_name_byte}
 use Rattle.pb_code.specs.Numerals.{is_numeral}
-use Rattle.pb_debug_commands.specs.Commands.{Command, To, Step, Back, Vars, Threads, Wrote, Until, Loans, Next, Prev}
+use Rattle.pb_debug_commands.specs.Commands.{Command, To, Step, Back, Mark, Vars, Threads, Fault, Wrote, Until, Loans, Next, Prev}
 use Rattle.pb_debug_commands.specs.Commands.{Help, Circle, Line, Text, Why, Stack, Pick, Who, arm_at, arm_of, both_of, integer_at, integer_of}
-use Rattle.pb_debug_commands.specs.Commands.{stop_at, stop_from, stop_of, command_of, looks_like_name, keyed, number_of}
+use Rattle.pb_debug_commands.specs.Commands.{stop_at, stop_from, stop_of, command_of, looks_like_name, keyed, mark_of, number_of}
 use Rattle.pb_debug_commands.specs.Commands.{parted, said_by, trimmed, word_of}
 use Rattle.pb_debug_commands.specs.Spellings.{CommandsBySpelling, IsOneStep, IsProper, command_spelling}
 
@@ -56,6 +56,26 @@ number_again n lt =
     let short : ltb (length (decimal n)) 9 ≡ true = lt-ltb (length (decimal n)) 9 (omega (arith, size)) in
     let value : digits_value 10 (decimal n) ≡ n = digits_value-decimal own n small in
     rw (form, short, value) refl
+
+-- the number of a mark
+mark_is : (w : List ℕ) (n : ℕ) → mark_of w ≡ Some n → (w ≡ decimal n) × (n < 4294967296)
+mark_is w n h =
+    let p = sure (is_numeral w && ltb (length w) 11 && ltb (digits_value 10 w) 4294967296) (digits_value 10 w) n h in
+    let b = both_true (is_numeral w && ltb (length w) 11) (ltb (digits_value 10 w) 4294967296) p.0 in
+    let f = numeral_is w (both_true (is_numeral w) (ltb (length w) 11) b.0).0 in
+    let small : digits_value 10 w < 4294967296 = ltb-true (digits_value 10 w) 4294967296 b.1 in
+    let written : decimal (digits_value 10 w) ≡ w = decimal-digits_value own w f.0 f.1 f.2 (omega (arith, small)) in
+    (sym written ∙ ap decimal p.1, let e = p.1 in omega (arith, small, e))
+
+mark_again : (n : ℕ) → n < 4294967296 → mark_of (decimal n) ≡ Some n
+mark_again n lt =
+    let small : n < 2 ^ 64 = omega (arith, lt) in
+    let form : is_numeral (decimal n) ≡ true = is_numeral_decimal n small in
+    let size : length (decimal n) ≤ 10 = length-decimal-le 10 n (omega arith) (omega (arith, lt)) small in
+    let short : ltb (length (decimal n)) 11 ≡ true = lt-ltb (length (decimal n)) 11 (omega (arith, size)) in
+    let value : digits_value 10 (decimal n) ≡ n = digits_value-decimal own n small in
+    let few : ltb n 4294967296 ≡ true = lt-ltb n 4294967296 lt in
+    rw (form, short, value, few) refl
 
 -- ---- the first such byte
 
@@ -314,6 +334,13 @@ module _ (key word : List ℕ) (c : Command) where
       let e : text ++ 32 ∷ word ≡ command_spelling (f m.0) = ap (λ (w : List ℕ). text ++ 32 ∷ w) n.0 ∙ sym (spelled m.0) in
       with_key text h (subst (SaysIt (text ++ 32 ∷ word)) m.2 (e, proper m.0 n.1))
 
+  marked : bytes_eq key (codes "mark") ≡ true → option_map Mark (mark_of word) ≡ Some c → Here
+  marked h o =
+      let m = mapped Mark (mark_of word) c o in
+      let n = mark_is word m.0 m.1 in
+      let e : codes "mark" ++ 32 ∷ word ≡ command_spelling (Mark m.0) = ap (λ (w : List ℕ). codes "mark" ++ 32 ∷ w) n.0 in
+      with_key (codes "mark") h (subst (SaysIt (codes "mark" ++ 32 ∷ word)) m.2 (e, n.1))
+
   named : (text : List ℕ) (f : List ℕ → Command) → ((w : List ℕ) → command_spelling (f w) ≡ text ++ 32 ∷ w)
       → ((w : List ℕ) → looks_like_name w ≡ true → IsProper (f w))
       → bytes_eq key text ≡ true → option_map f (word_of word) ≡ Some c → Here
@@ -356,27 +383,33 @@ module _ (key word : List ℕ) (c : Command) where
           | inl s ↦ numbered (codes "step") Step (λ n. refl) (λ n lt. lt) s.0 s.1
           | inr h ↦ elim (chosen (bytes_eq key (codes "back")) _ _ c h) [
             | inl s ↦ numbered (codes "back") Back (λ n. refl) (λ n lt. lt) s.0 s.1
-            | inr h ↦ elim (chosen (bytes_eq key (codes "vars")) _ _ c h) [
-              | inl s ↦ named (codes "vars") Vars (λ w. refl) (λ w e. e) s.0 s.1
-              | inr h ↦ elim (chosen (bytes_eq key (codes "threads")) _ _ c h) [
-                | inl s ↦ named (codes "threads") Threads (λ w. refl) (λ w e. e) s.0 s.1
-                | inr h ↦ elim (chosen (bytes_eq key (codes "until")) _ _ c h) [
-                  | inl s ↦ stopped s.0 s.1
-                  | inr h ↦ elim (chosen (bytes_eq key (codes "wrote")) _ _ c h) [
-                    | inl s ↦ written (codes "wrote") (λ p. Wrote p.0 p.1) (λ x. refl) (λ x e f. (e, f)) s.0 s.1
-                    | inr h ↦ elim (chosen (bytes_eq key (codes "line")) _ _ c h) [
-                      | inl s ↦ armed (codes "line") (λ p. Line p.0 p.1) (λ x. refl) (λ x e lt. (e, lt)) s.0 s.1
-                      | inr h ↦ elim (chosen (bytes_eq key (codes "text")) _ _ c h) [
-                        | inl s ↦ armed (codes "text") (λ p. Text p.0 p.1) (λ x. refl) (λ x e lt. (e, lt)) s.0 s.1
-                        | inr h ↦ elim (chosen (bytes_eq key (codes "why")) _ _ c h) [
-                          | inl s ↦ armed (codes "why") (λ p. Why p.0 p.1) (λ x. refl) (λ x e lt. (e, lt)) s.0 s.1
-                          | inr h ↦ elim (chosen (bytes_eq key (codes "who")) _ _ c h) [
-                            | inl s ↦ named (codes "who") Who (λ w. refl) (λ w e. e) s.0 s.1
-                            | inr h ↦ elim (chosen (bytes_eq key (codes "stack")) _ _ c h) [
-                              | inl s ↦ armed (codes "stack") (λ p. Stack p.0 p.1) (λ x. refl) (λ x e lt. (e, lt)) s.0 s.1
-                              | inr h ↦ elim (chosen (bytes_eq key (codes "pick")) _ _ c h) [
-                                | inl s ↦ armed (codes "pick") (λ p. Pick p.0 p.1) (λ x. refl) (λ x e lt. (e, lt)) s.0 s.1
-                                | inr h ↦ absurd cc
+            | inr h ↦ elim (chosen (bytes_eq key (codes "mark")) _ _ c h) [
+              | inl s ↦ marked s.0 s.1
+              | inr h ↦ elim (chosen (bytes_eq key (codes "vars")) _ _ c h) [
+                | inl s ↦ named (codes "vars") Vars (λ w. refl) (λ w e. e) s.0 s.1
+                | inr h ↦ elim (chosen (bytes_eq key (codes "threads")) _ _ c h) [
+                  | inl s ↦ named (codes "threads") Threads (λ w. refl) (λ w e. e) s.0 s.1
+                  | inr h ↦ elim (chosen (bytes_eq key (codes "fault")) _ _ c h) [
+                    | inl s ↦ named (codes "fault") Fault (λ w. refl) (λ w e. e) s.0 s.1
+                    | inr h ↦ elim (chosen (bytes_eq key (codes "until")) _ _ c h) [
+                      | inl s ↦ stopped s.0 s.1
+                      | inr h ↦ elim (chosen (bytes_eq key (codes "wrote")) _ _ c h) [
+                        | inl s ↦ written (codes "wrote") (λ p. Wrote p.0 p.1) (λ x. refl) (λ x e f. (e, f)) s.0 s.1
+                        | inr h ↦ elim (chosen (bytes_eq key (codes "line")) _ _ c h) [
+                          | inl s ↦ armed (codes "line") (λ p. Line p.0 p.1) (λ x. refl) (λ x e lt. (e, lt)) s.0 s.1
+                          | inr h ↦ elim (chosen (bytes_eq key (codes "text")) _ _ c h) [
+                            | inl s ↦ armed (codes "text") (λ p. Text p.0 p.1) (λ x. refl) (λ x e lt. (e, lt)) s.0 s.1
+                            | inr h ↦ elim (chosen (bytes_eq key (codes "why")) _ _ c h) [
+                              | inl s ↦ armed (codes "why") (λ p. Why p.0 p.1) (λ x. refl) (λ x e lt. (e, lt)) s.0 s.1
+                              | inr h ↦ elim (chosen (bytes_eq key (codes "who")) _ _ c h) [
+                                | inl s ↦ named (codes "who") Who (λ w. refl) (λ w e. e) s.0 s.1
+                                | inr h ↦ elim (chosen (bytes_eq key (codes "stack")) _ _ c h) [
+                                  | inl s ↦ armed (codes "stack") (λ p. Stack p.0 p.1) (λ x. refl) (λ x e lt. (e, lt)) s.0 s.1
+                                  | inr h ↦ elim (chosen (bytes_eq key (codes "pick")) _ _ c h) [
+                                    | inl s ↦ armed (codes "pick") (λ p. Pick p.0 p.1) (λ x. refl) (λ x e lt. (e, lt)) s.0 s.1
+                                    | inr h ↦ absurd cc
+                                  ]
+                                ]
                               ]
                             ]
                           ]
@@ -459,9 +492,12 @@ unfolding said_by keyed
 said_again (To n) lt = said_short (command_spelling (To n)) (To n) refl refl refl refl refl refl refl (ap (option_map To) (number_again n lt))
 said_again (Step n) lt = said_short (command_spelling (Step n)) (Step n) refl refl refl refl refl refl refl (ap (option_map Step) (number_again n lt))
 said_again (Back n) lt = said_short (command_spelling (Back n)) (Back n) refl refl refl refl refl refl refl (ap (option_map Back) (number_again n lt))
+said_again (Mark n) lt = said_short (command_spelling (Mark n)) (Mark n) refl refl refl refl refl refl refl (ap (option_map Mark) (mark_again n lt))
 said_again (Vars p) word = said_short (command_spelling (Vars p)) (Vars p) refl refl refl refl refl refl refl (ap (option_map Vars) (word_again p word))
 said_again (Threads p) word =
     said_short (command_spelling (Threads p)) (Threads p) refl refl refl refl refl refl refl (ap (option_map Threads) (word_again p word))
+said_again (Fault p) word =
+    said_short (command_spelling (Fault p)) (Fault p) refl refl refl refl refl refl refl (ap (option_map Fault) (word_again p word))
 said_again (Wrote p x) proper =
     said_short (command_spelling (Wrote p x)) (Wrote p x) refl refl refl refl refl refl refl
     (ap (option_map (λ (y : IntegerWord). Wrote y.0 y.1)) (integer_again p x proper.0 proper.1))

@@ -9,8 +9,8 @@ use Rattle.pb_code.specs.Names.{is_name_byte}
 use Rattle.pb_code.specs.Numerals.{is_numeral}
 
 pub data Command : Type 0 where
-  To Step Back : (n : ℕ) → Command
-  Vars Threads : (process : List ℕ) → Command
+  To Step Back Mark : (n : ℕ) → Command
+  Vars Threads Fault : (process : List ℕ) → Command
   Wrote : (process integer : List ℕ) → Command
   Until : (process : List ℕ) (arm line : ℕ) → Command
   Loans Circle Next Prev Help : Command
@@ -20,6 +20,12 @@ pub data Command : Type 0 where
 -- one to eight digits, with no zero before others
 abbrev pub number_of : List ℕ → Option ℕ
 number_of word = cond (is_numeral word && nat_lt (length word) 9) (Some (digits_value 10 word)) None
+
+-- a number of at most ten digits, up to 4294967295, with no zero before others
+abbrev pub mark_of : List ℕ → Option ℕ
+mark_of word =
+    cond (is_numeral word && nat_lt (length word) 11 && nat_lt (digits_value 10 word) 4294967296) (Some (digits_value 10 word))
+    None
 
 -- a letter, then letters, digits or `_`: what a name looks like
 abbrev pub looks_like_name : List ℕ → Bool
@@ -70,8 +76,10 @@ keyed key word =
     cond (bytes_eq key (codes "to")) (option_map To (number_of word)) (
     cond (bytes_eq key (codes "step")) (option_map Step (number_of word)) (
     cond (bytes_eq key (codes "back")) (option_map Back (number_of word)) (
+    cond (bytes_eq key (codes "mark")) (option_map Mark (mark_of word)) (
     cond (bytes_eq key (codes "vars")) (option_map Vars (word_of word)) (
     cond (bytes_eq key (codes "threads")) (option_map Threads (word_of word)) (
+    cond (bytes_eq key (codes "fault")) (option_map Fault (word_of word)) (
     cond (bytes_eq key (codes "until")) (stop_of word) (
     cond (bytes_eq key (codes "wrote")) (option_map (λ p. Wrote p.0 p.1) (integer_of word)) (
     cond (bytes_eq key (codes "line")) (option_map (λ p. Line p.0 p.1) (arm_of word)) (
@@ -79,7 +87,7 @@ keyed key word =
     cond (bytes_eq key (codes "why")) (option_map (λ p. Why p.0 p.1) (arm_of word)) (
     cond (bytes_eq key (codes "who")) (option_map Who (word_of word)) (
     cond (bytes_eq key (codes "stack")) (option_map (λ p. Stack p.0 p.1) (arm_of word)) (
-    cond (bytes_eq key (codes "pick")) (option_map (λ p. Pick p.0 p.1) (arm_of word)) None))))))))))))
+    cond (bytes_eq key (codes "pick")) (option_map (λ p. Pick p.0 p.1) (arm_of word)) None))))))))))))))
 
 abbrev pub parted : List ℕ → Option ℕ → Option Command
 parted line None = None

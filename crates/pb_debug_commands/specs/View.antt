@@ -4,7 +4,7 @@ use Rattle.pb_debug_commands.specs.declared.command.Command.{Command as Given}
 use Rattle.pb_debug_commands.specs.declared.command.Command.TheVariants as given
 use Rattle.pb_debug_commands.specs.declared.words.ArmWord.{ArmWord}
 use Rattle.pb_debug_commands.specs.declared.words.IntegerWord.{IntegerWord}
-use Rattle.pb_debug_commands.specs.Commands.{Command, To, Step, Back, Vars, Threads, Wrote, Until, Loans, Next, Prev}
+use Rattle.pb_debug_commands.specs.Commands.{Command, To, Step, Back, Mark, Vars, Threads, Fault, Wrote, Until, Loans, Next, Prev}
 use Rattle.pb_debug_commands.specs.Commands.{Help, Circle, Line, Text, Why, Stack, Pick, Who}
 
 abbrev pub arm_view : ArmWord → List ℕ × ℕ
@@ -17,8 +17,10 @@ abbrev pub command_view : Given → Command
 command_view (given.To n) = To n
 command_view (given.Step n) = Step n
 command_view (given.Back n) = Back n
+command_view (given.Mark n) = Mark n
 command_view (given.Vars word) = Vars word.now
 command_view (given.Threads word) = Threads word.now
+command_view (given.Fault word) = Fault word.now
 command_view (given.Wrote word) = Wrote word.process.now word.integer.now
 command_view (given.Until word) = Until word.process.now word.arm word.line
 command_view given.Loans = Loans

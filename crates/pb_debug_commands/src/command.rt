@@ -6,7 +6,7 @@ ghost use Rattle.pb_debug_commands.specs.Commands as spec;
 ghost use Rattle.pb_debug_commands.specs.View.{command_view};
 
 use crate::words::{
-    ArmWord, IntegerWord, StopWord, arm_word, find, integer_word, name_word, number,
+    ArmWord, IntegerWord, StopWord, arm_word, find, integer_word, mark, name_word, number,
 };
 
 /// A command of a session.
@@ -19,10 +19,14 @@ pub enum Command<'t> {
     Step(u32),
     /// `back N`, or `back`
     Back(u32),
+    /// `mark N`
+    Mark(u32),
     /// `vars P`
     Vars(&'t [u8]),
     /// `threads P`
     Threads(&'t [u8]),
+    /// `fault P`
+    Fault(&'t [u8]),
     /// `wrote P X`
     Wrote(IntegerWord<'t>),
     /// `until P.a N`
@@ -102,6 +106,7 @@ fn keyed_name<'t>(key: &[u8], word: &'t [u8]) -> Option<Command<'t>>
     ensures { option_map command_view result ≡
         cond (bytes_eq key.now (codes "vars")) (option_map spec.Vars (spec.word_of word.entry.now)) (
         cond (bytes_eq key.now (codes "threads")) (option_map spec.Threads (spec.word_of word.entry.now)) (
+        cond (bytes_eq key.now (codes "fault")) (option_map spec.Fault (spec.word_of word.entry.now)) (
         cond (bytes_eq key.now (codes "until")) (spec.stop_of word.entry.now) (
         cond (bytes_eq key.now (codes "wrote")) (option_map (λ p. spec.Wrote p.0 p.1) (spec.integer_of word.entry.now)) (
         cond (bytes_eq key.now (codes "line")) (option_map (λ p. spec.Line p.0 p.1) (spec.arm_of word.entry.now)) (
@@ -109,12 +114,14 @@ fn keyed_name<'t>(key: &[u8], word: &'t [u8]) -> Option<Command<'t>>
         cond (bytes_eq key.now (codes "why")) (option_map (λ p. spec.Why p.0 p.1) (spec.arm_of word.entry.now)) (
         cond (bytes_eq key.now (codes "who")) (option_map spec.Who (spec.word_of word.entry.now)) (
         cond (bytes_eq key.now (codes "stack")) (option_map (λ p. spec.Stack p.0 p.1) (spec.arm_of word.entry.now)) (
-        cond (bytes_eq key.now (codes "pick")) (option_map (λ p. spec.Pick p.0 p.1) (spec.arm_of word.entry.now)) None))))))))) }
+        cond (bytes_eq key.now (codes "pick")) (option_map (λ p. spec.Pick p.0 p.1) (spec.arm_of word.entry.now)) None)))))))))) }
 {
     if is(key, "vars") {
         Some(Command::Vars(name_word(word)?))
     } else if is(key, "threads") {
         Some(Command::Threads(name_word(word)?))
+    } else if is(key, "fault") {
+        Some(Command::Fault(name_word(word)?))
     } else if is(key, "until") {
         stop(word)
     } else if is(key, "wrote") {
@@ -135,6 +142,8 @@ fn keyed<'t>(key: &[u8], word: &'t [u8]) -> Option<Command<'t>>
         Some(Command::Step(number(word)?))
     } else if is(key, "back") {
         Some(Command::Back(number(word)?))
+    } else if is(key, "mark") {
+        Some(Command::Mark(mark(word)?))
     } else {
         keyed_name(key, word)
     }

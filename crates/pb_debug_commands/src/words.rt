@@ -31,15 +31,15 @@ pub struct StopWord<'t> {
     pub line: u32,
 }
 
-/// Returns the number that up to eight digits write.
-fn value(digits: &[u8]) -> u32
+/// Returns the number that up to ten digits write.
+fn value(digits: &[u8]) -> u64
     requires digits { list_all is_ascii_digit digits.now ≡ true }
-    requires few { length digits.now < 9 }
+    requires few { length digits.now < 11 }
     ensures { result ≡ digits_value 10 digits.now }
 {
-    let mut number: u32 = 0;
+    let mut number: u64 = 0;
     for digit in digits {
-        number = number * 10 + (*digit - b'0') as u32;
+        number = number * 10 + (*digit - b'0') as u64;
     }
     number
 }
@@ -49,7 +49,18 @@ pub(crate) fn number(word: &[u8]) -> Option<u32>
     ensures { result ≡ spec.number_of word.now }
 {
     if is_numeral(word) && word.len() < 9 {
-        Some(value(word))
+        Some(value(word) as u32)
+    } else {
+        None
+    }
+}
+
+/// Returns the number up to 4,294,967,295 that a word writes.
+pub(crate) fn mark(word: &[u8]) -> Option<u32>
+    ensures { result ≡ spec.mark_of word.now }
+{
+    if is_numeral(word) && word.len() < 11 {
+        u32::try_from(value(word)).ok()
     } else {
         None
     }

@@ -12,7 +12,7 @@ use Rattle.pb_code.specs.Whole.{Code, ProcessLabels}
 use Rattle.pb_history.specs.Positions.{IsAfterBy, state_after}
 use Rattle.pb_machine.specs.Views.{machine_view}
 use Rattle.pb_machine.specs.declared.machine.Machine.{Machine}
-use Rattle.pb_debug_positions.specs.Searches.{LeadsOn, Shows, StepsAt, arm_line_at, line_in, value_at, value_in}
+use Rattle.pb_debug_positions.specs.Searches.{LeadsOn, Shows, StepsAt, arm_line_at, faulted_at, faulted_in, line_in, value_at, value_in}
 use Rattle.pb_verifier.specs.Verified.{VerifiedCode}
 
 -- ---- events
@@ -68,3 +68,15 @@ begins_here b before after x y x' y' n e f one two h = (
 
 pub not_true : (b : Bool) → b ≡ false → IsTrue b → ⊥
 not_true b e t = let no : true ≡ false = sym t ∙ e in absurd cc
+
+-- ---- faults
+
+pub faulted_here : {lending : Lending} (v : VerifiedCode) (picks : List Pick) (i p : ℕ) (m : Machine) → IsAfterBy lending v picks i m
+    → faulted_in (slice_get (machine_view m).processes p) ≡ faulted_at v.code picks i p
+faulted_here v picks i p m h = ap (λ (s : State CodeProcess). faulted_in (slice_get s.processes p)) h.state
+
+pub begins_as : (b before after before' after' : Bool) → before ≡ before' → after ≡ after'
+    → IsTrue b ↔ ((IsTrue before → ⊥) × IsTrue after) → IsTrue b ↔ ((IsTrue before' → ⊥) × IsTrue after')
+begins_as b before after before' after' e f h =
+    subst (λ (x : Bool). IsTrue b ↔ ((IsTrue x → ⊥) × IsTrue after')) e
+    (subst (λ (y : Bool). IsTrue b ↔ ((IsTrue before → ⊥) × IsTrue y)) f h)

@@ -1,5 +1,5 @@
 -- What is looked for along the picks, and where it is found.
-use Rattle.std.specs.Prelude.{◌≡◌, ℕ, ℤ, ◌+◌, ◌<◌, ◌≤◌, List, get_or, Option, Some, None, slice_get}
+use Rattle.std.specs.Prelude.{◌≡◌, ℕ, ℤ, ◌+◌, ◌<◌, ◌≤◌, Bool, false, IsTrue, List, get_or, Option, Some, None, slice_get}
 use Rattle.pb_base.specs.declared.event.Event.{Event}
 use Rattle.pb_base.specs.declared.pick.Pick.{Pick}
 use Rattle.pb_base.specs.declared.step.Step.{Step}
@@ -56,13 +56,24 @@ line_in (Some labels) (Some process) a = thread_line labels.lines (thread proces
 abbrev pub arm_line_at : Code → List ProcessLabels → List Pick → (k p a : ℕ) → Option ℕ
 arm_line_at code labels picks k p a = line_in (slice_get labels p) (slice_get (state_after code picks k).processes p) a
 
+-- whether a process is there and has faulted
+abbrev pub faulted_in : Option CodeProcess → Bool
+faulted_in None = false
+faulted_in (Some process) = process.faulted
+
+-- whether a process has faulted at position k
+abbrev pub faulted_at : Code → List Pick → (k p : ℕ) → Bool
+faulted_at code picks k p = faulted_in (slice_get (state_after code picks k).processes p)
+
 -- pick k does what is looked for: it shows an event; it changes an integer of a process;
--- an arm is at a line after it, and is not before it
+-- an arm is at a line after it, and is not before it; a process has faulted after it, and not before it
 abbrev pub Does : Code → List ProcessLabels → List Pick → Watch → ℕ → Type 0
 Does code labels picks watch.Event k = (event : Event) × Shows code picks k event
 Does code labels picks (watch.Integer p x) k = value_at code picks k p x ≡ value_at code picks (k + 1) p x → ⊥
 Does code labels picks (watch.Line p a n) k =
     (arm_line_at code labels picks k p a ≡ Some n → ⊥) × (arm_line_at code labels picks (k + 1) p a ≡ Some n)
+Does code labels picks (watch.Fault p) k =
+    (IsTrue (faulted_at code picks k p) → ⊥) × IsTrue (faulted_at code picks (k + 1) p)
 
 -- the first number, from one on and below another, of which this holds; none if there is none
 abbrev pub IsFirst : (ℕ → Type 0) → (from past : ℕ) → Option ℕ → Type 0

@@ -2,7 +2,7 @@
 
 ghost use Rattle.std.specs.Prelude.{◌≡◌, ◌↔◌, ◌+◌, ◌<◌, ◌≤◌, length, slice_get, IsTrue};
 ghost use Rattle.pb_code.specs.View.{labels_view};
-ghost use Rattle.pb_debug_positions.specs.Searches.{Does, IsFirst, IsLast, line_in, value_at, value_in};
+ghost use Rattle.pb_debug_positions.specs.Searches.{Does, IsFirst, IsLast, faulted_at, faulted_in, line_in, value_at, value_in};
 ghost use Rattle.pb_debug_positions.specs.Walks.{Walks};
 ghost use Rattle.pb_history.specs.Entries.{picks_of};
 ghost use Rattle.pb_machine.specs.Views.{machine_view};
@@ -30,6 +30,10 @@ pub enum Watch {
         process: usize,
         arm: usize,
         line: u32,
+    },
+    /// A pick with which a process faults.
+    Fault {
+        process: usize,
     },
 }
 
@@ -141,6 +145,30 @@ fn comes_to(
     begins(is_line(before, line), is_line(after, line))
 }
 
+/// Returns whether a process of a machine is there and has faulted.
+fn has_faulted(machine: &Machine, p: usize) -> bool
+    ensures { result ≡ faulted_in (slice_get (machine_view machine.now).processes p) }
+{
+    p < machine.processes() && machine.proc(p).faulted()
+}
+
+/// Makes the next pick of a trace. Returns whether a process faults with it.
+fn faults(walker: &mut Walker, verified: &Verified, trace: &Trace, p: usize) -> bool
+    requires few { length (picks_of trace.now.entries) ≤ MAX_PICKS }
+    requires walks { Walks verified.now (picks_of trace.now.entries) walker.old }
+    requires within { walker.old.at < length (picks_of trace.now.entries) }
+    ensures walks { Walks verified.now (picks_of trace.now.entries) walker.new }
+    ensures at { walker.new.at ≡ walker.old.at + 1 }
+    ensures faults { IsTrue result
+        ↔ ((IsTrue (faulted_at verified.now.code (picks_of trace.now.entries) walker.old.at p) → ⊥)
+        × IsTrue (faulted_at verified.now.code (picks_of trace.now.entries) (walker.old.at + 1) p)) }
+{
+    let before = has_faulted(&walker.machine, p);
+    let _ = walker.advance(verified, trace);
+    let after = has_faulted(&walker.machine, p);
+    begins(before, after)
+}
+
 /// Makes the next pick of a trace. Returns whether it does what is looked for.
 fn does(
     walker: &mut Walker,
@@ -165,6 +193,7 @@ fn does(
         Watch::Line { process, arm, line } => comes_to(
             walker, verified, labels, trace, process, arm, line,
         ),
+        Watch::Fault { process } => faults(walker, verified, trace, process),
     }
 }
 

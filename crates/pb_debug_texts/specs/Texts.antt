@@ -17,6 +17,10 @@ use Rattle.pb_machine.specs.Views.{operands_of_thread}
 abbrev pub at_text : ℕ → List ℕ
 at_text i = line (codes "at " ++ decimal i)
 
+-- `mark N`
+abbrev pub mark_text : ℕ → List ℕ
+mark_text n = line (codes "mark " ++ decimal n)
+
 -- `at I LINE`, with the line of an event
 abbrev pub event_text : NameTable → ℕ → Event → List ℕ
 event_text names i event = line (codes "at " ++ decimal i ++ codes " " ++ event_line names event)
@@ -44,10 +48,10 @@ not_reached_text = line (codes "not reached")
 abbrev pub help_text : List ℕ
 help_text =
     line (codes "to I") ++ line (codes "step N") ++ line (codes "back N") ++ line (codes "next") ++ line (codes "prev")
-    ++ line (codes "vars P") ++ line (codes "wrote P X") ++ line (codes "until P.a N") ++ line (codes "threads P") ++
-    line (codes "loans") ++ line (codes "who R") ++ line (codes "circle")
+    ++ line (codes "vars P") ++ line (codes "wrote P X") ++ line (codes "until P.a N") ++ line (codes "threads P")
+    ++ line (codes "fault P") ++ line (codes "loans") ++ line (codes "who R") ++ line (codes "circle")
     ++ line (codes "line P.a") ++ line (codes "text P.a") ++ line (codes "why P.a")
-    ++ line (codes "stack P.a") ++ line (codes "pick P.a") ++ line (codes "help")
+    ++ line (codes "stack P.a") ++ line (codes "pick P.a") ++ line (codes "mark N") ++ line (codes "help")
 
 -- `NAME V`
 abbrev pub var_text : List ℕ → ℤ → List ℕ

@@ -2,6 +2,7 @@
 #![tactic(auto)]
 
 mod circle;
+mod fault;
 pub mod laws;
 mod source;
 mod text;
@@ -9,9 +10,10 @@ mod who;
 mod why;
 
 pub use circle::put_circle;
+pub use fault::{put_fault, put_no_fault};
 pub use source::put_source;
 pub use text::{
-    put_at, put_event, put_help, put_loans, put_never, put_no_event, put_not_reached,
+    put_at, put_event, put_help, put_loans, put_mark, put_never, put_no_event, put_not_reached,
     put_source_line, put_stack, put_threads, put_vars, put_why, put_wrote,
 };
 pub use who::put_who;

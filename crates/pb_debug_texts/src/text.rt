@@ -39,6 +39,13 @@ pub fn put_at(text: &mut Vec<u8>, position: u32) -> Result<(), NoMemory>
     end_number(text, b"at ", position)
 }
 
+/// Appends the line of a mark to a text.
+pub fn put_mark(text: &mut Vec<u8>, number: u32) -> Result<(), NoMemory>
+    ensures { OnOk result (text.new.items ≡ text.old.items ++ said.mark_text number) }
+{
+    end_number(text, b"mark ", number)
+}
+
 /// Appends the line of a position and of the event that led to it to a text.
 pub fn put_event(
     text: &mut Vec<u8>,
@@ -104,7 +111,7 @@ pub fn put_help(text: &mut Vec<u8>) -> Result<(), NoMemory>
 {
     put(
         text,
-        b"to I\nstep N\nback N\nnext\nprev\nvars P\nwrote P X\nuntil P.a N\nthreads P\nloans\nwho R\ncircle\nline P.a\ntext P.a\nwhy P.a\nstack P.a\npick P.a\nhelp\n",
+        b"to I\nstep N\nback N\nnext\nprev\nvars P\nwrote P X\nuntil P.a N\nthreads P\nfault P\nloans\nwho R\ncircle\nline P.a\ntext P.a\nwhy P.a\nstack P.a\npick P.a\nmark N\nhelp\n",
     )
 }
 

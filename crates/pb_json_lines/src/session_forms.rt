@@ -7,7 +7,7 @@ ghost use Rattle.pb_json_lines.specs.SessionForms.{bank_forms, debug_forms};
 use crate::form::{Form, Section};
 
 /// The forms of the answers of a debugging session, and of refusals, in the order in which they are tried.
-static DEBUG: [Form; 36] = [
+static DEBUG: [Form; 40] = [
     Form {
         section: Section::Alone,
         first: "\"kind\":\"at\"",
@@ -50,6 +50,11 @@ static DEBUG: [Form; 36] = [
     },
     Form {
         section: Section::Alone,
+        first: "\"kind\":\"mark\"",
+        pattern: "mark N",
+    },
+    Form {
+        section: Section::Alone,
         first: "\"kind\":\"no event\"",
         pattern: "no event",
     },
@@ -82,6 +87,21 @@ static DEBUG: [Form; 36] = [
         section: Section::Alone,
         first: "\"kind\":\"faulted\"",
         pattern: "faulted",
+    },
+    Form {
+        section: Section::Alone,
+        first: "\"kind\":\"faulted at\"",
+        pattern: "P.A line 1 W",
+    },
+    Form {
+        section: Section::Alone,
+        first: "\"kind\":\"faulted at\"",
+        pattern: "P.A line none W",
+    },
+    Form {
+        section: Section::Alone,
+        first: "\"kind\":\"no fault\"",
+        pattern: "no fault",
     },
     Form {
         section: Section::Alone,

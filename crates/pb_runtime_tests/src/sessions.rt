@@ -105,14 +105,14 @@ const CASES: [Case; 10] = [
     Case {
         text: ARMS,
         picks: &[A, A, A, A, SECOND, SECOND, SECOND],
-        commands: b"wrote p x\nto 4\nwrote p x\nwrote p y\nwrote p z\nwrote q x\nvars p\nthreads p\nto 7\nthreads p\nline p.2\nback 7\nwhy p.0\nloans\n",
-        said: b"never\nat 4\nat 3 p.0 line 1\nnever\nrefused G4\nrefused G2\nx -7\ny 0\n0 at 4\n1 at 6\n2 at 9\nat 7\nfaulted\nline none\nat 0\nnot asking\n",
+        commands: b"wrote p x\nto 4\nwrote p x\nwrote p y\nwrote p z\nwrote q x\nvars p\nthreads p\nfault p\nto 7\nthreads p\nline p.2\nfault p\nfault q\nmark 0\nmark 4294967295\nmark 4294967296\nmark 01\nback 7\nfault p\nwhy p.0\nloans\n",
+        said: b"never\nat 4\nat 3 p.0 line 1\nnever\nrefused G4\nrefused G2\nx -7\ny 0\n0 at 4\n1 at 6\n2 at 9\nno fault\nat 7\nfaulted\nline none\np.2 line 1 -7 div 0\nrefused G2\nmark 0\nmark 4294967295\nrefused G4\nrefused G4\nat 0\nno fault\nnot asking\n",
     },
     Case {
         text: TWICE,
         picks: &[A, A, A, A, A],
         commands: b"until p.0 2\nuntil p.0 2\nback 2\nprev\nnext\nnext\nnext\nnext\nprev\nprev\nprev\nhelp\n",
-        said: b"at 2\nnot reached\nat 0\nno event\nat 2 p.0 print 1\nat 4 p.0 print 2\nat 5 p end\nno event\nat 4 p.0 print 2\nat 2 p.0 print 1\nno event\nto I\nstep N\nback N\nnext\nprev\nvars P\nwrote P X\nuntil P.a N\nthreads P\nloans\nwho R\ncircle\nline P.a\ntext P.a\nwhy P.a\nstack P.a\npick P.a\nhelp\n",
+        said: b"at 2\nnot reached\nat 0\nno event\nat 2 p.0 print 1\nat 4 p.0 print 2\nat 5 p end\nno event\nat 4 p.0 print 2\nat 2 p.0 print 1\nno event\nto I\nstep N\nback N\nnext\nprev\nvars P\nwrote P X\nuntil P.a N\nthreads P\nfault P\nloans\nwho R\ncircle\nline P.a\ntext P.a\nwhy P.a\nstack P.a\npick P.a\nmark N\nhelp\n",
     },
     Case {
         text: PRINT,

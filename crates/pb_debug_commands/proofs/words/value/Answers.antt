@@ -8,14 +8,14 @@ pub overflow_mul-number : goal.overflow_mul-number
 overflow_mul-number c =
     let m = digit_more c.args.digits.now c.loop-digit.digit-index c.requires.digits c.loop-digit-test.true in
     let le = digits_value-take-le 10 c.args.digits.now (c.loop-digit.digit-index + 1) (omega arith) in
-    let lt : digits_value 10 c.args.digits.now < 10 ^ 8 = digits_value_short own c.args.digits.now 8 c.requires.digits (omega arith) in
+    let lt : digits_value 10 c.args.digits.now < 10 ^ 10 = digits_value_short own c.args.digits.now 10 c.requires.digits (omega arith) in
     omega (arith, m.0, m.1, le, lt)
 
 pub overflow_add-number : goal.overflow_add-number
 overflow_add-number c =
     let m = digit_more c.args.digits.now c.loop-digit.digit-index c.requires.digits c.loop-digit-test.true in
     let le = digits_value-take-le 10 c.args.digits.now (c.loop-digit.digit-index + 1) (omega arith) in
-    let lt : digits_value 10 c.args.digits.now < 10 ^ 8 = digits_value_short own c.args.digits.now 8 c.requires.digits (omega arith) in
+    let lt : digits_value 10 c.args.digits.now < 10 ^ 10 = digits_value_short own c.args.digits.now 10 c.requires.digits (omega arith) in
     omega (arith, m.0, m.1, le, lt)
 
 pub loop-digit-preserved : goal.loop-digit-preserved

@@ -23,6 +23,12 @@ returns-in-Threads-clause-answer c =
     on_ok c.say_threads.result _ _ c.say_threads.ensures
     (λ s. (s.0, subst (λ (k : Command). AnswersCommand d k s.0 d) (sym (ap command_view c.in-Threads.is)) (s.1, refl), s.2))
 
+pub returns-in-Fault-clause-answer : goal.returns-in-Fault-clause-answer
+returns-in-Fault-clause-answer c =
+    let d = c.args.self.now in
+    on_ok c.say_fault.result _ _ c.say_fault.ensures
+    (λ s. (s.0, subst (λ (k : Command). AnswersCommand d k s.0 d) (sym (ap command_view c.in-Fault.is)) (s.1, refl), s.2))
+
 pub returns-in-Line-clause-answer : goal.returns-in-Line-clause-answer
 returns-in-Line-clause-answer c =
     let d = c.args.self.now in

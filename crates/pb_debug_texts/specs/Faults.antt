@@ -1,0 +1,78 @@
+-- What a session says of a fault: the operator that has no result, and its operands.
+use Rattle.std.specs.Prelude.{ℕ, ℤ, List, [], ◌∷◌, ◌++◌, codes, Option, Some, None, slice_get}
+use Rattle.std.specs.Fmt.{signed_decimal}
+use Rattle.pb_base.specs.declared.operators.UnaryOp.{UnaryOp}
+use Rattle.pb_base.specs.declared.operators.UnaryOp.TheVariants.{Negate, Not}
+use Rattle.pb_base.specs.declared.operators.BinaryOp.{BinaryOp}
+use Rattle.pb_base.specs.declared.operators.BinaryOp.TheVariants.{Add, Subtract, Multiply, Quotient, Remainder, Equal}
+use Rattle.pb_base.specs.declared.operators.BinaryOp.TheVariants.{Unequal, Less, AtMost, Greater, AtLeast, And, Or}
+use Rattle.pb_base.specs.declared.pick.Pick.{Pick}
+use Rattle.pb_base.specs.Lines.{NameTable, pick_text, line}
+use Rattle.pb_code.specs.Code.{Instr, Compute1, Compute2, ProcessCode, Thread, Idle, Live, Ended}
+use Rattle.pb_debug_texts.specs.Texts.{number_text}
+use Rattle.pb_machine.specs.Views.{operands_of_thread}
+
+-- an operator as a text writes it before an operand
+abbrev pub unary_text : UnaryOp → List ℕ
+unary_text Negate = codes "-"
+unary_text Not = codes "not"
+
+-- and between two
+abbrev pub binary_text : BinaryOp → List ℕ
+binary_text Add = codes "+"
+binary_text Subtract = codes "-"
+binary_text Multiply = codes "*"
+binary_text Quotient = codes "div"
+binary_text Remainder = codes "mod"
+binary_text Equal = codes "="
+binary_text Unequal = codes "<>"
+binary_text Less = codes "<"
+binary_text AtMost = codes "<="
+binary_text Greater = codes ">"
+binary_text AtLeast = codes ">="
+binary_text And = codes "and"
+binary_text Or = codes "or"
+
+-- the operator before an operand, and between two, that an instruction is
+abbrev pub word_before : Instr → Option (List ℕ)
+word_before (Compute1 op) = Some (unary_text op)
+word_before instr = None
+
+abbrev pub word_between : Instr → Option (List ℕ)
+word_between (Compute2 op) = Some (binary_text op)
+word_between instr = None
+
+-- ` OP V`, with the operand on top of the stack
+abbrev pub before_text : List ℕ → (stack : List ℤ) → List ℕ
+before_text word [] = []
+before_text word (v ∷ stack) = codes " " ++ word ++ codes " " ++ signed_decimal v
+
+-- ` V OP W`, with the two operands on top of the stack, W on top of V
+abbrev pub between_text : List ℕ → (stack : List ℤ) → List ℕ
+between_text word [] = []
+between_text word (w ∷ []) = []
+between_text word (w ∷ v ∷ stack) = codes " " ++ signed_decimal v ++ codes " " ++ word ++ codes " " ++ signed_decimal w
+
+-- an operator with its operands; nothing of any other instruction
+abbrev pub applied_text : (before between : Option (List ℕ)) → (stack : List ℤ) → List ℕ
+applied_text (Some word) between stack = before_text word stack
+applied_text None (Some word) stack = between_text word stack
+applied_text None None stack = []
+
+abbrev pub operation_text : Option Instr → (stack : List ℤ) → List ℕ
+operation_text None stack = []
+operation_text (Some instr) stack = applied_text (word_before instr) (word_between instr) stack
+
+-- the instruction at which an arm is, if it is live
+abbrev pub instr_of : ProcessCode → Thread → Option Instr
+instr_of code Idle = None
+instr_of code (Live place stack) = slice_get code.instrs place
+instr_of code Ended = None
+
+-- `P.a line N V OP W`: an arm, its line, and the operator at which it is with its operands
+abbrev pub fault_text : NameTable → Pick → (line : Option ℕ) → ProcessCode → Thread → List ℕ
+fault_text names pick n code t = line (
+    pick_text names pick ++ codes " line " ++ number_text n ++ operation_text (instr_of code t) (operands_of_thread t))
+
+abbrev pub no_fault_text : List ℕ
+no_fault_text = line (codes "no fault")
