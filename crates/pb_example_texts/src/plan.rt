@@ -1,5 +1,31 @@
 //! The files of `examples/9-plan`. Written by checks/example_tests.py.
 
+/// The file 9-plan/copies.pb.
+#[rattlefmt::skip]
+pub const COPIES: &[u8] = b"// One half of the work of a night: a copy of a disk on two tapes.
+resource tape = 2;
+resource disk = 1;
+process copy
+begin
+  hold 1 of disk do
+    hold 2 of tape do print 1 od
+  od
+end
+";
+
+/// The file 9-plan/lists.pb.
+#[rattlefmt::skip]
+pub const LISTS: &[u8] = b"// The other half: a list of what is on a tape, kept on the disk.
+resource tape = 2;
+resource disk = 1;
+process list
+begin
+  hold 1 of tape do
+    hold 1 of disk do print 2 od
+  od
+end
+";
+
 /// The file 9-plan/roomy.pb.
 #[rattlefmt::skip]
 pub const ROOMY: &[u8] = b"// The plan of a week, with one tape more.

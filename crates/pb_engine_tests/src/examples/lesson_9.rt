@@ -4,11 +4,11 @@ use crate::examples::calls::{Call, Command, first_wrong};
 use pb_command_io::Status;
 use pb_example_texts::claims::{ARMS_ADD, BRANCHES, TOO_MUCH};
 use pb_example_texts::first::DEVICES;
-use pb_example_texts::plan::{ROOMY, WEEK};
+use pb_example_texts::plan::{COPIES, LISTS, ROOMY, WEEK};
 use std::test::Fail;
 
 #[rattlefmt::skip]
-const CALLS_1: [Call; 6] = [
+const CALLS_1: [Call; 8] = [
     Call {
         name: "devices_plan",
         command: Command::Plan,
@@ -52,6 +52,32 @@ sort claim 3 tape lines 14 15
 sort claim 1 disk lines 16
 tape capital 5 least 3 free 5
 disk capital 2 least 1 free 2
+no request waits
+order tape disk
+",
+    },
+    Call {
+        name: "copies_plan",
+        command: Command::Plan,
+        input: COPIES,
+        status: Status::Done,
+        output: b"copy claim 2 tape lines 7
+copy claim 1 disk lines 6
+tape capital 2 least 2 free 2
+disk capital 1 least 1 free 1
+no request waits
+order disk tape
+",
+    },
+    Call {
+        name: "lists_plan",
+        command: Command::Plan,
+        input: LISTS,
+        status: Status::Done,
+        output: b"list claim 1 tape lines 6
+list claim 1 disk lines 7
+tape capital 2 least 1 free 1
+disk capital 1 least 1 free 1
 no request waits
 order tape disk
 ",
