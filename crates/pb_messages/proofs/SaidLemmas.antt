@@ -7,18 +7,23 @@ use Rattle.pb_code.specs.Whole.{Code, ProcessLabels}
 use Rattle.pb_codegen.specs.Compiled.{IsCompiled}
 use Rattle.pb_accept.specs.Causes.{picks_cause}
 use Rattle.pb_accept.specs.Loading.{IsLoadFault, load_cause}
-use Rattle.pb_command_io.specs.Parts.{AreTwoParts, IsCutAt, IsMark}
+use Rattle.pb_command_io.specs.Parts.{AreParts, AreTwoParts, IsCutAt, IsMark}
 use Rattle.pb_accept.specs.declared.load.LoadFault.{LoadFault}
 use Rattle.pb_history.specs.Replays.{IsStoppedBy, spread}
 use Rattle.pb_history.specs.declared.counted.CountedPick.{CountedPick}
 use Rattle.pb_history.specs.declared.fault.ReplayFault.TheVariants.{NotEnabled}
+use Rattle.pb_joint.specs.Texts.{AreReadAs}
+use Rattle.pb_base.specs.Steppers.{Table}
+use Rattle.pb_names.specs.Program.{Program}
+use Rattle.pb_tree.specs.Syntax.{ProgramSyntax}
 use Rattle.pb_picks.specs.PickLines.{IsFaulty, SpellsPicks}
 use Rattle.pb_picks.specs.declared.fault.PickFault.{PickFault}
 use Rattle.pb_message_stops.specs.Stops.{HoldsPick}
 use Rattle.pb_messages.specs.Messages.{IsMessage, IsMessageAt}
 use Rattle.pb_messages.specs.Said.{AreSaid, HasNoMark, IsLastLabel, SaysMore, SaysByReading, SaysOfFirstFormat, SaysWhetherFirst}
 use Rattle.pb_messages.specs.Said.{SaysOfPickLines, SaysOfPickedObject, SaysOfPickedText, SaysOfTexts, TellsObject}
-use Rattle.pb_messages.specs.Said.{SaysOfExpectedText, SaysOfPrintLines, all, stopped, unread, unsaid}
+use Rattle.pb_messages.specs.Said.{SaysOfExpectedText, SaysOfPrintLines, SaysOfTogether, TellsFirstFault, all, stopped, unread, unsaid}
+use Rattle.pb_messages.specs.Said.SaysOfTogether.{refused, read}
 use Rattle.pb_search_engine.specs.PrintLines.{IsBadPrint}
 use Rattle.pb_search_engine.specs.declared.print_lines.PrintFault.TheVariants.{NotPrint}
 use Rattle.pb_accept.specs.declared.cause.Cause.{Cause}
@@ -73,6 +78,18 @@ module _ {W E : Type 0} (seen : W → List ℕ) where
       → IfOk made (λ told. SaysByReading Expected bytes (seen told))
   text_expected bytes text lines (Ok told) parts says = (text, lines, parts, says)
   text_expected bytes text lines (Err e) parts says = says
+
+  -- what is said of texts that are read as one program, and of the first of them that cannot be
+  pub texts_together : (bytes : List ℕ) (texts : List (List ℕ)) (trees : List ProgramSyntax) (program : Program) (claims : Table)
+      (made : Result W E) → AreParts bytes texts → AreReadAs texts trees program claims
+      → IfOk made (λ told. SaysOfTexts bytes (seen told)) → IfOk made (λ told. SaysOfTogether bytes (seen told))
+  texts_together bytes texts trees program claims (Ok told) parts joint says = read texts trees program claims (seen told) parts joint says
+  texts_together bytes texts trees program claims (Err e) parts joint says = says
+
+  pub fault_together : (bytes : List ℕ) (texts : List (List ℕ)) (made : Result W E) → AreParts bytes texts
+      → IfOk made (λ told. TellsFirstFault texts (seen told)) → IfOk made (λ told. SaysOfTogether bytes (seen told))
+  fault_together bytes texts (Ok told) parts tells = refused texts (seen told) parts tells
+  fault_together bytes texts (Err e) parts tells = tells
 
   -- what is said of an object, pick lines and commands
   pub object_debugged : (lending : Lending) (bytes source rest lines commands : List ℕ) (made : Result W E) → AreTwoParts bytes source rest
