@@ -59,7 +59,7 @@ fn message_for(alloc: Global, options: &Options, bytes: &[u8]) -> Option<Result<
             bytes,
         )),
         Options::States(_) => Some(message_of(alloc, Reading::Replayed(Lending::ByBanker), bytes)),
-        Options::Bank | Options::Dap | Options::Explain(_) => None,
+        Options::Bank | Options::Dap | Options::Explain(_) | Options::Lsp => None,
     }
 }
 
