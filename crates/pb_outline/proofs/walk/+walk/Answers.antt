@@ -1,0 +1,19 @@
+use Rattle.std.proofs.Common.{arith, rules}
+use Rattle.pb_tree.proofs.Smaller.{stmt_nodes_within, arm_nodes_within, arms_nodes_within, then_nodes_within, else_nodes_within}
+use Rattle.pb_tree.proofs.Smaller.{repeated_nodes_within, held_nodes_within}
+use Rattle.pb_outline.proofs.walk.+walk.Goals as goal
+
+pub add_list-add_stmt-requires : goal.add_list-add_stmt-requires
+add_list-add_stmt-requires g t c κs within =
+    let less = stmt_nodes_within _ _ _ _ c.deref-stmt-items.ensures.value c.stmt-item.is (omega arith) in
+    search rules
+
+pub add_arms-add_list-requires : goal.add_arms-add_list-requires
+add_arms-add_list-requires g t c κs within =
+    let less = arm_nodes_within _ _ _ _ c.deref-arm-items.ensures.value c.arm-item.is (omega arith) in
+    search rules
+
+pub add_stmt-add_arms-requires : goal.add_stmt-add_arms-requires
+add_stmt-add_arms-requires g t c κs within =
+    let less = arms_nodes_within c.args.stmt.now _ _ c.in-Parbegin.is in
+    search rules
