@@ -1,6 +1,6 @@
 //! Where declarations begin and end.
 
-ghost use Rattle.std.specs.Prelude.{◌≡◌, ◌≤◌, drop, length};
+ghost use Rattle.std.specs.Prelude.{◌≡◌};
 ghost use Rattle.pb_lexer.specs.Tokens.{token, tokens};
 ghost use Rattle.pb_outline.specs.Extents as spec;
 
@@ -23,17 +23,16 @@ fn is_opening(t: &Token<'_>) -> bool
     }
 }
 
-/// Returns the number of the token at an offset; that of all tokens if there is none.
-fn number_of(given: &[Token<'_>], at: usize) -> usize
-    ensures within { result ≤ length given.now }
-    ensures rest { drop result (tokens given.now) ≡ spec.tokens_from at (tokens given.now) }
+/// Returns the tokens from the one at an offset on; none if there is none.
+fn tokens_from<'a, 't>(given: &'a [Token<'t>], at: usize) -> &'a [Token<'t>]
+    ensures { tokens result.now ≡ spec.tokens_from at (tokens given.now) }
 {
-    for i in 0..given.len() {
-        if given[i].start() == at {
-            return i;
+    for (i, t) in given.iter().enumerate() {
+        if t.start() == at {
+            return &given[i..];
         }
     }
-    given.len()
+    &[]
 }
 
 /// Returns the offset of the token before the one at an offset.
@@ -41,26 +40,25 @@ fn start_before(given: &[Token<'_>], at: usize) -> usize
     ensures { result ≡ spec.start_before at at (tokens given.now) }
 {
     let mut before = at;
-    for i in 0..given.len() {
-        if given[i].start() == at {
+    for t in given {
+        if t.start() == at {
             return before;
         }
-        before = given[i].start();
+        before = t.start();
     }
     before
 }
 
-/// Returns the end of the last token before the next word `resource` or `process`, from a token on.
-fn end_before_opening(given: &[Token<'_>], from: usize, at: usize) -> usize
-    requires { from ≤ length given.now }
-    ensures { result ≡ spec.end_before_opening at (drop from (tokens given.now)) }
+/// Returns the end of the last token before the next word `resource` or `process`; an offset if none is before it.
+fn end_before_opening(given: &[Token<'_>], at: usize) -> usize
+    ensures { result ≡ spec.end_before_opening at (tokens given.now) }
 {
     let mut end = at;
-    for i in from..given.len() {
-        if is_opening(&given[i]) {
+    for t in given {
+        if is_opening(t) {
             return end;
         }
-        end = given[i].end();
+        end = t.end();
     }
     end
 }
@@ -70,9 +68,8 @@ fn end_before_opening(given: &[Token<'_>], from: usize, at: usize) -> usize
 pub fn extent_of(given: &[Token<'_>], at: usize) -> Extent
     ensures { result ≡ spec.extent_of (tokens given.now) at }
 {
-    let from = number_of(given, at);
     Extent {
         start: start_before(given, at),
-        end: end_before_opening(given, from, at),
+        end: end_before_opening(tokens_from(given, at), at),
     }
 }

@@ -51,6 +51,7 @@ fn is_same(one: Position, other: Position) -> bool
 }
 
 /// Returns the offset that has a position, of a byte of the text or of its end; none if there is none.
+#[tactic(auto, using(crate::proofs::Rests::find_from))]
 pub fn offset_at(text: &[u8], position: Position) -> Option<usize>
     ensures { result ≡ spec.offset_at text.now position }
 {

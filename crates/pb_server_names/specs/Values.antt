@@ -19,6 +19,10 @@ range_data text start end = object (member (codes "end") (position_data (positio
 abbrev pub name_range : List ℕ → Place → Data
 name_range text place = range_data text place.at (place.at + length place.text)
 
+-- the position right behind a name
+abbrev pub end_of_name : List ℕ → Place → Data
+end_of_name text place = position_data (position_of text (place.at + length place.text))
+
 -- a name in the document with this address
 abbrev pub location_data : (uri text : List ℕ) → Place → Data
 location_data uri text place = object (member (codes "range") (name_range text place)

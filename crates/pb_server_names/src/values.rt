@@ -44,6 +44,14 @@ pub(crate) fn name_range(
     range_value(alloc, text, name.at, end)
 }
 
+/// Returns the position right behind a name.
+pub fn end_of_name(alloc: Global, text: &[u8], name: &Place<'_>) -> Result<Value, AllocError>
+    ensures { IfOk result (λ v. view v ≡ spec.end_of_name text.now (place name.now)) }
+{
+    let end = name.at.saturating_add(name.text.len());
+    position_value(alloc, position_of(text, end))
+}
+
 /// Returns a name in the document with this address.
 pub(crate) fn location_value(
     alloc: Global,
