@@ -85,7 +85,7 @@ same_kind (Integer p) (Integer q) = p == q
 same_kind _ _ = false
 
 -- the other place is one of the same name
-abbrev pub is_same_name : Place → Place → Bool
+unfoldable pub is_same_name : Place → Place → Bool
 is_same_name one other = same_kind one.kind other.kind && bytes_eq one.text other.text
 
 -- the other place declares the name of this one

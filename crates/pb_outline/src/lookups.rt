@@ -52,6 +52,7 @@ impl<'t> Outline<'t> {
 
     /// Returns all places of the name of this one, in the order of the text. The error comes only if `alloc` is out of
     /// memory.
+    #[tactic(auto, using(crate::proofs::Walks::kept_rest))]
     pub fn places_of(&self, alloc: Global, one: &Place<'_>) -> Result<Vec<Place<'t>>, NoMemory>
         ensures { IfOk result (λ found. map spec.place found.items
             ≡ filter (spec.is_same_name (spec.place one.now)) (spec.places self.now)) }

@@ -18,10 +18,7 @@ pub struct Outline<'t> {
 
 impl<'t> Outline<'t> {
     /// Returns the names of a program. The error comes only if `alloc` is out of memory.
-    pub fn of<A: Allocator>(
-        alloc: Global,
-        program: &'t Program<A>,
-    ) -> Result<Outline<'t>, NoMemory>
+    pub fn of<A: Allocator>(alloc: Global, program: &'t Program<A>) -> Result<Outline<'t>, NoMemory>
         ensures { IfOk result (λ outline. spec.places outline ≡ spec.program_places (program_view program.now)) }
     {
         let mut places = Vec::new(alloc);

@@ -39,6 +39,7 @@ pub(crate) fn same_kind(one: Kind, other: Kind) -> bool
 }
 
 /// Returns whether the other place is one of the same name.
+#[tactic(auto, unfolding(crate::specs::Places::is_same_name))]
 pub(crate) fn is_same_name(one: &Place<'_>, other: &Place<'_>) -> bool
     ensures { result ≡ spec.is_same_name (spec.place one.now) (spec.place other.now) }
 {

@@ -51,7 +51,7 @@ fn is_same(one: Position, other: Position) -> bool
 }
 
 /// Returns the offset that has a position, of a byte of the text or of its end; none if there is none.
-#[tactic(auto, using(crate::proofs::Rests::find_from))]
+#[tactic(auto, using(crate::proofs::Offsets::find_from, crate::proofs::Offsets::offset_more))]
 pub fn offset_at(text: &[u8], position: Position) -> Option<usize>
     ensures { result ≡ spec.offset_at text.now position }
 {

@@ -4,6 +4,7 @@ ghost use Rattle.std.specs.Prelude.{◌≡◌, IfErr, IfOk, OnOk, filter, map, t
 ghost use Rattle.pb_code.specs.Limits.{IsName};
 ghost use Rattle.pb_outline.specs.Places as spec;
 ghost use Rattle.pb_outline.specs.Scopes as scope;
+ghost use Rattle.pb_outline.specs.declared.rename.RenameFault.TheVariants.{NoMemory as no_memory};
 
 use crate::outline::Outline;
 use crate::place::{Place, same_kind};
@@ -26,9 +27,9 @@ pub enum RenameFault {
 }
 
 impl From<NoMemory> for RenameFault {
-    fn from(_: NoMemory) -> RenameFault
-        ensures { result ≡ RenameFault.NoMemory }
-    {
+    ghost from_gives = { λ _ e. e ≡ no_memory };
+
+    fn from(_e: NoMemory) -> RenameFault {
         RenameFault::NoMemory
     }
 }

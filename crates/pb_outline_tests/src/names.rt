@@ -87,7 +87,14 @@ fn declarations_have_their_extents(rt: HostRuntime) {
 #[test]
 fn positions_are_counted_from_0(rt: HostRuntime) {
     let text = b"ab\n\nc";
-    for (at, line, character) in [(0, 0, 0), (2, 0, 2), (3, 1, 0), (4, 2, 0), (5, 2, 1), (9, 2, 1)] {
+    for (at, line, character) in [
+        (0, 0, 0),
+        (2, 0, 2),
+        (3, 1, 0),
+        (4, 2, 0),
+        (5, 2, 1),
+        (9, 2, 1),
+    ] {
         assert!(rt; position_of(text, at) == Position { line, character });
     }
     for (line, character, at) in [(0, 2, 2), (1, 0, 3), (2, 1, 5)] {

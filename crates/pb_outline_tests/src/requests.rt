@@ -41,18 +41,9 @@ fn definitions_are_found(rt: HostRuntime) -> Result<(), NoMemory> {
             "{\"position\":{\"line\":2,\"character\":24}}",
             "{\"range\":{\"end\":{\"character\":25,\"line\":2},\"start\":{\"character\":24,\"line\":2}},\"uri\":\"u\"}",
         ),
-        (
-            "{\"position\":{\"line\":1,\"character\":58}}",
-            "null",
-        ),
-        (
-            "{\"position\":{\"line\":9,\"character\":0}}",
-            "null",
-        ),
-        (
-            "{}",
-            "null",
-        ),
+        ("{\"position\":{\"line\":1,\"character\":58}}", "null"),
+        ("{\"position\":{\"line\":9,\"character\":0}}", "null"),
+        ("{}", "null"),
     ] {
         let asked = params(rt, asked);
         let answer = answer_definition(rt.alloc(), "u", TEXT, Some(&asked))?;
@@ -111,10 +102,7 @@ fn names_are_renamed(rt: HostRuntime) -> Result<(), NoMemory> {
             "{\"position\":{\"line\":1,\"character\":8},\"newName\":\"1\"}",
             "null",
         ),
-        (
-            "{\"position\":{\"line\":1,\"character\":8}}",
-            "null",
-        ),
+        ("{\"position\":{\"line\":1,\"character\":8}}", "null"),
     ] {
         let asked = params(rt, asked);
         let answer = answer_rename(rt.alloc(), "u", TEXT, Some(&asked))?;

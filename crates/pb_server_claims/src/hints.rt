@@ -11,7 +11,7 @@ use pb_names::Resource;
 use pb_outline::{Kind, Outline, Place};
 use pb_server_names::end_of_name;
 use serde_json::{Value, json};
-use std::alloc::{Allocator, AllocError, Global};
+use std::alloc::{AllocError, Allocator, Global};
 
 /// Returns `K NAME`: how much of which resource.
 fn claim_words(alloc: Global, amount: u64, resource: &[u8]) -> Result<String, NoMemory>

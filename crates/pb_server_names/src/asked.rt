@@ -3,18 +3,25 @@
 ghost use Rattle.std.specs.Prelude.{◌≡◌, option_map};
 ghost use Rattle.serde_json.specs.View.{view};
 ghost use Rattle.pb_outline.specs.Places.{place, places};
+ghost use Rattle.pb_adapter_requests.specs.Requests as numbers;
 ghost use Rattle.pb_server_names.specs.Asked as spec;
 
-use pb_adapter_requests::number_at;
 use pb_outline::{Outline, Place, Position, offset_at};
 use serde_json::Value;
+
+/// Returns the number that a member of an object is.
+fn number_in(value: &Value, name: &str) -> Option<u64>
+    ensures { result ≡ numbers.number_in name.now (view value.now) }
+{
+    value.get(name).and_then(Value::as_u64)
+}
 
 /// Returns the position that a value is.
 fn position_in(value: &Value) -> Option<Position>
     ensures { result ≡ spec.position_in (view value.now) }
 {
-    let line = number_at(value, "line")?;
-    let character = number_at(value, "character")?;
+    let line = number_in(value, "line")?;
+    let character = number_in(value, "character")?;
     Some(Position {
         line: line as usize,
         character: character as usize,
@@ -66,7 +73,10 @@ pub fn asks_declaration(params: Option<&Value>) -> bool
         None => None,
     };
     match context {
-        Some(context) => context.get("includeDeclaration").and_then(Value::as_bool).unwrap_or(true),
+        Some(context) => context
+            .get("includeDeclaration")
+            .and_then(Value::as_bool)
+            .unwrap_or(true),
         None => true,
     }
 }

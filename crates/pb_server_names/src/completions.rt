@@ -84,11 +84,7 @@ pub fn items_value(alloc: Global, found: &[Place<'_>]) -> Result<Value, NoMemory
 }
 
 /// Returns what may be written at an offset: the resources and the integers of its process, and the reserved words.
-pub fn completions_value(
-    alloc: Global,
-    outline: &Outline<'_>,
-    at: usize,
-) -> Result<Value, NoMemory>
+pub fn completions_value(alloc: Global, outline: &Outline<'_>, at: usize) -> Result<Value, NoMemory>
     ensures { IfOk result (λ v. view v ≡ spec.completions_data (places outline.now) at) }
 {
     let found = outline.names_at(alloc, at)?;

@@ -52,6 +52,7 @@ fn add_reference(
 }
 
 /// Returns the locations of some places that are references.
+#[tactic(auto, using(crate::proofs::Kept::kept_more))]
 fn locations(
     alloc: Global,
     uri: &str,

@@ -56,6 +56,7 @@ fn is_integer_of(process: Option<usize>, one: &Place<'_>) -> bool
 }
 
 /// Appends an integer, if it is declared in a process.
+#[tactic(auto, using(crate::proofs::Ends::end_at))]
 fn add_integer(
     alloc: Global,
     out: &mut Vec<Value>,
@@ -78,6 +79,7 @@ fn add_integer(
 }
 
 /// Returns the integers of the process whose name is at an offset.
+#[tactic(auto, using(crate::proofs::Kept::kept_more))]
 fn integers_at(
     alloc: Global,
     text: &[u8],
@@ -121,6 +123,7 @@ fn add_symbol(
 
 /// Returns the symbols of a text with these tokens: each resource, and each process with its integers, in the order of
 /// the text.
+#[tactic(auto, using(crate::proofs::Kept::flat_more))]
 pub fn symbols_value(
     alloc: Global,
     text: &[u8],

@@ -33,11 +33,8 @@ pub(crate) fn range_value(
 }
 
 /// Returns the part of a text that a name takes.
-pub(crate) fn name_range(
-    alloc: Global,
-    text: &[u8],
-    name: &Place<'_>,
-) -> Result<Value, AllocError>
+#[tactic(auto, using(crate::proofs::Ends::end_at))]
+pub(crate) fn name_range(alloc: Global, text: &[u8], name: &Place<'_>) -> Result<Value, AllocError>
     ensures { IfOk result (λ v. view v ≡ spec.name_range text.now (place name.now)) }
 {
     let end = name.at.saturating_add(name.text.len());
@@ -45,6 +42,7 @@ pub(crate) fn name_range(
 }
 
 /// Returns the position right behind a name.
+#[tactic(auto, using(crate::proofs::Ends::end_at))]
 pub fn end_of_name(alloc: Global, text: &[u8], name: &Place<'_>) -> Result<Value, AllocError>
     ensures { IfOk result (λ v. view v ≡ spec.end_of_name text.now (place name.now)) }
 {

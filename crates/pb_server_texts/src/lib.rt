@@ -5,4 +5,6 @@
 mod reading;
 mod requests;
 
-pub use requests::{answer_completion, answer_definition, answer_references, answer_rename, answer_symbols};
+pub use requests::{
+    answer_completion, answer_definition, answer_references, answer_rename, answer_symbols,
+};

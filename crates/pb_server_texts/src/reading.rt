@@ -32,6 +32,7 @@ pub(crate) fn tokens_of<'t>(
 }
 
 /// Returns the tree that tokens are, if they are one within the limits. The error comes only if `alloc` is out of memory.
+#[tactic(auto, using(crate::proofs::ReadTexts::no_small_tree))]
 pub(crate) fn tree_of(
     alloc: Global,
     given: &[Token<'_>],

@@ -16,6 +16,7 @@ use serde_json::Value;
 use std::alloc::Global;
 
 /// Returns where the name at a position is declared: a location, or null.
+#[tactic(auto, using(crate::proofs::ReadTexts::answers, pb_server_names::proofs::FloatFree::definition_free))]
 pub fn answer_definition(
     alloc: Global,
     uri: &str,
@@ -39,6 +40,7 @@ pub fn answer_definition(
 }
 
 /// Returns where the name at a position stands: a list of locations, or null.
+#[tactic(auto, using(crate::proofs::ReadTexts::answers, pb_server_names::proofs::FloatFree::references_free))]
 pub fn answer_references(
     alloc: Global,
     uri: &str,
@@ -62,6 +64,7 @@ pub fn answer_references(
 }
 
 /// Returns the edits by which the name at a position becomes another one: changes of the document, or null.
+#[tactic(auto, using(crate::proofs::ReadTexts::answers, pb_server_names::proofs::FloatFree::rename_free))]
 pub fn answer_rename(
     alloc: Global,
     uri: &str,
@@ -88,6 +91,7 @@ pub fn answer_rename(
 }
 
 /// Returns the symbols of a text: a list, or null if it is not read.
+#[tactic(auto, using(crate::proofs::ReadTexts::answers, pb_server_names::proofs::FloatFree::symbols_free))]
 pub fn answer_symbols(alloc: Global, text: &str) -> Result<Value, NoMemory>
     ensures answers { IfOk result (λ v. spec.AnswersSymbols text.now (view v)) }
     ensures float_free { IfOk result (λ v. has_float (view v) ≡ false) }
@@ -105,6 +109,7 @@ pub fn answer_symbols(alloc: Global, text: &str) -> Result<Value, NoMemory>
 
 /// Returns what may be written at a position: a list of names and of reserved words; of reserved words alone if the text
 /// is not read.
+#[tactic(auto, using(crate::proofs::ReadTexts::answers, pb_server_names::proofs::FloatFree::completions_free, pb_server_names::proofs::FloatFree::items_free))]
 pub fn answer_completion(
     alloc: Global,
     text: &str,
