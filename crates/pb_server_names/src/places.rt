@@ -21,7 +21,7 @@ pub fn definition_value(
     one: Option<Place<'_>>,
 ) -> Result<Value, NoMemory>
     ensures { IfOk result (λ v. view v
-        ≡ spec.definition_data uri.now text.now (places outline.now) (option_map place one)) }
+        ≡ spec.definition_data uri.now text.now (places outline.now) (option_map place one.entry)) }
 {
     let Some(one) = one else {
         return Ok(Value::Null);
@@ -81,7 +81,7 @@ pub fn references_value(
     one: Option<Place<'_>>,
 ) -> Result<Value, NoMemory>
     ensures { IfOk result (λ v. view v
-        ≡ spec.references_data uri.now text.now (places outline.now) with_declaration (option_map place one)) }
+        ≡ spec.references_data uri.now text.now (places outline.now) with_declaration (option_map place one.entry)) }
 {
     let Some(one) = one else {
         return Ok(Value::Null);
@@ -127,7 +127,7 @@ pub fn rename_value(
     one: Option<Place<'_>>,
 ) -> Result<Value, NoMemory>
     ensures { IfOk result (λ v. view v
-        ≡ spec.rename_data uri.now text.now new_name.now (places outline.now) (option_map place one)) }
+        ≡ spec.rename_data uri.now text.now new_name.now (places outline.now) (option_map place one.entry)) }
 {
     let Some(one) = one else {
         return Ok(Value::Null);
