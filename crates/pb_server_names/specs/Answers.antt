@@ -1,6 +1,6 @@
 -- What is answered of a name of a text: where it is declared, where it stands, and what a new name changes. Nothing is
 -- answered where no name stands.
-use Rattle.std.specs.Prelude.{ℕ, Bool, true, false, not, ◌&&◌, ◌||◌, List, Option, Some, None, codes, cond, filter, map}
+use Rattle.std.specs.Prelude.{ℕ, Bool, not, ◌&&◌, ◌||◌, List, Option, Some, None, codes, cond, filter, map}
 use Rattle.std.specs.List.{find}
 use Rattle.serde_json.specs.Data.{Data, null, array, object, no_members, member}
 use Rattle.serde_json.specs.View.{items_of}

@@ -1,7 +1,6 @@
 //! The symbols of a text: each resource, and each process with its integers.
 
 ghost use Rattle.std.specs.Prelude.{◌≡◌, ◌++◌, ◌∷◌, [], IfOk, OnOk, filter, map};
-ghost use Rattle.std.specs.List.{flat_map};
 ghost use Rattle.serde_json.specs.View.{view};
 ghost use Rattle.pb_lexer.specs.Tokens.{tokens};
 ghost use Rattle.pb_outline.specs.Places.{place, places};

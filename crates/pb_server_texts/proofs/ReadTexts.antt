@@ -1,13 +1,11 @@
 -- When a text is read, and when it is not.
-use Rattle.std.proofs.Common.{◌≡◌, ◌∙◌, ℕ, ◌<◌, ◌≤◌, ◌⊎◌, inl, inr, List, Result, Ok, Err, IfErr, subst, sym, ap, refl, arith}
+use Rattle.std.proofs.Common.{◌≡◌, ℕ, ◌⊎◌, inl, inr, List, Result, Err, IfErr, subst, sym, ap, refl, arith}
 use Rattle.serde_json.specs.Data.{Data}
-use Rattle.pb_base.specs.declared.limits.TheConstants.{MAX_HEIGHT, MAX_NODES}
 use Rattle.pb_lexer.specs.Cutting.{AreTokensOf}
 use Rattle.pb_lexer.specs.Tokens.{Token}
 use Rattle.pb_lexer.proofs.Cuttings.{one_cutting}
 use Rattle.pb_tree.specs.Measure.{program_height, program_nodes}
 use Rattle.pb_tree.specs.Syntax.{ProgramSyntax}
-use Rattle.pb_grammar.specs.Programs.{ReadsProgram}
 use Rattle.pb_grammar.specs.declared.fault.ParseFault.{ParseFault}
 use Rattle.pb_grammar.specs.declared.fault.ParseFault.TheVariants as fault
 use Rattle.pb_grammar.proofs.ProgramLaws.{one_program}
@@ -15,7 +13,7 @@ use Rattle.pb_parser.specs.Limits.{IsNoProgram, IsSyntax, IsTooHigh, IsTooLarge}
 use Rattle.pb_parser.specs.Nesting.{NestsTooDeep}
 use Rattle.pb_outline.specs.Places.{Place, program_places}
 use Rattle.pb_server_texts.specs.Answers.{Answers, read, unread}
-use Rattle.pb_server_texts.specs.Reading.{IsRead, IsTreeOf}
+use Rattle.pb_server_texts.specs.Reading.{IsTreeOf}
 
 -- ---- tokens that are refused are no tree
 

@@ -1,6 +1,5 @@
 use Rattle.std.proofs.Common.{◌∙◌, ap, arith, rules}
-use Rattle.pb_tree.proofs.Smaller.{stmt_nodes_within, arm_nodes_within, arms_nodes_within, then_nodes_within, else_nodes_within}
-use Rattle.pb_tree.proofs.Smaller.{repeated_nodes_within, held_nodes_within}
+use Rattle.pb_tree.proofs.Smaller.{stmt_nodes_within, arm_nodes_within, arms_nodes_within}
 use Rattle.pb_tree.proofs.Views.{view-Parbegin}
 use Rattle.pb_tree.specs.View.{stmt_view}
 use Rattle.pb_outline.proofs.Walks.{arms_more, stmts_more}
