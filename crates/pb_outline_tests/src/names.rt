@@ -18,7 +18,6 @@ fn names_are_outlined(rt: HostRuntime) -> Result<(), NoMemory> {
         panic!(rt; "this is a program");
     };
     let outline = Outline::of(rt.alloc(), &tree)?;
-    let mut i = 0;
     let wanted = [
         (Kind::Resource, 9, true),
         (Kind::Process, 24, true),
@@ -31,11 +30,10 @@ fn names_are_outlined(rt: HostRuntime) -> Result<(), NoMemory> {
         (Kind::Integer(1), 109, false),
     ];
     assert!(rt; outline.places().len() == wanted.len());
-    for place in outline.places() {
+    for (i, place) in outline.places().iter().enumerate() {
         if let Some((kind, at, declares)) = wanted.get(i) {
             assert!(rt; place.kind == *kind && place.at == *at && place.declares == *declares);
         }
-        i += 1;
     }
     let Some(one) = outline.place_at(64) else {
         panic!(rt; "a name ends there");
