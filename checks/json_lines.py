@@ -289,8 +289,8 @@ def main() -> None:
     tally.expect(call(["--json", "run"], b"process")[0] == REFUSED, "a refused text")
     tally.expect(call(["--json", "run"], b"process p begin print 1 div 0 end\n")[0] == FAULT, "a fault")
     try_session(tally, ["debug", "--live"], (TOP / "examples/devices.pb").read_bytes() + b"%%\na.0 1\n%%\n",
-                {b"to 1": "at", b"why b.0": "not asking", b"nonsense": "refused", b"prev": "at"})
-    try_session(tally, ["bank"], b"", {b"resource tape 3": "ready", b"job a 2 tape": "ready", b"hold a 1 tape": "held", b"nonsense": "refused"})
+                {b"to 1": "at", b"why b.0": "rest", b"nonsense": "refused", b"mark 4": "mark"})
+    try_session(tally, ["bank"], b"", {b"resource tape 3": "ready", b"job a 2 tape": "ready", b"hold a 1 tape": "held"})
     tally.end("json lines")
 
 
