@@ -189,7 +189,7 @@ pub as_many : (all : List (List ℕ)) (index : ℕ) (trees : List ProgramSyntax)
     → index ≤ length all → length trees ≡ index
 as_many all index trees each within = AllZip-long IsProgramText (take index all) trees each ∙ length-take-le index all within
 
--- behind a text there is a program
+-- if a text was read before, there is a program
 pub not_none : {X : Type 0} (several : Bool) (texts : List (List ℕ)) (trees : List ProgramSyntax) (whole : ProgramSyntax)
     (program : Option X) (f : X → Program) (names : List Name) → AreSoFar several texts trees whole (option_map f program) names
     → program ≡ None → 1 ≤ length texts → ⊥

@@ -26,7 +26,7 @@ none_more (Some bytes) = ap Some (sym (append-nil bytes))
 pub no_prefix : (written : Option (List ℕ)) (text : List ℕ) → AddsPrefix written written text
 no_prefix written text = ([], text, refl, none_more written)
 
--- a first part of the first text is one of both
+-- a prefix of the first text is a prefix of both texts
 pub longer : (old new : Option (List ℕ)) (first both rest : List ℕ) → both ≡ first ++ rest → AddsPrefix old new first → AddsPrefix old new both
 longer old new first both rest joined (done, left, split, is) =
     (done, left ++ rest, joined ∙ (ap (λ (t : List ℕ). t ++ rest) split ∙ append_assoc done left rest), is)
@@ -59,7 +59,7 @@ ends_both front text ended too more =
     ∙ (sym (append_assoc (lines_of front) (lines_of text) (lines_of more))
     ∙ ap (λ ls. ls ++ lines_of more) (sym (ended text)))))
 
--- a first part of what comes behind a text that is written
+-- a prefix of a text that is appended to one that is written
 prefix_behind : (before new : Option (List ℕ)) (first text : List ℕ) → AddsPrefix (appended before first) new text
     → AddsPrefix before new (first ++ text)
 prefix_behind before new first text (done, left, split, is) =
