@@ -33,6 +33,7 @@ QUICK = (
     f"checks/check_formats.py {PROGRAM}",
     f"checks/terminal.py {PROGRAM}",
     f"checks/adapter.py {PROGRAM}",
+    f"checks/server.py {PROGRAM}",
     "checks/rebuilds.py",
     f"checks/pictures.py {PROGRAM}",
     "checks/example_tests.py",
@@ -51,6 +52,7 @@ SLOW = (
     f"checks/long_runs.py {PROGRAM}",
     f"checks/memory_use.py {PROGRAM}",
     f"checks/page.py {PROGRAM}",
+    f"checks/clients.py {PROGRAM}",
     "checks/package.py",
 )
 SETS = {"quick": QUICK, "slow": SLOW}

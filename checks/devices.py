@@ -74,7 +74,7 @@ def fail_each(tally, shim, name, words, given, kind, whole):
             os.remove(failed)
             status, said = answer
             is_first_part = whole[1].startswith(said) and (said != whole[1] or kind == "READ") and after == 0
-            answers_as_it_reads = "--live" in words or words in (["bank"], ["dap"])
+            answers_as_it_reads = "--live" in words or words in (["bank"], ["dap"], ["lsp"])
             is_right = is_first_part if kind == "WRITE" or answers_as_it_reads else said == b""
             tally.expect(status == DEVICE and is_right, name, kind, number, status, said[:60], after)
 

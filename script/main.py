@@ -16,6 +16,7 @@ AWAITED = {
     "replay": "a text, a line %% and pick lines", "draw": "a text, a line %% and pick lines",
     "debug": "a text, a line %%, pick lines, a line %% and commands", "states": "a text, a line %% and pick lines",
     "bank": "commands, of which help lists all", "dap": "messages of the Debug Adapter Protocol",
+    "lsp": "messages of the Language Server Protocol",
 }
 
 
@@ -102,8 +103,8 @@ def run_words(start: list[str], words: list[str]) -> int:
 
 # Commands that need not be looked for in the program's help.
 COMMANDS = (
-    "bank", "check", "claims", "dap", "debug", "draw", "emit", "exec", "explain", "migrate", "outcomes", "plan", "record", "replay",
-    "run", "states",
+    "bank", "check", "claims", "dap", "debug", "draw", "emit", "exec", "explain", "lsp", "migrate", "outcomes", "plan", "record",
+    "replay", "run", "states",
 )
 
 

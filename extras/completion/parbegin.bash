@@ -6,7 +6,7 @@ _parbegin() {
         at=$((at + 1))
     done
     if ((COMP_CWORD <= at)); then
-        local commands="bank check claims dap debug draw emit exec explain migrate outcomes plan record replay run states help --help --version"
+        local commands="bank check claims dap debug draw emit exec explain lsp migrate outcomes plan record replay run states help --help --version"
         if [[ ${COMP_WORDS[at - 1]} != --quiet && ${COMP_WORDS[at - 1]} != --json ]]; then
             commands+=" --quiet"
         fi
@@ -38,7 +38,7 @@ _parbegin() {
         ;;
     esac
     case ${COMP_WORDS[at]} in
-    bank | dap) options="" ;;
+    bank | dap | lsp) options="" ;;
     check) options="--heap --format --jobs" ;;
     claims) options="" ;;
     debug) options="--live --lend" ;;
@@ -61,7 +61,7 @@ _parbegin() {
     states) options="--rows --from --lend" ;;
     help)
         # its word is a command
-        local named="bank check claims dap debug draw emit exec explain migrate outcomes plan record replay run states"
+        local named="bank check claims dap debug draw emit exec explain lsp migrate outcomes plan record replay run states"
         mapfile -t COMPREPLY < <(compgen -W "$named" -- "$word")
         return
         ;;

@@ -1,5 +1,5 @@
 # Completion of parbegin for fish. To use it: copy this file to ~/.config/fish/completions, or let install.sh do it.
-set -l commands bank check claims dap debug draw emit exec explain migrate outcomes plan record replay run states help
+set -l commands bank check claims dap debug draw emit exec explain lsp migrate outcomes plan record replay run states help
 
 complete -c parbegin -n "not __fish_seen_subcommand_from $commands" -f
 complete -c parbegin -n "not __fish_seen_subcommand_from $commands" -l unproved -d "Run the sources with no proof"
@@ -18,6 +18,7 @@ complete -c parbegin -n "not __fish_seen_subcommand_from $commands" -a emit -d "
 complete -c parbegin -n "not __fish_seen_subcommand_from $commands" -a exec -d "Run an object"
 set -l codes L1 L2 L3 L4 P1 P2 P3 N1 N2 N3 N4 N6 C1 E1 O1 O2 V1 V2 V3 V4 V5 V6 V7 V8 V9 K1 K2 H1 G1 G2 G3 G4 input output
 complete -c parbegin -n "not __fish_seen_subcommand_from $commands" -a explain -d "Print what a refusal means"
+complete -c parbegin -n "not __fish_seen_subcommand_from $commands" -a lsp -d "Answer an editor by the Language Server Protocol"
 complete -c parbegin -n "not __fish_seen_subcommand_from $commands" -a migrate -d "Print an object in format 2"
 complete -c parbegin -n "not __fish_seen_subcommand_from $commands" -a outcomes -d "Print every way in which a program can end"
 complete -c parbegin -n "not __fish_seen_subcommand_from $commands" -a plan -d "Print what a program needs of each resource, and why"

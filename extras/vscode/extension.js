@@ -1,4 +1,5 @@
-// The debugger in VS Code: starts `parbegin dap`, which is to be on the path, and sends the text with the launch request.
+// The debugger and the language server in VS Code: starts `parbegin dap`, with the text in the launch request, and
+// `parbegin lsp`. The program is to be on the path.
 const vscode = require("vscode");
 
 /** Adds the text to a configuration: what the editor shows, with edits that are not saved, and the picks behind it. */
@@ -11,7 +12,25 @@ async function withText(configuration) {
   return configuration;
 }
 
+let client;
+
+/** Starts the language server, if the package vscode-languageclient is there. */
+function startServer() {
+  let LanguageClient;
+  try {
+    ({ LanguageClient } = require("vscode-languageclient/node"));
+  } catch {
+    return;
+  }
+  const run = { command: "parbegin", args: ["lsp"] };
+  client = new LanguageClient("parbegin", run, { documentSelector: [{ language: "parbegin" }] });
+  client.start();
+}
+
+exports.deactivate = () => client && client.stop();
+
 exports.activate = (context) => {
+  startServer();
   context.subscriptions.push(
     vscode.debug.registerDebugConfigurationProvider("parbegin", {
       resolveDebugConfigurationWithSubstitutedVariables: (_folder, configuration) => withText(configuration),

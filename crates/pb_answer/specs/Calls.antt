@@ -38,6 +38,8 @@ use Rattle.pb_page.specs.declared.run.Shown.{Shown}
 use Rattle.pb_page_engine.specs.States.{SaysOfStates}
 use Rattle.pb_plan_engine.specs.PlanLines.{SaysOfPlan}
 use Rattle.pb_search_engine.specs.SaysOfAll.{SaysOfSearches}
+use Rattle.pb_server_engine.specs.Servers as server
+use Rattle.pb_server_engine.specs.Servers.{SaysOfServer}
 use Rattle.pb_words.specs.Read.{WordsSay}
 
 -- what `debug` may say of an input, of which it reads the commands as they come, or all before it writes
@@ -63,6 +65,7 @@ CommandSays (option.Draw options) = SaysOfInput (SaysOfDraw (lending_for options
 CommandSays (option.Emit numbers) = SaysOfInput (SaysOfEmission numbers.object)
 CommandSays (option.Exec numbers) = SaysOfInput (SaysOfExecution numbers.steps)
 CommandSays (option.Explain code) = λ bytes. SaysOfExplain code
+CommandSays option.Lsp = SaysOfServer
 CommandSays option.Migrate = SaysOfInput SaysOfMigration
 CommandSays (option.Outcomes numbers) = SaysOfInput (SaysOfSearches numbers)
 CommandSays option.Plan = SaysOfInput SaysOfPlan
@@ -119,12 +122,13 @@ TellsBankFaults rest left old new status =
     bank.TellsAnyFault old new status
     × (new.reads ≢ old.reads → IfSome rest (λ bytes. bank.SaysBefore bank.AnswersLines bytes left old.written new.written))
 
--- a device that fails is reported, and nothing is written if a read fails; `debug --live`, `bank` and `dap` alone
--- have carried out the commands before that read then, and written their answers
+-- a device that fails is reported, and nothing is written if a read fails; `debug --live`, `bank`, `dap` and `lsp`
+-- alone have carried out the commands before that read then, and written their answers
 abbrev pub CallTellsFaults : List (Bor Text) → (rest left : Option (List ℕ)) → Devices → Devices → Status → Type 0
 CallTellsFaults words rest left old new status =
     TellsFaults old new status
     ⊎ (((lend : Lend) × WordsSay words (option.Debug (record { live = true; lend = lend })) × TellsAnyFault old new status
     × AnswersBeforeRead true (lending_for lend) rest left old new)
     ⊎ ((WordsSay words option.Bank × TellsBankFaults rest left old new status)
-    ⊎ (WordsSay words option.Dap × adapter.TellsAnyFault old new status)))
+    ⊎ ((WordsSay words option.Dap × adapter.TellsAnyFault old new status)
+    ⊎ (WordsSay words option.Lsp × server.TellsAnyFault old new status))))

@@ -24,6 +24,7 @@ use pb_page::Shown;
 use pb_page_engine::states_engine;
 use pb_plan_engine::plan_engine;
 use pb_search_engine::outcomes_engine;
+use pb_server_engine::server_engine;
 use pb_words::{Options, WordsFault, options};
 use std::alloc::Global;
 use std::sync::Wait;
@@ -53,6 +54,7 @@ pub fn answer<I: Input, O: Output, R: Threads + Wait + Sync>(
         Ok(Options::Emit(numbers)) => emit_engine(alloc, numbers, input, output),
         Ok(Options::Exec(numbers)) => exec_engine(rt, alloc, numbers, input, output),
         Ok(Options::Explain(code)) => explain_engine(alloc, code, output),
+        Ok(Options::Lsp) => server_engine(alloc, input, output),
         Ok(Options::Migrate) => migrate_engine(alloc, input, output),
         Ok(Options::Outcomes(numbers)) => outcomes_engine(alloc, numbers, input, output),
         Ok(Options::Plan) => plan_engine(alloc, input, output),

@@ -20,6 +20,7 @@ use pb_explain::explain_engine;
 use pb_options::RecordOptions;
 use pb_plan_engine::plan_engine;
 use pb_search_engine::outcomes_engine;
+use pb_server_engine::server_engine;
 use pb_words::{Options, options};
 use std::alloc::Global;
 
@@ -44,6 +45,7 @@ pub fn answer_alone<I: Input, O: Output>(
         Ok(Options::Draw(options)) => draw_engine(alloc, options, input, output),
         Ok(Options::Emit(numbers)) => emit_engine(alloc, numbers, input, output),
         Ok(Options::Explain(code)) => explain_engine(alloc, code, output),
+        Ok(Options::Lsp) => server_engine(alloc, input, output),
         Ok(Options::Migrate) => migrate_engine(alloc, input, output),
         Ok(Options::Outcomes(numbers)) => outcomes_engine(alloc, numbers, input, output),
         Ok(Options::Plan) => plan_engine(alloc, input, output),

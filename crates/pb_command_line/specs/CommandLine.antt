@@ -110,6 +110,9 @@ bank_command = new_app (codes "bank")
 unfoldable pub dap_command : App
 dap_command = new_app (codes "dap")
 
+unfoldable pub lsp_command : App
+lsp_command = new_app (codes "lsp")
+
 abbrev pub with_command : App → App → App
 with_command a sub = with_subcommand a sub.top
 
@@ -137,9 +140,9 @@ with_pick_commands a = with_command (with_command (with_command a record_command
 unfoldable pub with_other_commands : App → App
 with_other_commands a = with_command (with_command (with_command a draw_command) outcomes_command) explain_command
 
--- the commands that write the states of a run, are the banker by itself, and answer an editor
+-- the commands that write the states of a run, are the banker by itself, and answer an editor by either protocol
 unfoldable pub with_bank_commands : App → App
-with_bank_commands a = with_command (with_command (with_command a states_command) bank_command) dap_command
+with_bank_commands a = with_command (with_command (with_command (with_command a states_command) bank_command) dap_command) lsp_command
 
 -- the whole command line
 unfoldable pub command_line : App

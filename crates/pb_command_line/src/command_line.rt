@@ -414,7 +414,9 @@ fn with_bank<'a>(
     );
     let command = with_made(command, bank);
     let about = "Answer an editor by the Debug Adapter Protocol on standard input and output";
-    with_made(command, plain(alloc, "dap", about))
+    let command = with_made(command, plain(alloc, "dap", about));
+    let about = "Answer an editor by the Language Server Protocol on standard input and output";
+    with_made(command, plain(alloc, "lsp", about))
 }
 
 /// Returns the whole command line.

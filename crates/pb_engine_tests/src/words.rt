@@ -32,6 +32,7 @@ fn commands_have_their_defaults(rt: HostRuntime) {
     for (command, wanted) in [
         ("bank", Options::Bank),
         ("dap", Options::Dap),
+        ("lsp", Options::Lsp),
         ("check", Options::Check(CheckOptions { heap: None })),
         ("claims", Options::Claims),
         (

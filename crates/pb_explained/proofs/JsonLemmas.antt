@@ -32,7 +32,14 @@ gathered_faults words rest left old_reads new_reads failures bytes given (inr (i
     | inr write ↦ inr (write.0, write.1)
   ],
 )
-gathered_faults words rest left old_reads new_reads failures bytes given (inr (inr (inr editor))) = (
+gathered_faults words rest left old_reads new_reads failures bytes given (inr (inr (inr (inl editor)))) = (
+  λ other. editor.1.0 other,
+  λ device. elim (editor.1.1 device) [
+    | inl read ↦ inl (read.0, read.1)
+    | inr write ↦ inr (write.0, write.1)
+  ],
+)
+gathered_faults words rest left old_reads new_reads failures bytes given (inr (inr (inr (inr editor)))) = (
   λ other. editor.1.0 other,
   λ device. elim (editor.1.1 device) [
     | inl read ↦ inl (read.0, read.1)

@@ -59,7 +59,7 @@ abbrev pub TellsDebugged : (live : Bool) → Lending → (bytes told : List ℕ)
 TellsDebugged true lending = SaysOfLiveInput lending
 TellsDebugged false lending = SaysToPerson (reading.Debugged lending)
 
--- what a person is told of bytes that a command refused: nothing of `bank`, `dap` and `explain`
+-- what a person is told of bytes that a command refused: nothing of `bank`, `dap`, `explain` and `lsp`
 abbrev pub TellsRefused : Options → (bytes told : List ℕ) → Type 0
 TellsRefused option.Bank = λ bytes told. ⊥
 TellsRefused (option.Check numbers) = SaysToPerson reading.Texts
@@ -70,6 +70,7 @@ TellsRefused (option.Draw options) = SaysToPerson (reading.Replayed (lending_for
 TellsRefused (option.Emit numbers) = SaysToPerson (format_reading numbers.object)
 TellsRefused (option.Exec numbers) = SaysToPerson reading.Object
 TellsRefused (option.Explain code) = λ bytes told. ⊥
+TellsRefused option.Lsp = λ bytes told. ⊥
 TellsRefused option.Migrate = SaysToPerson reading.Object
 TellsRefused (option.Outcomes numbers) = SaysToPerson (outcomes_reading numbers.expect)
 TellsRefused option.Plan = SaysToPerson reading.Together
@@ -97,6 +98,7 @@ limit_message (option.Draw options) = []
 limit_message (option.Emit numbers) = []
 limit_message (option.Exec numbers) = stopped_run
 limit_message (option.Explain code) = []
+limit_message option.Lsp = []
 limit_message option.Migrate = []
 limit_message (option.Outcomes numbers) = stopped_search
 limit_message option.Plan = []

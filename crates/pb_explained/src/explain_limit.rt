@@ -46,6 +46,7 @@ fn limit_message(options: &Options) -> &[u8]
         | Options::Draw(_)
         | Options::Emit(_)
         | Options::Explain(_)
+        | Options::Lsp
         | Options::Migrate
         | Options::Plan
         | Options::Record(_)

@@ -64,7 +64,7 @@ fn message_for(alloc: Global, options: &Options, bytes: &[u8]) -> Option<Result<
             Reading::Replayed(options.lend.lending()),
             bytes,
         )),
-        Options::Bank | Options::Dap | Options::Explain(_) => None,
+        Options::Bank | Options::Dap | Options::Explain(_) | Options::Lsp => None,
     }
 }
 

@@ -12,7 +12,7 @@ use Rattle.pb_command_line.specs.CommandLine.{command_line, with_text_commands, 
 use Rattle.pb_command_line.specs.CommandLine.{with_other_commands, with_pick_commands, check_command, claims_command}
 use Rattle.pb_command_line.specs.CommandLine.{debug_command, draw_command, emit_command, exec_command, explain_command}
 use Rattle.pb_command_line.specs.CommandLine.{migrate_command, outcomes_command, plan_command, record_command, replay_command, run_command}
-use Rattle.pb_command_line.specs.CommandLine.{bank_command, dap_command, states_command, with_bank_commands, with_run_rules}
+use Rattle.pb_command_line.specs.CommandLine.{bank_command, dap_command, lsp_command, states_command, with_bank_commands, with_run_rules}
 use Rattle.clap.specs.declared.parser.matches.Found.{Found}
 use Rattle.clap.proofs.WalkLemmas.{one_text-rows}
 use Rattle.pb_words.specs.Read.{BlamesWords, HasCheckNumbers, HasCode, HasEmitNumber, HasFlag, HasNumber, HasNumberIn}
@@ -21,7 +21,7 @@ use Rattle.pb_words.specs.Read.{HasRecordNumbers, HasRunNumbers}
 use Rattle.pb_words.specs.Read.{IsReadFrom, IsReadFromMatches}
 use Rattle.pb_words.specs.declared.words.Options.{Options}
 use Rattle.pb_words.specs.declared.words.Options.TheVariants.{Bank, Check, Claims, Dap, Debug, Draw, Emit, Exec, Explain}
-use Rattle.pb_words.specs.declared.words.Options.TheVariants.{Migrate, Outcomes, Plan, Record, Replay, Run, States}
+use Rattle.pb_words.specs.declared.words.Options.TheVariants.{Lsp, Migrate, Outcomes, Plan, Record, Replay, Run, States}
 use Rattle.pb_options.specs.declared.options.CheckOptions.{CheckOptions}
 use Rattle.pb_options.specs.declared.options.DebugOptions.{DebugOptions}
 use Rattle.pb_options.specs.declared.options.DrawOptions.{DrawOptions}
@@ -122,6 +122,8 @@ no_check rows none (Exec o) says =
     let m : 99 ≡ 101 = ap (λ (l : Text). get_or l 0 0) says.0 in omega (arith, m)
 no_check rows none (Explain o) says =
     let m : 99 ≡ 101 = ap (λ (l : Text). get_or l 0 0) says.0 in omega (arith, m)
+no_check rows none Lsp says =
+    let m : 99 ≡ 108 = ap (λ (l : Text). get_or l 0 0) says in omega (arith, m)
 no_check rows none Migrate says =
     let m : 99 ≡ 109 = ap (λ (l : Text). get_or l 0 0) says in omega (arith, m)
 no_check rows none (Outcomes o) says =
@@ -157,6 +159,8 @@ no_debug rows none (Exec o) says =
     let m : 100 ≡ 101 = ap (λ (l : Text). get_or l 0 0) says.0 in omega (arith, m)
 no_debug rows none (Explain o) says =
     let m : 100 ≡ 101 = ap (λ (l : Text). get_or l 0 0) says.0 in omega (arith, m)
+no_debug rows none Lsp says =
+    let m : 100 ≡ 108 = ap (λ (l : Text). get_or l 0 0) says in omega (arith, m)
 no_debug rows none Migrate says =
     let m : 100 ≡ 109 = ap (λ (l : Text). get_or l 0 0) says in omega (arith, m)
 no_debug rows none (Outcomes o) says =
@@ -192,6 +196,8 @@ no_emit rows none (Exec o) says =
     let m : 109 ≡ 120 = ap (λ (l : Text). get_or l 1 0) says.0 in omega (arith, m)
 no_emit rows none (Explain o) says =
     let m : 109 ≡ 120 = ap (λ (l : Text). get_or l 1 0) says.0 in omega (arith, m)
+no_emit rows none Lsp says =
+    let m : 101 ≡ 108 = ap (λ (l : Text). get_or l 0 0) says in omega (arith, m)
 no_emit rows none Migrate says =
     let m : 101 ≡ 109 = ap (λ (l : Text). get_or l 0 0) says in omega (arith, m)
 no_emit rows none (Outcomes o) says =
@@ -228,6 +234,8 @@ no_run rows none (Exec o) says =
     let m : 114 ≡ 101 = ap (λ (l : Text). get_or l 0 0) says.0 in omega (arith, m)
 no_run rows none (Explain o) says =
     let m : 114 ≡ 101 = ap (λ (l : Text). get_or l 0 0) says.0 in omega (arith, m)
+no_run rows none Lsp says =
+    let m : 114 ≡ 108 = ap (λ (l : Text). get_or l 0 0) says in omega (arith, m)
 no_run rows none Migrate says =
     let m : 114 ≡ 109 = ap (λ (l : Text). get_or l 0 0) says in omega (arith, m)
 no_run rows none (Outcomes o) says =
@@ -263,6 +271,8 @@ no_record rows none (Exec o) says =
     let m : 114 ≡ 101 = ap (λ (l : Text). get_or l 0 0) says.0 in omega (arith, m)
 no_record rows none (Explain o) says =
     let m : 114 ≡ 101 = ap (λ (l : Text). get_or l 0 0) says.0 in omega (arith, m)
+no_record rows none Lsp says =
+    let m : 114 ≡ 108 = ap (λ (l : Text). get_or l 0 0) says in omega (arith, m)
 no_record rows none Migrate says =
     let m : 114 ≡ 109 = ap (λ (l : Text). get_or l 0 0) says in omega (arith, m)
 no_record rows none (Outcomes o) says =
@@ -297,6 +307,8 @@ no_exec rows none (Emit o) says =
 no_exec rows none (Exec o) says = none o says.1
 no_exec rows none (Explain o) says =
     let m : 101 ≡ 112 = ap (λ (l : Text). get_or l 2 0) says.0 in omega (arith, m)
+no_exec rows none Lsp says =
+    let m : 101 ≡ 108 = ap (λ (l : Text). get_or l 0 0) says in omega (arith, m)
 no_exec rows none Migrate says =
     let m : 101 ≡ 109 = ap (λ (l : Text). get_or l 0 0) says in omega (arith, m)
 no_exec rows none (Outcomes o) says =
@@ -332,6 +344,8 @@ no_explain rows none (Emit o) says =
 no_explain rows none (Exec o) says =
     let m : 112 ≡ 101 = ap (λ (l : Text). get_or l 2 0) says.0 in omega (arith, m)
 no_explain rows none (Explain o) says = none o says.1
+no_explain rows none Lsp says =
+    let m : 101 ≡ 108 = ap (λ (l : Text). get_or l 0 0) says in omega (arith, m)
 no_explain rows none Migrate says =
     let m : 101 ≡ 109 = ap (λ (l : Text). get_or l 0 0) says in omega (arith, m)
 no_explain rows none (Outcomes o) says =
@@ -368,6 +382,8 @@ no_outcomes rows none (Exec o) says =
     let m : 111 ≡ 101 = ap (λ (l : Text). get_or l 0 0) says.0 in omega (arith, m)
 no_outcomes rows none (Explain o) says =
     let m : 111 ≡ 101 = ap (λ (l : Text). get_or l 0 0) says.0 in omega (arith, m)
+no_outcomes rows none Lsp says =
+    let m : 111 ≡ 108 = ap (λ (l : Text). get_or l 0 0) says in omega (arith, m)
 no_outcomes rows none Migrate says =
     let m : 111 ≡ 109 = ap (λ (l : Text). get_or l 0 0) says in omega (arith, m)
 no_outcomes rows none (Outcomes o) says = none o says.1
@@ -403,6 +419,8 @@ no_states rows none (Exec o) says =
     let m : 115 ≡ 101 = ap (λ (l : Text). get_or l 0 0) says.0 in omega (arith, m)
 no_states rows none (Explain o) says =
     let m : 115 ≡ 101 = ap (λ (l : Text). get_or l 0 0) says.0 in omega (arith, m)
+no_states rows none Lsp says =
+    let m : 115 ≡ 108 = ap (λ (l : Text). get_or l 0 0) says in omega (arith, m)
 no_states rows none Migrate says =
     let m : 115 ≡ 109 = ap (λ (l : Text). get_or l 0 0) says in omega (arith, m)
 no_states rows none (Outcomes o) says =
@@ -438,6 +456,8 @@ no_replay rows none (Exec o) says =
     let m : 114 ≡ 101 = ap (λ (l : Text). get_or l 0 0) says.0 in omega (arith, m)
 no_replay rows none (Explain o) says =
     let m : 114 ≡ 101 = ap (λ (l : Text). get_or l 0 0) says.0 in omega (arith, m)
+no_replay rows none Lsp says =
+    let m : 114 ≡ 108 = ap (λ (l : Text). get_or l 0 0) says in omega (arith, m)
 no_replay rows none Migrate says =
     let m : 114 ≡ 109 = ap (λ (l : Text). get_or l 0 0) says in omega (arith, m)
 no_replay rows none (Outcomes o) says =
@@ -472,6 +492,8 @@ no_draw rows none (Exec o) says =
     let m : 100 ≡ 101 = ap (λ (l : Text). get_or l 0 0) says.0 in omega (arith, m)
 no_draw rows none (Explain o) says =
     let m : 100 ≡ 101 = ap (λ (l : Text). get_or l 0 0) says.0 in omega (arith, m)
+no_draw rows none Lsp says =
+    let m : 100 ≡ 108 = ap (λ (l : Text). get_or l 0 0) says in omega (arith, m)
 no_draw rows none Migrate says =
     let m : 100 ≡ 109 = ap (λ (l : Text). get_or l 0 0) says in omega (arith, m)
 no_draw rows none (Outcomes o) says =
@@ -586,14 +608,14 @@ pub is_simple_command_line : is_simple command_line ≡ true
 unfolding command_line with_text_commands with_code_commands with_object_commands with_pick_commands check_command
     claims_command debug_command draw_command emit_command exec_command migrate_command outcomes_command
     plan_command record_command replay_command run_command with_other_commands explain_command with_run_rules
-    with_bank_commands states_command bank_command dap_command clap_on_literals
+    with_bank_commands states_command bank_command dap_command lsp_command clap_on_literals
 is_simple_command_line = refl
 
 pub is_free_command_line : is_simple_and_free command_line ≡ true
 unfolding command_line with_text_commands with_code_commands with_object_commands with_pick_commands check_command
     claims_command debug_command draw_command emit_command exec_command migrate_command outcomes_command
     plan_command record_command replay_command run_command with_other_commands explain_command with_run_rules
-    with_bank_commands states_command bank_command dap_command clap_on_literals
+    with_bank_commands states_command bank_command dap_command lsp_command clap_on_literals
 is_free_command_line = refl
 
 -- a fact that holds anyway holds if there is no value

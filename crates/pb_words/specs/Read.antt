@@ -106,6 +106,7 @@ IsReadFrom name rows (option.Draw o) = (name ≡ codes "draw") × HasDrawLend ro
 IsReadFrom name rows (option.Emit o) = (name ≡ codes "emit") × HasEmitNumber rows o
 IsReadFrom name rows (option.Exec o) = (name ≡ codes "exec") × HasRunNumbers rows o
 IsReadFrom name rows (option.Explain code) = (name ≡ codes "explain") × HasCode rows code
+IsReadFrom name rows option.Lsp = name ≡ codes "lsp"
 IsReadFrom name rows option.Migrate = name ≡ codes "migrate"
 IsReadFrom name rows (option.Outcomes o) = (name ≡ codes "outcomes") × HasSearchOptions rows o
 IsReadFrom name rows option.Plan = name ≡ codes "plan"

@@ -18,6 +18,7 @@ pub enum Options {
     Emit(EmitOptions),
     Exec(RunOptions),
     Explain(Option<Code>),
+    Lsp,
     Migrate,
     Outcomes(OutcomesOptions),
     Plan,

@@ -1,5 +1,5 @@
 use Rattle.std.proofs.Common.{inl, inr, subst, rules}
-use Rattle.pb_words.specs.declared.words.Options.TheVariants.{Bank, Check, Dap, Debug, Emit, Exec, Explain, Outcomes, Record}
+use Rattle.pb_words.specs.declared.words.Options.TheVariants.{Bank, Check, Dap, Debug, Emit, Exec, Explain, Lsp, Outcomes, Record}
 use Rattle.pb_words.specs.declared.words.Options.TheVariants.{Run, States}
 use Rattle.pb_words.specs.Read.{WordsSay}
 use Rattle.pb_answer.proofs.AnswerLemmas.{CallTellsFaults-debug, CallWrites-refused}
@@ -80,7 +80,17 @@ returns-in-Ok-Dap-clause-text g c =
 pub returns-in-Ok-Dap-clause-faults : goal.returns-in-Ok-Dap-clause-faults
 returns-in-Ok-Dap-clause-faults g c =
     let read = subst (WordsSay c.args.words.now) c.in-Ok-Dap.field-0-is c.in-Ok-Dap.ensures.read in
-    inr (inr (inr (read, c.adapter_engine.ensures.faults)))
+    inr (inr (inr (inl (read, c.adapter_engine.ensures.faults))))
+
+pub returns-in-Ok-Lsp-clause-text : goal.returns-in-Ok-Lsp-clause-text
+returns-in-Ok-Lsp-clause-text g c =
+    let read = subst (WordsSay c.args.words.now) c.in-Ok-Lsp.field-0-is c.in-Ok-Lsp.ensures.read in
+    inl (Lsp, read, c.server_engine.ensures.text)
+
+pub returns-in-Ok-Lsp-clause-faults : goal.returns-in-Ok-Lsp-clause-faults
+returns-in-Ok-Lsp-clause-faults g c =
+    let read = subst (WordsSay c.args.words.now) c.in-Ok-Lsp.field-0-is c.in-Ok-Lsp.ensures.read in
+    inr (inr (inr (inr (read, c.server_engine.ensures.faults))))
 
 pub returns-in-Ok-States-clause-text : goal.returns-in-Ok-States-clause-text
 returns-in-Ok-States-clause-text g c =

@@ -1,0 +1,56 @@
+;;; eglot.el --- Starts `parbegin lsp' from Emacs over a text  -*- lexical-binding: t -*-
+;;
+;;     PARBEGIN=PROGRAM emacs --batch -l eglot.el refused.pb
+;;
+;; The integer y of refused.pb is not declared.  Each check writes a line, and the status is 0 if all is as wanted.
+(require 'package)
+(package-initialize)
+(require 'eglot)
+(require 'flymake)
+
+(define-derived-mode parbegin-mode prog-mode "parbegin"
+  (setq-local comment-start "// "))
+(add-to-list 'eglot-server-programs (list 'parbegin-mode (getenv "PARBEGIN") "lsp"))
+
+(defvar wrong 0)
+
+(defun check (what got wanted)
+  (unless (equal got wanted) (setq wrong (1+ wrong)))
+  (princ (if (equal got wanted) (format "ok    %s\n" what) (format "WRONG %s: %S\n" what got))))
+
+(defun wait-until (what holds)
+  (let ((left 200))
+    (while (and (> left 0) (not (funcall holds)))
+      (accept-process-output nil 0.05)
+      (setq left (1- left)))
+    (unless (funcall holds) (check what "nothing in 10 seconds" "something"))))
+
+(defun shown ()
+  (mapcar (lambda (one)
+            (let ((begin (flymake-diagnostic-beg one)))
+              (save-excursion
+                (goto-char begin)
+                (list (line-number-at-pos) (- begin (line-beginning-position)) (- (flymake-diagnostic-end one) begin)))))
+          (flymake-diagnostics)))
+
+(let ((file (expand-file-name (car command-line-args-left))))
+  (setq command-line-args-left nil)
+  (with-current-buffer (find-file-noselect file)
+    (parbegin-mode)
+    (let ((eglot-sync-connect 10))
+      (apply #'eglot (eglot--guess-contact))
+      (flymake-mode 1)
+      (flymake-start)
+      (wait-until "diagnostics of the first text" (lambda () (flymake-diagnostics)))
+      (check "the refusal at its range" (shown) '((4 30 1)))
+      (goto-char (point-min))
+      (search-forward "x := y")
+      (delete-char -1)
+      (insert "x")
+      (eglot--signal-textDocument/didChange)
+      (wait-until "diagnostics of the mended text" (lambda () (null (flymake-diagnostics))))
+      (check "none behind the mend" (shown) nil)
+      (eglot-shutdown (eglot--current-server-or-lose))
+      (set-buffer-modified-p nil)))
+  (kill-emacs (if (= wrong 0) 0 1)))
+;;; eglot.el ends here

@@ -1,0 +1,4 @@
+pub mod Places
+pub mod Scopes
+pub mod Positions
+pub mod Extents

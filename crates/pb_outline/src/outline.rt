@@ -1,0 +1,36 @@
+//! The outline of a program.
+
+ghost use Rattle.std.specs.Prelude.{◌≡◌, IfOk, map};
+ghost use Rattle.pb_tree.specs.View.{program_view};
+ghost use Rattle.pb_outline.specs.Places as spec;
+
+use crate::place::Place;
+use crate::walk::{add_processes, add_resources};
+use pb_base::NoMemory;
+use pb_tree::Program;
+use std::alloc::{Allocator, Global};
+
+/// The names of a program, in the order of its text.
+#[derive(Drop)]
+pub struct Outline<'t> {
+    pub(crate) places: Vec<Place<'t>>,
+}
+
+impl<'t> Outline<'t> {
+    /// Returns the names of a program. The error comes only if `alloc` is out of memory.
+    pub fn of<A: Allocator>(alloc: Global, program: &'t Program<A>) -> Result<Outline<'t>, NoMemory>
+        ensures { IfOk result (λ outline. spec.places outline ≡ spec.program_places (program_view program.now)) }
+    {
+        let mut places = Vec::new(alloc);
+        add_resources(&mut places, &program.resources)?;
+        add_processes(&mut places, &program.processes)?;
+        Ok(Outline { places })
+    }
+
+    /// Returns all names, in the order of the text.
+    pub fn places(&self) -> &[Place<'t>]
+        ensures { map spec.place result.now ≡ spec.places self.now }
+    {
+        &self.places
+    }
+}

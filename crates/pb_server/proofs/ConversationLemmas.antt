@@ -1,0 +1,179 @@
+-- A conversation, message by message.
+use Rattle.std.proofs.Common.{◌≡◌, ◌⊎◌, ◌<◌, ℕ, ◌+◌, List, [], ◌∷◌, ◌++◌, length, Bool, true, false, Option, Some, None, IfSome, refl, sym, ap, ◌∙◌}
+use Rattle.std.proofs.Common.{subst, inl, inr, arith, append-nil, append_assoc, length-append}
+use Rattle.std.proofs.lemmas.List.Concat.{flat_map-append}
+use Rattle.serde_json.specs.Data.{Data}
+use Rattle.pb_base.specs.Device.{appended, AddsPrefix}
+use Rattle.pb_base.proofs.DeviceLemmas.{appended-appended}
+use Rattle.pb_conversations.specs.Conversations.{WritesReply, message_text, none_read, one_read, texts}
+use Rattle.pb_conversations.specs.declared.conversation.Stop.{Stop}
+use Rattle.pb_conversations.specs.declared.conversation.Stop.TheVariants as stop
+use Rattle.pb_frames.specs.Frames.{IsFrame, IsFrameFault, IsRead}
+use Rattle.pb_frames.specs.declared.fault.FrameFault.{FrameFault}
+use Rattle.pb_frames.specs.declared.fault.FrameFault.TheVariants as frame
+use Rattle.pb_server.specs.Answers.{AnswersContent, Diagnosing, Finding, Serving}
+use Rattle.pb_server.specs.Conversations.{Talks, TalksOut, TalksSome, WritesBroken, broken_data, none_heard, one_heard}
+
+none_appended : (old : Option (List ℕ)) → old ≡ appended old []
+none_appended None = refl
+none_appended (Some held) = ap Some (sym (append-nil held))
+
+-- what is said of an input that is known
+known : (o : Option (List ℕ)) (bytes : List ℕ) (P : List ℕ → Type 0) → o ≡ Some bytes → IfSome o P → P bytes
+known o bytes P is says = subst (λ (o : Option (List ℕ)). IfSome o P) is says
+
+-- texts behind others
+texts_more : (messages told : List Data) (old mid new : Option (List ℕ)) → mid ≡ appended old (texts messages)
+    → new ≡ appended mid (texts told) → new ≡ appended old (texts (messages ++ told))
+texts_more messages told old mid new first wrote =
+    wrote
+    ∙ (ap (λ o. appended o (texts told)) first
+    ∙ (appended-appended old (texts messages) (texts told)
+    ∙ ap (λ (t : List ℕ). appended old t) (sym (flat_map-append message_text messages told))))
+
+-- if a text was written whole, and then a prefix of another one, a prefix of both together was written
+prefix_behind : (old mid new : Option (List ℕ)) (one more : List ℕ) → mid ≡ appended old one → AddsPrefix mid new more
+    → AddsPrefix old new (one ++ more)
+prefix_behind old mid new one more first (done, left, is, wrote) = (
+  one ++ done,
+  left,
+  ap (λ (t : List ℕ). one ++ t) is ∙ sym (append_assoc one done left),
+  wrote ∙ (ap (λ o. appended o done) first ∙ appended-appended old one done),
+)
+
+module _ (Diagnoses : Diagnosing) (Finds : Finding) (s : Serving) where
+  -- the first messages are answered, and so many were heard
+  pub record SaysSoFar (bytes : List ℕ) (heard : ℕ) (left old new : Option (List ℕ)) (here : Serving) : Type 0 where
+    pub rest : List ℕ
+    pub messages : List Data
+    pub talks : Talks Diagnoses Finds s bytes rest messages here
+    pub coming : left ≡ Some rest
+    pub counted : heard ≡ length talks.contents
+    pub written : new ≡ appended old (texts messages)
+
+  pub so_far_nothing : (bytes : List ℕ) (left old : Option (List ℕ)) → left ≡ Some bytes → SaysSoFar bytes 0 left old old s
+  so_far_nothing bytes left old is = record {
+    rest = bytes;
+    messages = [];
+    talks = record { contents = []; frames = none_read; conversation = none_heard };
+    coming = is;
+    counted = refl;
+    written = none_appended old;
+  }
+
+  module _ (bytes : List ℕ) (heard : ℕ) (left old mid : Option (List ℕ)) (here : Serving) (far : SaysSoFar bytes heard left old mid here) where
+    -- all is answered
+    pub so_far_all : ((here.over ≡ true) ⊎ (4294967295 < heard)) → TalksOut Diagnoses Finds s bytes old mid here
+    so_far_all whole = record {
+      rest = far.rest;
+      messages = far.messages;
+      talks = far.talks;
+      whole = inr (subst (λ n. (here.over ≡ true) ⊎ (4294967295 < n)) far.counted whole);
+      written = far.written;
+    }
+
+    -- the input is at its end
+    pub so_far_end : (left' : Option (List ℕ)) → IfSome left (λ bs. IsRead bs None left') → TalksOut Diagnoses Finds s bytes old mid here
+    so_far_end left' end = record {
+      rest = far.rest;
+      messages = far.messages;
+      talks = far.talks;
+      whole = inl (known left far.rest (λ bs. bs ≡ []) far.coming end);
+      written = far.written;
+    }
+
+    -- out of memory
+    pub so_far_memory : TalksSome Diagnoses Finds s bytes old mid stop.Memory
+    so_far_memory = record {
+      rest = far.rest;
+      messages = far.messages;
+      after = here;
+      talks = far.talks;
+      written = far.written;
+    }
+
+    -- no further message was read
+    pub so_far_unread : (fault : FrameFault) (why : Stop) (new : Option (List ℕ)) → IfSome left (IsFrameFault fault)
+        → WritesBroken why fault mid new → TalksSome Diagnoses Finds s bytes old new why
+    so_far_unread fault stop.Broken new is (of, wrote) = record {
+      rest = far.rest;
+      messages = far.messages;
+      after = here;
+      talks = far.talks;
+      written = (
+        fault,
+        of,
+        known left far.rest (IsFrameFault fault) far.coming is,
+        wrote
+            ∙ (ap (λ o. appended o (texts (broken_data fault ∷ []))) far.written
+            ∙ appended-appended old (texts far.messages) (texts (broken_data fault ∷ []))),
+      );
+    }
+    so_far_unread fault stop.Memory new is wrote = record {
+      rest = far.rest;
+      messages = far.messages;
+      after = here;
+      talks = far.talks;
+      written = wrote ∙ far.written;
+    }
+    so_far_unread fault stop.Device new is wrote = record {
+      rest = far.rest;
+      messages = far.messages;
+      after = here;
+      talks = far.talks;
+      written = (fault, prefix_behind old mid new (texts far.messages) (texts (broken_data fault ∷ [])) far.written wrote);
+    }
+
+    module _ (content : List ℕ) (left' new : Option (List ℕ)) (told : List Data) (after : Serving)
+        (read : IfSome left (λ bs. IsRead bs (Some content) left')) (on : here.over ≡ false)
+        (answer : AnswersContent Diagnoses Finds here content told after) where
+      behind : (rest : List ℕ) × IsFrame far.rest content rest × (left' ≡ Some rest)
+      behind = known left far.rest (λ bs. IsRead bs (Some content) left') far.coming read
+
+      more_talks : Talks Diagnoses Finds s bytes behind.0 (far.messages ++ told) after
+      more_talks = record {
+        contents = far.talks.contents ++ content ∷ [];
+        frames = one_read far.talks.contents content far.rest behind.0 far.talks.frames behind.1;
+        conversation = one_heard far.talks.contents far.messages here content told after far.talks.conversation on answer;
+      }
+
+      -- one more content is answered
+      pub so_far_more : new ≡ appended mid (texts told) → SaysSoFar bytes (heard + 1) left' old new after
+      unfolding more_talks
+      so_far_more wrote = record {
+        rest = behind.0;
+        messages = far.messages ++ told;
+        talks = more_talks;
+        coming = behind.2;
+        counted = omega (arith, length-append far.talks.contents (content ∷ []), far.counted);
+        written = texts_more far.messages told old mid new far.written wrote;
+      }
+
+      -- or nothing of the answer is written, or a prefix
+      pub so_far_broken : (why : Stop) → WritesReply why told mid new → TalksSome Diagnoses Finds s bytes old new why
+      so_far_broken stop.Broken wrote = absurd wrote
+      so_far_broken stop.Memory wrote = record {
+        rest = far.rest;
+        messages = far.messages;
+        after = here;
+        talks = far.talks;
+        written = wrote ∙ far.written;
+      }
+      so_far_broken stop.Device wrote = record {
+        rest = behind.0;
+        messages = far.messages ++ told;
+        after = after;
+        talks = more_talks;
+        written = (
+          frame.Early,
+          (let whole =
+              subst (λ (t : List ℕ). AddsPrefix old new t) (sym (flat_map-append message_text far.messages told))
+              (prefix_behind old mid new (texts far.messages) (texts told) far.written wrote) in (
+                whole.0,
+                whole.1 ++ texts (broken_data frame.Early ∷ []),
+                ap (λ (t : List ℕ). t ++ texts (broken_data frame.Early ∷ [])) whole.2
+                    ∙ append_assoc whole.0 whole.1 (texts (broken_data frame.Early ∷ [])),
+                whole.3,
+              )),
+        );
+      }

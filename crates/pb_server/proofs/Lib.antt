@@ -1,0 +1,4 @@
+pub mod ConversationLemmas
+pub mod DocumentLemmas
+pub mod FloatFree
+pub mod ParamLemmas

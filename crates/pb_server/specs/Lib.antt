@@ -1,0 +1,7 @@
+pub mod Answers
+pub mod Conversations
+pub mod Documents
+pub mod Messages
+pub mod Methods
+pub mod Params
+pub mod Responses

@@ -1,0 +1,4 @@
+//! Tests of the language server: conversations by their bytes.
+#![tactic(auto)]
+
+mod conversations;

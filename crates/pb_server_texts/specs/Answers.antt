@@ -1,0 +1,51 @@
+-- What is answered to a request over the text of a document.
+use Rattle.std.specs.Prelude.{ℕ, [], List, Option, Some, None}
+use Rattle.serde_json.specs.Data.{Data, null}
+use Rattle.pb_lexer.specs.Tokens.{Token}
+use Rattle.pb_tree.specs.Syntax.{ProgramSyntax}
+use Rattle.pb_outline.specs.Places.{Place, program_places}
+use Rattle.pb_server_names.specs.Answers.{definition_data, references_data, rename_data}
+use Rattle.pb_server_names.specs.Asked.{asked_name, asked_offset, asked_place, asks_declaration}
+use Rattle.pb_server_names.specs.Completions.{completions_data, items_data}
+use Rattle.pb_server_names.specs.Symbols.{symbols_data}
+use Rattle.pb_server_texts.specs.Reading.{IsRead}
+
+-- an answer by the tokens and the names of a text, or another one if the text is not read
+pub data Answers (of : List Token → List Place → Data) (otherwise : Data) (text : List ℕ) : Data → Type 0 where
+  read : (tokens : List Token) (tree : ProgramSyntax) → IsRead text tokens tree
+      → Answers of otherwise text (of tokens (program_places tree))
+  unread : ((tokens : List Token) (tree : ProgramSyntax) → IsRead text tokens tree → ⊥)
+      → Answers of otherwise text otherwise
+
+-- where the name at a position is declared
+abbrev pub AnswersDefinition : (uri text : List ℕ) → Option Data → Data → Type 0
+AnswersDefinition uri text params =
+    Answers (λ tokens places. definition_data uri text places (asked_place text places params)) null text
+
+-- where it stands
+abbrev pub AnswersReferences : (uri text : List ℕ) → Option Data → Data → Type 0
+AnswersReferences uri text params =
+    Answers (λ tokens places. references_data uri text places (asks_declaration params) (asked_place text places params))
+    null text
+
+-- what a new name changes; nothing if none is given
+abbrev pub rename_to : (uri text : List ℕ) → List Place → Option (List ℕ) → Option Place → Data
+rename_to uri text places None one = null
+rename_to uri text places (Some name) one = rename_data uri text name places one
+
+abbrev pub AnswersRename : (uri text : List ℕ) → Option Data → Data → Type 0
+AnswersRename uri text params =
+    Answers (λ tokens places. rename_to uri text places (asked_name params) (asked_place text places params)) null text
+
+-- the symbols
+abbrev pub AnswersSymbols : (text : List ℕ) → Data → Type 0
+AnswersSymbols text = Answers (λ tokens places. symbols_data text tokens places) null text
+
+-- what may be written at a position; only the reserved words if no offset has it, or if the text is not read
+abbrev pub completions_if : List Place → Option ℕ → Data
+completions_if places None = items_data []
+completions_if places (Some at) = completions_data places at
+
+abbrev pub AnswersCompletion : (text : List ℕ) → Option Data → Data → Type 0
+AnswersCompletion text params =
+    Answers (λ tokens places. completions_if places (asked_offset text params)) (items_data []) text
