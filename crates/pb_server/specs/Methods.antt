@@ -10,7 +10,12 @@ use Rattle.pb_server.specs.declared.query.Query.TheVariants as queries
 -- what a request asks of the text of a document; else what is given
 abbrev pub query_or : List ℕ → Method → Method
 query_or m other =
-    cond (bytes_eq m (codes "textDocument/diagnostic")) (methods.Query queries.Diagnostic) other
+    cond (bytes_eq m (codes "textDocument/diagnostic")) (methods.Query queries.Diagnostic)
+    (cond (bytes_eq m (codes "textDocument/definition")) (methods.Query queries.Definition)
+    (cond (bytes_eq m (codes "textDocument/references")) (methods.Query queries.References)
+    (cond (bytes_eq m (codes "textDocument/rename")) (methods.Query queries.Rename)
+    (cond (bytes_eq m (codes "textDocument/documentSymbol")) (methods.Query queries.Symbols)
+    (cond (bytes_eq m (codes "textDocument/completion")) (methods.Query queries.Completion) other)))))
 
 -- what a request asks for
 abbrev pub method_of : List ℕ → Method

@@ -47,6 +47,16 @@ fn query_of(method: &str) -> Method
 {
     if is(method, "textDocument/diagnostic") {
         Method::Query(Query::Diagnostic)
+    } else if is(method, "textDocument/definition") {
+        Method::Query(Query::Definition)
+    } else if is(method, "textDocument/references") {
+        Method::Query(Query::References)
+    } else if is(method, "textDocument/rename") {
+        Method::Query(Query::Rename)
+    } else if is(method, "textDocument/documentSymbol") {
+        Method::Query(Query::Symbols)
+    } else if is(method, "textDocument/completion") {
+        Method::Query(Query::Completion)
     } else {
         Method::Unknown
     }

@@ -13,9 +13,11 @@ use Rattle.pb_frames.specs.Frames.{IsFrameFault}
 use Rattle.pb_frames.specs.declared.fault.FrameFault.{FrameFault}
 use Rattle.pb_server.specs.Answers.{Diagnosing, Finding, Serving}
 use Rattle.pb_server.specs.Conversations.{IsEnd, Talks, broken_data, fresh}
+use Rattle.pb_server.specs.Founds.{FoundData, refused, result}
 use Rattle.pb_server.specs.declared.query.Query.TheVariants as queries
 use Rattle.pb_server.specs.declared.session.Phase.{Phase}
 use Rattle.pb_server.specs.declared.session.Phase.TheVariants as phases
+use Rattle.pb_server_texts.specs.Answers.{AnswersCompletion, AnswersDefinition, AnswersReferences, AnswersRename, AnswersSymbols}
 
 -- ---- the language
 
@@ -27,9 +29,23 @@ Diagnoses uri text items = diagnostics.Diagnoses text items
 abbrev pub full_data : (items : Data) → Data
 full_data items = object (member (codes "items") items (member (codes "kind") (string (codes "full")) no_members))
 
+-- there is always a result, and it is one of these
+abbrev pub FindsOneOf : (Data → Type 0) → FoundData → Type 0
+FindsOneOf Is (result d) = Is d
+FindsOneOf Is (refused message) = ⊥
+
+-- all diagnostics of a document
+abbrev pub AnswersDiagnostic : (uri text : List ℕ) → Data → Type 0
+AnswersDiagnostic uri text d = (items : Data) × Diagnoses uri text items × (d ≡ full_data items)
+
 -- what is found in a text
 abbrev pub Finds : Finding
-Finds queries.Diagnostic uri text params result = (items : Data) × Diagnoses uri text items × (result ≡ full_data items)
+Finds queries.Diagnostic uri text params found = FindsOneOf (AnswersDiagnostic uri text) found
+Finds queries.Definition uri text params found = FindsOneOf (AnswersDefinition uri text params) found
+Finds queries.References uri text params found = FindsOneOf (AnswersReferences uri text params) found
+Finds queries.Rename uri text params found = FindsOneOf (AnswersRename uri text params) found
+Finds queries.Symbols uri text params found = FindsOneOf (AnswersSymbols text) found
+Finds queries.Completion uri text params found = FindsOneOf (AnswersCompletion text params) found
 
 -- ---- a conversation
 

@@ -1,12 +1,14 @@
 //! The language, as a server knows it.
 
-ghost use Rattle.std.specs.Prelude.{◌≡◌, IfOk};
+ghost use Rattle.std.specs.Prelude.{◌≡◌, IfOk, false};
 ghost use Rattle.serde_json.specs.View.{view};
-ghost use Rattle.pb_server_engine.specs.Servers.{Diagnoses as DiagnosesText, Finds as FindsText, full_data};
+ghost use Rattle.serde_json.specs.Written.{has_float};
+ghost use Rattle.pb_server_engine.specs.Servers.{AnswersDiagnostic, Diagnoses as DiagnosesText, Finds as FindsText, full_data};
 
 use pb_base::NoMemory;
 use pb_diagnostics::diagnostics;
-use pb_server::{Language, Query};
+use pb_server::{Found, Language, Query};
+use pb_server_texts::{answer_completion, answer_definition, answer_references, answer_rename, answer_symbols};
 use serde_json::{Value, json};
 use std::alloc::{AllocError, Global};
 
@@ -19,6 +21,15 @@ fn full(alloc: Global, items: Value) -> Result<Value, AllocError>
     ensures { IfOk result (λ v. view v ≡ full_data (view items)) }
 {
     json!(in alloc; {"kind": "full", "items": items})
+}
+
+/// Returns all diagnostics of a document.
+fn all_diagnostics(alloc: Global, uri: &str, text: &str) -> Result<Value, NoMemory>
+    ensures diagnostics { IfOk result (λ v. AnswersDiagnostic uri.now text.now (view v)) }
+    ensures float_free { IfOk result (λ v. has_float (view v) ≡ false) }
+{
+    let items = diagnostics(alloc, uri, text.as_bytes())?;
+    Ok(full(alloc, items)?)
 }
 
 impl Language for Parbegin {
@@ -37,13 +48,15 @@ impl Language for Parbegin {
         uri: &str,
         text: &str,
         params: Option<&Value>,
-    ) -> Result<Value, NoMemory> {
-        let _ = params;
-        match query {
-            Query::Diagnostic => {
-                let items = diagnostics(alloc, uri, text.as_bytes())?;
-                Ok(full(alloc, items)?)
-            }
-        }
+    ) -> Result<Found, NoMemory> {
+        let value = match query {
+            Query::Diagnostic => all_diagnostics(alloc, uri, text)?,
+            Query::Definition => answer_definition(alloc, uri, text, params)?,
+            Query::References => answer_references(alloc, uri, text, params)?,
+            Query::Rename => answer_rename(alloc, uri, text, params)?,
+            Query::Symbols => answer_symbols(alloc, text)?,
+            Query::Completion => answer_completion(alloc, text, params)?,
+        };
+        Ok(Found::Result(value))
     }
 }
