@@ -1,9 +1,9 @@
 -- The token that begins at an offset.
-use Rattle.std.proofs.Common.{◌≡◌, ℕ, suc, ◌+◌, ◌<◌, Bool, true, false, cond, List, ◌∷◌, length, drop, map, get_or, Option, Some, None, sym, ap, ◌∙◌, arith}
+use Rattle.std.proofs.Common.{◌≡◌, ℕ, suc, ◌+◌, ◌<◌, true, false, cond, List, ◌∷◌, length, drop, map, get_or, Option, Some, None, sym, ap, ◌∙◌, arith}
 use Rattle.std.specs.List.{find}
 use Rattle.std.proofs.Math.Seq.{drop-cons}
 use Rattle.std.proofs.lemmas.List.{drop_all}
-use Rattle.pb_diagnostics.specs.Ranges.{begins_at, end_of, token_end}
+use Rattle.pb_diagnostics.specs.Ranges.{begins_at}
 use Rattle.pb_lexer.specs.Tokens.{Token, token}
 use Rattle.pb_lexer.specs.declared.token.Token.{Token as Given}
 
