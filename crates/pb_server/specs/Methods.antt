@@ -15,7 +15,8 @@ query_or m other =
     (cond (bytes_eq m (codes "textDocument/references")) (methods.Query queries.References)
     (cond (bytes_eq m (codes "textDocument/rename")) (methods.Query queries.Rename)
     (cond (bytes_eq m (codes "textDocument/documentSymbol")) (methods.Query queries.Symbols)
-    (cond (bytes_eq m (codes "textDocument/completion")) (methods.Query queries.Completion) other)))))
+    (cond (bytes_eq m (codes "textDocument/completion")) (methods.Query queries.Completion)
+    (cond (bytes_eq m (codes "textDocument/codeAction")) (methods.Query queries.Actions) other))))))
 
 -- what a request asks for
 abbrev pub method_of : List ℕ → Method

@@ -60,14 +60,15 @@ publishing_data uri version items = publishing_with (published_data uri version 
 -- what the server can do: it hears of documents that are opened and closed, of each change the whole text, and answers
 -- what is asked of a text
 abbrev pub able_data : Data
-able_data = object (member (codes "completionProvider") (object no_members)
+able_data = object (member (codes "codeActionProvider") (boolean true)
+    (member (codes "completionProvider") (object no_members)
     (member (codes "definitionProvider") (boolean true)
     (member (codes "documentSymbolProvider") (boolean true)
     (member (codes "positionEncoding") (string (codes "utf-16"))
     (member (codes "referencesProvider") (boolean true)
     (member (codes "renameProvider") (boolean true)
     (member (codes "textDocumentSync") (object (member (codes "change") (number (unsigned 1))
-    (member (codes "openClose") (boolean true) no_members))) no_members)))))))
+    (member (codes "openClose") (boolean true) no_members))) no_members))))))))
 
 abbrev pub capabilities_data : Data
 capabilities_data = object (member (codes "capabilities") able_data

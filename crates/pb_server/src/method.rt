@@ -57,6 +57,8 @@ fn query_of(method: &str) -> Method
         Method::Query(Query::Symbols)
     } else if is(method, "textDocument/completion") {
         Method::Query(Query::Completion)
+    } else if is(method, "textDocument/codeAction") {
+        Method::Query(Query::Actions)
     } else {
         Method::Unknown
     }

@@ -15,4 +15,6 @@ pub enum Query {
     Symbols,
     /// What may be written at a position.
     Completion,
+    /// Edits that mend the text.
+    Actions,
 }

@@ -141,7 +141,8 @@ fn able(alloc: Global) -> Result<Value, AllocError>
         "referencesProvider": true,
         "renameProvider": true,
         "documentSymbolProvider": true,
-        "completionProvider": {}
+        "completionProvider": {},
+        "codeActionProvider": true
     })
 }
 

@@ -3,10 +3,11 @@
 ghost use Rattle.std.specs.Prelude.{◌≡◌, IfOk, false};
 ghost use Rattle.serde_json.specs.View.{view};
 ghost use Rattle.serde_json.specs.Written.{has_float};
-ghost use Rattle.pb_server_engine.specs.Servers.{AnswersDiagnostic, Diagnoses as DiagnosesText, Finds as FindsText, full_data};
+ghost use Rattle.pb_server.specs.Founds.{found_view};
+ghost use Rattle.pb_server_engine.specs.Servers.{AnswersDiagnostic, Diagnoses as DiagnosesText, Finds as FindsText, full_data, renamed as renamed_data};
 
 use pb_base::NoMemory;
-use pb_diagnostics::diagnostics;
+use pb_diagnostics::{actions, diagnostics};
 use pb_server::{Found, Language, Query};
 use pb_server_texts::{answer_completion, answer_definition, answer_references, answer_rename, answer_symbols};
 use serde_json::{Value, json};
@@ -32,6 +33,18 @@ fn all_diagnostics(alloc: Global, uri: &str, text: &str) -> Result<Value, NoMemo
     Ok(full(alloc, items)?)
 }
 
+/// Returns what is found for a request of a new name, by its edits.
+fn renamed(edits: Value) -> Found
+    ensures { found_view result ≡ renamed_data (view edits) }
+{
+    match edits {
+        Value::Null => Found::Refused(
+            "no name stands here, or the new name is none of the language, or it is taken",
+        ),
+        edits => Found::Result(edits),
+    }
+}
+
 impl Language for Parbegin {
     ghost Diagnoses = { DiagnosesText };
 
@@ -53,9 +66,12 @@ impl Language for Parbegin {
             Query::Diagnostic => all_diagnostics(alloc, uri, text)?,
             Query::Definition => answer_definition(alloc, uri, text, params)?,
             Query::References => answer_references(alloc, uri, text, params)?,
-            Query::Rename => answer_rename(alloc, uri, text, params)?,
+            Query::Rename => {
+                return Ok(renamed(answer_rename(alloc, uri, text, params)?));
+            }
             Query::Symbols => answer_symbols(alloc, text)?,
             Query::Completion => answer_completion(alloc, text, params)?,
+            Query::Actions => actions(alloc, uri, text.as_bytes())?,
         };
         Ok(Found::Result(value))
     }
