@@ -1,5 +1,5 @@
 -- What is said to each message of a client, and what is open then.
-use Rattle.std.specs.Prelude.{◌≡◌, ◌⊎◌, ℕ, List, [], ◌∷◌, Bool, true, Option, None, Some, option_and_then, option_map, codes}
+use Rattle.std.specs.Prelude.{◌≡◌, ℕ, List, [], ◌∷◌, Bool, true, Option, None, Some, option_and_then, option_map, codes}
 use Rattle.std.specs.Str.{IsUtf8}
 use Rattle.serde_json.specs.Data.{Data, null, array, no_items}
 use Rattle.serde_json.specs.Read.{read}

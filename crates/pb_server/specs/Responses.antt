@@ -1,6 +1,6 @@
 -- The messages of the server. Their members are in the order of their names.
 use Rattle.std.specs.Prelude.{ℕ, ℤ, negsuc, List, [], ◌∷◌, Option, None, Some, codes, true}
-use Rattle.serde_json.specs.Data.{Data, null, boolean, number, string, array, object, unsigned, no_items, no_members, member}
+use Rattle.serde_json.specs.Data.{Data, boolean, number, string, object, unsigned, no_members, member}
 use Rattle.serde_json.specs.Find.{of_integer}
 use Rattle.serde_json.specs.View.{view}
 use Rattle.serde_json.specs.declared.value.Value.{Value}
