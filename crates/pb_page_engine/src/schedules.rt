@@ -57,7 +57,7 @@ fn reply(
     ensures { IfOk result (λ r. SaysOfCodeSchedules lending states source.now compiled.now.verified.code
         compiled.now.labels r.text.items r.status) }
 {
-    let object = object_of(alloc, compiled)?;
+    let object = object_of(alloc, compiled.verified(), compiled.labels())?;
     schedules(alloc, lending, states, source, &object, compiled.verified())
 }
 
