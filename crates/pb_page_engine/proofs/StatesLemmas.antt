@@ -50,7 +50,7 @@ refusal_told lending shown bytes source lines old new given short few cut none (
     go _ _ (not_read (too_long long)) = absurd (omega (arith, long, few))
     go _ _ (not_read input.no_memory) = not_read input.no_memory
     go _ _ (not_read nothing) = not_read nothing
-    go said status (read within refused) = read short (no_source source lines cut said status (inr (none, refused)))
+    go said status (read within is) = read short (no_source source lines cut said status (inr (none, is)))
 
 -- a reply to an object that gives no code, or out of memory for it
 pub no_code_told : (lending : Lending) (shown : Shown) (bytes source lines : List ℕ) (reply : Result Reply NoMemory) (old new : Option (List ℕ))

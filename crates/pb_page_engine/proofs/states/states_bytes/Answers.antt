@@ -1,4 +1,4 @@
-use Rattle.std.proofs.Common.{◌≡◌, None, Some, false, true, inl, inr, refl}
+use Rattle.std.proofs.Common.{◌≡◌, None, false, true, inl, refl}
 use Rattle.pb_accept.proofs.ReplayLemmas.{text_is_short}
 use Rattle.pb_code.specs.View.{labels_view}
 use Rattle.pb_object.proofs.TextLimits.{text_keeps}
