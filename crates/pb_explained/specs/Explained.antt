@@ -77,7 +77,7 @@ TellsRefused option.Plan = SaysToPerson reading.Together
 TellsRefused (option.Record numbers) = SaysToPerson reading.Recorded
 TellsRefused (option.Replay options) = SaysToPerson (reading.Replayed (lending_for options.lend))
 TellsRefused (option.Run numbers) = SaysToPerson reading.Text
-TellsRefused (option.States options) = SaysToPerson (reading.Replayed (lending_for options.lend))
+TellsRefused (option.States options) = SaysToPerson (reading.Shown (lending_for options.lend))
 
 -- what a person is told of a run that was stopped by its steps
 abbrev pub stopped_run : List ℕ
