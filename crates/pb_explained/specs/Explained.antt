@@ -87,6 +87,10 @@ stopped_run = codes "limit steps: the run was stopped before its end\n  = hint: 
 abbrev pub stopped_search : List ℕ
 stopped_search = codes "limit search: there may be more than what was found; the last line says why\n  = hint: --states N allows N configurations, at most 4000000\n"
 
+-- what a person is told of a picture that would be too large
+abbrev pub large_picture : List ℕ
+large_picture = codes "limit picture: the picture would have more than 8388608 bytes\n  = hint: the first of the lines behind %% draw the begin of the run; `parbegin page` shows a long run a part at a time\n"
+
 -- what a person is told of a call that was stopped by a limit: how it is raised
 abbrev pub limit_message : Options → List ℕ
 limit_message option.Bank = []
@@ -94,7 +98,7 @@ limit_message (option.Check numbers) = []
 limit_message option.Claims = []
 limit_message option.Dap = []
 limit_message (option.Debug flags) = []
-limit_message (option.Draw options) = []
+limit_message (option.Draw options) = large_picture
 limit_message (option.Emit numbers) = []
 limit_message (option.Exec numbers) = stopped_run
 limit_message (option.Explain code) = []
