@@ -4,7 +4,7 @@ ghost use Rattle.std.specs.Prelude.{◌≡◌, IfOk, option_map};
 ghost use Rattle.pb_server_claims.specs.Known as spec;
 ghost use Rattle.pb_tree.specs.View.{program_view};
 
-use crate::numbered::{Numbered, numbered};
+use crate::numbered::{Numbered, number_tree};
 use pb_base::NoMemory;
 use pb_lexer::Token;
 use pb_server_texts::{tokens_of, tree_of};
@@ -44,7 +44,7 @@ pub(crate) fn read_text<'t>(alloc: Global, text: &'t [u8]) -> Result<Option<Read
             found: None,
         }));
     };
-    let found = numbered(alloc, &tree)?;
+    let found = number_tree(alloc, &tree)?;
     Ok(Some(Reading {
         tokens,
         tree,
