@@ -36,7 +36,10 @@ fn claims_of(alloc: Global, program: &Resolved<Global>) -> Result<Claims, NoMemo
 
 /// Returns the numbered program of a tree that was read, with its claims, whether or not the capital is enough for them;
 /// none if its names have a fault. The error comes only if `alloc` is out of memory.
-pub(crate) fn number_tree(alloc: Global, tree: &Program<Global>) -> Result<Option<Numbered>, NoMemory>
+pub(crate) fn number_tree(
+    alloc: Global,
+    tree: &Program<Global>,
+) -> Result<Option<Numbered>, NoMemory>
     requires { (text : List ℕ) × (tokens : List Token) × IsRead text tokens (program_view tree.now) }
     ensures { IfOk result (λ found. spec.IsFound (program_view tree.now) (option_map spec.numbered found)) }
 {
