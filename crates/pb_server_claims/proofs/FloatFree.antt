@@ -1,45 +1,21 @@
--- No value that is answered has a number that is no integer.
+-- No claim that is shown behind a name has a number that is no integer.
 use Rattle.std.proofs.Common.{◌≡◌, ℕ, zero, suc, Bool, true, false, List, [], ◌∷◌, ◌++◌, ◌==◌, Option, Some, None, cond, length, refl}
 use Rattle.std.specs.Prelude.{slice_index_or}
 use Rattle.std.proofs.lemmas.Bool.{or_from, or_parts}
-use Rattle.std.specs.List.{find, flat_map}
+use Rattle.std.specs.List.{flat_map}
 use Rattle.std.specs.Str.{bytes_eq}
 use Rattle.std.specs.Str.Lossy.{utf8_lossy}
 use Rattle.serde_json.specs.Data.{Data}
 use Rattle.serde_json.specs.View.{items_of}
 use Rattle.serde_json.specs.Written.{has_float, items_have_float}
-use Rattle.pb_lexer.specs.Tokens.{Token}
 use Rattle.pb_names.specs.Resolves.{process_names}
-use Rattle.pb_outline.specs.Places.{Place, is_at, program_places, same_kind}
+use Rattle.pb_outline.specs.Places.{Place, program_places, same_kind}
 use Rattle.pb_outline.specs.declared.place.Kind.TheVariants.{Process}
 use Rattle.pb_server_claims.specs.Below.{each_below, made_of}
 use Rattle.pb_server_claims.specs.Hints.{amount_words, hint_if, hints_at, hints_by, hints_data, hints_of, label_data}
-use Rattle.pb_server_claims.specs.Hovers.{covers, hover_asked, hover_at, hover_if, hover_token, lexeme_words}
 use Rattle.pb_server_claims.specs.Known.{Known}
 use Rattle.pb_server_claims.specs.Numbered.{Numbered, claim, resource_name}
 use Rattle.pb_server_names.specs.Values.{end_of_name}
-
--- ---- what is shown of a position
-
-if_free : (text : List ℕ) (token : Token) (words : Option (List ℕ)) → has_float (hover_if text token words) ≡ false
-if_free text token None = refl
-if_free text token (Some words) = refl
-
-token_free : (text : List ℕ) (token : Option Token) → has_float (hover_token text token) ≡ false
-token_free text None = refl
-token_free text (Some token) = if_free text token (lexeme_words token.lexeme)
-
-at_free : (text : List ℕ) (known : Known) (at : ℕ) (place : Option Place) → has_float (hover_at text known at place) ≡ false
-at_free text known at None = token_free text (find (covers at) known.tokens)
-at_free text known at (Some place) = refl
-
-pub hover_free : (text : List ℕ) (known : Option Known) (at : Option ℕ) → has_float (hover_asked text known at) ≡ false
-hover_free text None None = refl
-hover_free text None (Some at) = refl
-hover_free text (Some known) None = refl
-hover_free text (Some known) (Some at) = at_free text known at (find (is_at at) (program_places known.tree))
-
--- ---- claims behind names
 
 -- no item of a list has one
 abbrev AreFree : List Data → Type 0

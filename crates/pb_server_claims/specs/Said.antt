@@ -58,6 +58,10 @@ holders_words n r =
 abbrev pub declared_name : ProgramSyntax → (p : ℕ) → Name
 declared_name tree p = slice_index_or (map (λ process. process.name.text) tree.processes) p []
 
+-- which numbers an integer may be, and what it is at first
+unfoldable pub integer_range : List ℕ
+integer_range = codes "\nfrom -9223372036854775808 to 9223372036854775807, 0 at first"
+
 -- what is said by the numbered program, if there is one
 abbrev pub by_program : Option Numbered → (Numbered → List ℕ) → List ℕ
 by_program None said = []
@@ -69,8 +73,7 @@ words_by Resource known name = codes "resource " ++ (name
     ++ by_program known.found (λ n. made_of (resource_names n.program) name (holders_words n)))
 words_by Process known name = codes "process " ++ (name
     ++ by_program known.found (λ n. made_of (process_names n.program) name (claims_words n)))
-words_by (Integer p) known name = codes "integer " ++ (name ++ (codes " of process " ++ (declared_name known.tree p
-    ++ codes "\nfrom -9223372036854775808 to 9223372036854775807, 0 at first")))
+words_by (Integer p) known name = codes "integer " ++ (name ++ (codes " of process " ++ (declared_name known.tree p ++ integer_range)))
 
 -- what is said of a place of a name
 abbrev pub name_words : Known → Place → List ℕ

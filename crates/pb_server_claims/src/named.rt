@@ -59,6 +59,14 @@ fn declared_name(tree: &Program<Global>, p: usize) -> &[u8]
     }
 }
 
+/// Returns which numbers an integer may be, and what it is at first.
+#[tactic(auto, unfolding(crate::specs::Said::integer_range))]
+fn integer_range() -> &'static [u8]
+    ensures { result.now ≡ spec.integer_range }
+{
+    b"\nfrom -9223372036854775808 to 9223372036854775807, 0 at first"
+}
+
 /// Appends what is said of an integer.
 fn put_integer(
     out: &mut Vec<u8>,
@@ -68,14 +76,11 @@ fn put_integer(
 ) -> Result<(), NoMemory>
     ensures { OnOk result (out.new.items ≡ out.old.items
         ++ (codes "integer " ++ (name.now ++ (codes " of process " ++ (spec.declared_name (program_view tree.now) p
-        ++ codes "\nfrom -9223372036854775808 to 9223372036854775807, 0 at first"))))) }
+        ++ spec.integer_range))))) }
 {
     put_name(out, b"integer ", name)?;
     put_name(out, b" of process ", declared_name(tree, p))?;
-    put(
-        out,
-        b"\nfrom -9223372036854775808 to 9223372036854775807, 0 at first",
-    )
+    put(out, integer_range())
 }
 
 /// Returns what is said of a place of a name.

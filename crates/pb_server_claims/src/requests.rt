@@ -27,6 +27,7 @@ pub fn answer_hover(alloc: Global, text: &str, params: Option<&Value>) -> Result
 
 /// Returns the claims of each process behind its name, those that are not 0, whether or not the capital is enough for
 /// them; an empty list if the text is not read, or if its names have a fault.
+#[tactic(auto, using(crate::proofs::FloatFree::hints_free))]
 pub fn answer_hints(alloc: Global, text: &str) -> Result<Value, NoMemory>
     ensures answers { IfOk result (λ v. spec.AnswersHints text.now (view v)) }
     ensures float_free { IfOk result (λ v. has_float (view v) ≡ false) }
