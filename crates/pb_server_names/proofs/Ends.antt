@@ -11,7 +11,7 @@ past_end text n m a b = ap (fold behind beginning) (take_all n text a ∙ sym (t
 
 pub end_at : (text : List ℕ) (n m : ℕ) → length text < 2 ^ 63 → m ≡ min n (2 ^ 64 - 1) → position_of text m ≡ position_of text n
 end_at text n m short is = go (cases_lt n (2 ^ 64))
-where
-  go : (n < 2 ^ 64) ⊎ (2 ^ 64 ≤ n) → position_of text m ≡ position_of text n
-  go (inl w) = ap (position_of text) (omega (arith, is))
-  go (inr w) = past_end text m n (omega (arith, is)) (omega arith)
+  where
+    go : (n < 2 ^ 64) ⊎ (2 ^ 64 ≤ n) → position_of text m ≡ position_of text n
+    go (inl w) = ap (position_of text) (omega (arith, is))
+    go (inr w) = past_end text m n (omega (arith, is)) (omega arith)

@@ -17,6 +17,15 @@ kept_more f p g now after xs i x =
     walked_more (λ y. map f (filter p (g y ∷ []))) (λ ys. map f (filter p (map g ys))) refl
     (λ y ys. kept_cons f (p (g y)) (g y) (filter p (map g ys))) [] now after xs i x
 
+-- one that appends one thing for each element
+pub mapped_more : {X Y Z : Type 0} (f : Y → Z) (g : X → Y) (now after : List Z) (xs : List X) (i : ℕ) (x : X)
+    → x ≡ get_or xs i x → i < length xs
+    → now ≡ map f (map g (take i xs))
+    → after ≡ now ++ f (g x) ∷ []
+    → after ≡ map f (map g (take (i + 1) xs))
+mapped_more f g now after xs i x =
+    walked_more (λ y. f (g y) ∷ []) (λ ys. map f (map g ys)) refl (λ y ys. refl) [] now after xs i x
+
 -- and one that appends what is made of each element
 pub flat_more : {X Y Z : Type 0} (h : Y → List Z) (g : X → Y) (now after : List Z) (xs : List X) (i : ℕ) (x : X)
     → x ≡ get_or xs i x → i < length xs

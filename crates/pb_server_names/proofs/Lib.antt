@@ -1,3 +1,4 @@
 pub mod Ends
 pub mod FloatFree
 pub mod Kept
+pub mod Renames

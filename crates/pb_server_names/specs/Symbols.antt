@@ -19,13 +19,19 @@ symbol_kind Resource = 14
 symbol_kind Process = 12
 symbol_kind (Integer p) = 13
 
+-- a symbol, with where it is declared, where its name is, and what is declared inside
+abbrev pub symbol_with : (name : List ℕ) → (kind : ℕ) → (range own : Data) → (inside : List Data) → Data
+symbol_with name kind range own inside = object (member (codes "children") (array (items_of inside))
+    (member (codes "kind") (number (unsigned kind))
+    (member (codes "name") (string name)
+    (member (codes "range") range
+    (member (codes "selectionRange") own no_members)))))
+
 -- a name that is declared in this part of the text, with what is declared inside
 abbrev pub symbol_data : (text : List ℕ) → Place → Extent → List Data → Data
-symbol_data text place extent inside = object (member (codes "children") (array (items_of inside))
-    (member (codes "kind") (number (unsigned (symbol_kind place.kind)))
-    (member (codes "name") (string (utf8_lossy place.text))
-    (member (codes "range") (range_data text extent.start extent.end)
-    (member (codes "selectionRange") (name_range text place) no_members)))))
+symbol_data text place extent inside =
+    symbol_with (utf8_lossy place.text) (symbol_kind place.kind) (range_data text extent.start extent.end)
+    (name_range text place) inside
 
 -- an integer: its declaration is its name
 abbrev pub own_extent : Place → Extent

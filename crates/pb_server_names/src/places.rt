@@ -91,7 +91,24 @@ pub fn references_value(
     Ok(Value::Array(list))
 }
 
+/// Appends the edit that writes a new name at a place.
+fn add_edit(
+    alloc: Global,
+    out: &mut Vec<Value>,
+    text: &[u8],
+    new_name: &str,
+    one: &Place<'_>,
+) -> Result<(), NoMemory>
+    ensures { OnOk result (map view out.new.items
+        ≡ map view out.old.items ++ edit_data text.now new_name.now (place one.now) ∷ []) }
+{
+    let edit = edit_value(alloc, text, new_name, one)?;
+    out.push(edit)?;
+    Ok(())
+}
+
 /// Returns the edits that write a new name at some places.
+#[tactic(auto, using(crate::proofs::Kept::mapped_more))]
 fn edits(
     alloc: Global,
     text: &[u8],
@@ -103,8 +120,7 @@ fn edits(
 {
     let mut list = Vec::new(alloc);
     for one in found {
-        let edit = edit_value(alloc, text, new_name, one)?;
-        list.push(edit)?;
+        add_edit(alloc, &mut list, text, new_name, one)?;
     }
     Ok(list)
 }
@@ -118,6 +134,7 @@ fn changes_value(alloc: Global, uri: &str, edits: Vec<Value>) -> Result<Value, A
 
 /// Returns the edits by which the name of a place of a text becomes another one; null without a place, or if the new
 /// name is none of the language, or taken.
+#[tactic(auto, using(crate::proofs::Renames::renames))]
 pub fn rename_value(
     alloc: Global,
     uri: &str,
@@ -137,7 +154,8 @@ pub fn rename_value(
             let edits = edits(alloc, text, new_name, &found)?;
             Ok(changes_value(alloc, uri, edits)?)
         }
-        Err(RenameFault::NotAName | RenameFault::Taken) => Ok(Value::Null),
+        Err(RenameFault::NotAName) => Ok(Value::Null),
+        Err(RenameFault::Taken) => Ok(Value::Null),
         Err(RenameFault::NoMemory) => Err(NoMemory),
     }
 }

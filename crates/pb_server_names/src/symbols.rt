@@ -11,7 +11,7 @@ use pb_base::NoMemory;
 use pb_lexer::Token;
 use pb_outline::{Extent, Kind, Outline, Place, extent_of};
 use serde_json::{Value, json};
-use std::alloc::Global;
+use std::alloc::{AllocError, Global};
 
 /// Returns the number of a kind.
 fn symbol_kind(kind: Kind) -> u64
@@ -22,6 +22,21 @@ fn symbol_kind(kind: Kind) -> u64
         Kind::Process => 12,
         Kind::Integer(_) => 13,
     }
+}
+
+/// Returns a symbol, with where it is declared, where its name is, and what is declared inside.
+fn symbol_with(
+    alloc: Global,
+    name: &str,
+    kind: u64,
+    range: Value,
+    own: Value,
+    inside: Vec<Value>,
+) -> Result<Value, AllocError>
+    ensures { IfOk result (λ v. view v
+        ≡ spec.symbol_with name.now kind (view range) (view own) (map view inside.items)) }
+{
+    json!(in alloc; {"name": name, "kind": kind, "range": range, "selectionRange": own, "children": inside})
 }
 
 /// Returns a name that is declared in a part of a text, with what is declared inside.
@@ -39,9 +54,7 @@ fn symbol_value(
     let kind = symbol_kind(one.kind);
     let range = range_value(alloc, text, extent.start, extent.end)?;
     let own = name_range(alloc, text, one)?;
-    Ok(
-        json!(in alloc; {"name": name, "kind": kind, "range": range, "selectionRange": own, "children": inside})?,
-    )
+    Ok(symbol_with(alloc, &name, kind, range, own, inside)?)
 }
 
 /// Returns whether a place declares an integer of a process.
