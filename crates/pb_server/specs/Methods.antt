@@ -16,7 +16,9 @@ query_or m other =
     (cond (bytes_eq m (codes "textDocument/rename")) (methods.Query queries.Rename)
     (cond (bytes_eq m (codes "textDocument/documentSymbol")) (methods.Query queries.Symbols)
     (cond (bytes_eq m (codes "textDocument/completion")) (methods.Query queries.Completion)
-    (cond (bytes_eq m (codes "textDocument/codeAction")) (methods.Query queries.Actions) other))))))
+    (cond (bytes_eq m (codes "textDocument/codeAction")) (methods.Query queries.Actions)
+    (cond (bytes_eq m (codes "textDocument/hover")) (methods.Query queries.Hover)
+    (cond (bytes_eq m (codes "textDocument/inlayHint")) (methods.Query queries.Hints) other))))))))
 
 -- what a request asks for
 abbrev pub method_of : List ℕ → Method

@@ -64,11 +64,13 @@ able_data = object (member (codes "codeActionProvider") (boolean true)
     (member (codes "completionProvider") (object no_members)
     (member (codes "definitionProvider") (boolean true)
     (member (codes "documentSymbolProvider") (boolean true)
+    (member (codes "hoverProvider") (boolean true)
+    (member (codes "inlayHintProvider") (boolean true)
     (member (codes "positionEncoding") (string (codes "utf-16"))
     (member (codes "referencesProvider") (boolean true)
     (member (codes "renameProvider") (boolean true)
     (member (codes "textDocumentSync") (object (member (codes "change") (number (unsigned 1))
-    (member (codes "openClose") (boolean true) no_members))) no_members))))))))
+    (member (codes "openClose") (boolean true) no_members))) no_members))))))))))
 
 abbrev pub capabilities_data : Data
 capabilities_data = object (member (codes "capabilities") able_data

@@ -59,6 +59,10 @@ fn query_of(method: &str) -> Method
         Method::Query(Query::Completion)
     } else if is(method, "textDocument/codeAction") {
         Method::Query(Query::Actions)
+    } else if is(method, "textDocument/hover") {
+        Method::Query(Query::Hover)
+    } else if is(method, "textDocument/inlayHint") {
+        Method::Query(Query::Hints)
     } else {
         Method::Unknown
     }

@@ -17,4 +17,8 @@ pub enum Query {
     Completion,
     /// Edits that mend the text.
     Actions,
+    /// What stands at a position, in words.
+    Hover,
+    /// What is shown behind names of the text.
+    Hints,
 }

@@ -142,7 +142,9 @@ fn able(alloc: Global) -> Result<Value, AllocError>
         "renameProvider": true,
         "documentSymbolProvider": true,
         "completionProvider": {},
-        "codeActionProvider": true
+        "codeActionProvider": true,
+        "hoverProvider": true,
+        "inlayHintProvider": true
     })
 }
 

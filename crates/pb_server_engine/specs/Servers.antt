@@ -18,6 +18,7 @@ use Rattle.pb_server.specs.Founds.{FoundData, refused, result}
 use Rattle.pb_server.specs.declared.query.Query.TheVariants as queries
 use Rattle.pb_server.specs.declared.session.Phase.{Phase}
 use Rattle.pb_server.specs.declared.session.Phase.TheVariants as phases
+use Rattle.pb_server_claims.specs.Answers.{AnswersHints, AnswersHover}
 use Rattle.pb_server_texts.specs.Answers.{AnswersCompletion, AnswersDefinition, AnswersReferences, AnswersRename, AnswersSymbols}
 
 -- ---- the language
@@ -53,6 +54,8 @@ Finds queries.Rename uri text params found = (d : Data) × AnswersRename uri tex
 Finds queries.Symbols uri text params found = FindsOneOf (AnswersSymbols text) found
 Finds queries.Completion uri text params found = FindsOneOf (AnswersCompletion text params) found
 Finds queries.Actions uri text params found = FindsOneOf (AnswersActions uri text) found
+Finds queries.Hover uri text params found = FindsOneOf (AnswersHover text params) found
+Finds queries.Hints uri text params found = FindsOneOf (AnswersHints text) found
 
 -- ---- a conversation
 

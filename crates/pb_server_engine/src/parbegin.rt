@@ -9,6 +9,7 @@ ghost use Rattle.pb_server_engine.specs.Servers.{AnswersDiagnostic, Diagnoses as
 use pb_base::NoMemory;
 use pb_diagnostics::{actions, diagnostics};
 use pb_server::{Found, Language, Query};
+use pb_server_claims::{answer_hints, answer_hover};
 use pb_server_texts::{answer_completion, answer_definition, answer_references, answer_rename, answer_symbols};
 use serde_json::{Value, json};
 use std::alloc::{AllocError, Global};
@@ -72,6 +73,8 @@ impl Language for Parbegin {
             Query::Symbols => answer_symbols(alloc, text)?,
             Query::Completion => answer_completion(alloc, text, params)?,
             Query::Actions => actions(alloc, uri, text.as_bytes())?,
+            Query::Hover => answer_hover(alloc, text, params)?,
+            Query::Hints => answer_hints(alloc, text)?,
         };
         Ok(Found::Result(value))
     }

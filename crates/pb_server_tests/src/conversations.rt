@@ -35,7 +35,7 @@ const CASES: [Case; 4] = [
             "{\"jsonrpc\":\"2.0\",\"id\":7,\"method\":\"shutdown\"}",
         ],
         said: &[
-            "{\"id\":1,\"jsonrpc\":\"2.0\",\"result\":{\"capabilities\":{\"codeActionProvider\":true,\"completionProvider\":{},\"definitionProvider\":true,\"documentSymbolProvider\":true,\"positionEncoding\":\"utf-16\",\"referencesProvider\":true,\"renameProvider\":true,\"textDocumentSync\":{\"change\":1,\"openClose\":true}},\"serverInfo\":{\"name\":\"parbegin\"}}}",
+            "{\"id\":1,\"jsonrpc\":\"2.0\",\"result\":{\"capabilities\":{\"codeActionProvider\":true,\"completionProvider\":{},\"definitionProvider\":true,\"documentSymbolProvider\":true,\"hoverProvider\":true,\"inlayHintProvider\":true,\"positionEncoding\":\"utf-16\",\"referencesProvider\":true,\"renameProvider\":true,\"textDocumentSync\":{\"change\":1,\"openClose\":true}},\"serverInfo\":{\"name\":\"parbegin\"}}}",
             "{\"jsonrpc\":\"2.0\",\"method\":\"textDocument/publishDiagnostics\",\"params\":{\"diagnostics\":[{\"code\":\"N3\",\"message\":\"integer y is not declared in process a\\nhint: add it to the integers that the process declares\",\"range\":{\"end\":{\"character\":8,\"line\":3},\"start\":{\"character\":7,\"line\":3}},\"relatedInformation\":[],\"severity\":1,\"source\":\"parbegin\"}],\"uri\":\"file:///a.pb\",\"version\":1}}",
             "{\"id\":\"two\",\"jsonrpc\":\"2.0\",\"result\":{\"items\":[{\"code\":\"N3\",\"message\":\"integer y is not declared in process a\\nhint: add it to the integers that the process declares\",\"range\":{\"end\":{\"character\":8,\"line\":3},\"start\":{\"character\":7,\"line\":3}},\"relatedInformation\":[],\"severity\":1,\"source\":\"parbegin\"}],\"kind\":\"full\"}}",
             "{\"jsonrpc\":\"2.0\",\"method\":\"textDocument/publishDiagnostics\",\"params\":{\"diagnostics\":[],\"uri\":\"file:///a.pb\",\"version\":2}}",
@@ -72,7 +72,7 @@ const CASES: [Case; 4] = [
         ],
         said: &[
             "{\"error\":{\"code\":-32002,\"message\":\"the server is not initialized\"},\"id\":1,\"jsonrpc\":\"2.0\"}",
-            "{\"id\":2,\"jsonrpc\":\"2.0\",\"result\":{\"capabilities\":{\"codeActionProvider\":true,\"completionProvider\":{},\"definitionProvider\":true,\"documentSymbolProvider\":true,\"positionEncoding\":\"utf-16\",\"referencesProvider\":true,\"renameProvider\":true,\"textDocumentSync\":{\"change\":1,\"openClose\":true}},\"serverInfo\":{\"name\":\"parbegin\"}}}",
+            "{\"id\":2,\"jsonrpc\":\"2.0\",\"result\":{\"capabilities\":{\"codeActionProvider\":true,\"completionProvider\":{},\"definitionProvider\":true,\"documentSymbolProvider\":true,\"hoverProvider\":true,\"inlayHintProvider\":true,\"positionEncoding\":\"utf-16\",\"referencesProvider\":true,\"renameProvider\":true,\"textDocumentSync\":{\"change\":1,\"openClose\":true}},\"serverInfo\":{\"name\":\"parbegin\"}}}",
             "{\"error\":{\"code\":-32600,\"message\":\"the server is initialized already\"},\"id\":3,\"jsonrpc\":\"2.0\"}",
             "{\"error\":{\"code\":-32601,\"message\":\"this method is not known\"},\"id\":4,\"jsonrpc\":\"2.0\"}",
             "{\"error\":{\"code\":-32700,\"message\":\"this is not JSON\"},\"id\":null,\"jsonrpc\":\"2.0\"}",
@@ -99,7 +99,7 @@ const CASES: [Case; 4] = [
             "{\"jsonrpc\":\"2.0\",\"id\":9,\"method\":\"textDocument/codeAction\",\"params\":{\"textDocument\":{\"uri\":\"file:///a.pb\"},\"range\":{\"start\":{\"line\":0,\"character\":0},\"end\":{\"line\":0,\"character\":0}},\"context\":{\"diagnostics\":[]}}}",
         ],
         said: &[
-            "{\"id\":1,\"jsonrpc\":\"2.0\",\"result\":{\"capabilities\":{\"codeActionProvider\":true,\"completionProvider\":{},\"definitionProvider\":true,\"documentSymbolProvider\":true,\"positionEncoding\":\"utf-16\",\"referencesProvider\":true,\"renameProvider\":true,\"textDocumentSync\":{\"change\":1,\"openClose\":true}},\"serverInfo\":{\"name\":\"parbegin\"}}}",
+            "{\"id\":1,\"jsonrpc\":\"2.0\",\"result\":{\"capabilities\":{\"codeActionProvider\":true,\"completionProvider\":{},\"definitionProvider\":true,\"documentSymbolProvider\":true,\"hoverProvider\":true,\"inlayHintProvider\":true,\"positionEncoding\":\"utf-16\",\"referencesProvider\":true,\"renameProvider\":true,\"textDocumentSync\":{\"change\":1,\"openClose\":true}},\"serverInfo\":{\"name\":\"parbegin\"}}}",
             "{\"jsonrpc\":\"2.0\",\"method\":\"textDocument/publishDiagnostics\",\"params\":{\"diagnostics\":[],\"uri\":\"file:///a.pb\",\"version\":1}}",
             "{\"id\":2,\"jsonrpc\":\"2.0\",\"result\":{\"range\":{\"end\":{\"character\":25,\"line\":1},\"start\":{\"character\":24,\"line\":1}},\"uri\":\"file:///a.pb\"}}",
             "{\"id\":3,\"jsonrpc\":\"2.0\",\"result\":null}",
@@ -122,7 +122,7 @@ const CASES: [Case; 4] = [
             "{\"jsonrpc\":\"2.0\",\"method\":\"textDocument/didChange\",\"params\":{\"textDocument\":{\"uri\":\"file:///b.pb\",\"version\":2},\"contentChanges\":[{\"text\":\"\"}]}}",
         ],
         said: &[
-            "{\"id\":1,\"jsonrpc\":\"2.0\",\"result\":{\"capabilities\":{\"codeActionProvider\":true,\"completionProvider\":{},\"definitionProvider\":true,\"documentSymbolProvider\":true,\"positionEncoding\":\"utf-16\",\"referencesProvider\":true,\"renameProvider\":true,\"textDocumentSync\":{\"change\":1,\"openClose\":true}},\"serverInfo\":{\"name\":\"parbegin\"}}}",
+            "{\"id\":1,\"jsonrpc\":\"2.0\",\"result\":{\"capabilities\":{\"codeActionProvider\":true,\"completionProvider\":{},\"definitionProvider\":true,\"documentSymbolProvider\":true,\"hoverProvider\":true,\"inlayHintProvider\":true,\"positionEncoding\":\"utf-16\",\"referencesProvider\":true,\"renameProvider\":true,\"textDocumentSync\":{\"change\":1,\"openClose\":true}},\"serverInfo\":{\"name\":\"parbegin\"}}}",
             "{\"jsonrpc\":\"2.0\",\"method\":\"textDocument/publishDiagnostics\",\"params\":{\"diagnostics\":[{\"code\":\"N3\",\"message\":\"integer y is not declared in process a\\nhint: add it to the integers that the process declares\",\"range\":{\"end\":{\"character\":8,\"line\":3},\"start\":{\"character\":7,\"line\":3}},\"relatedInformation\":[],\"severity\":1,\"source\":\"parbegin\"}],\"uri\":\"file:///a.pb\",\"version\":1}}",
             "{\"jsonrpc\":\"2.0\",\"method\":\"textDocument/publishDiagnostics\",\"params\":{\"diagnostics\":[],\"uri\":\"file:///b.pb\",\"version\":1}}",
             "{\"jsonrpc\":\"2.0\",\"method\":\"textDocument/publishDiagnostics\",\"params\":{\"diagnostics\":[],\"uri\":\"file:///a.pb\"}}",

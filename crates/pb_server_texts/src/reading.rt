@@ -16,7 +16,7 @@ use pb_tree::Program;
 use std::alloc::Global;
 
 /// Returns the tokens of a text, if it has tokens within the limits. The error comes only if `alloc` is out of memory.
-pub(crate) fn tokens_of<'t>(
+pub fn tokens_of<'t>(
     alloc: Global,
     text: &'t [u8],
 ) -> Result<Option<Vec<Token<'t>>>, NoMemory>
@@ -33,7 +33,7 @@ pub(crate) fn tokens_of<'t>(
 
 /// Returns the tree that tokens are, if they are one within the limits. The error comes only if `alloc` is out of memory.
 #[tactic(auto, using(crate::proofs::ReadTexts::no_small_tree))]
-pub(crate) fn tree_of(
+pub fn tree_of(
     alloc: Global,
     given: &[Token<'_>],
 ) -> Result<Option<Program<Global>>, NoMemory>
