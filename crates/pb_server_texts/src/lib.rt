@@ -5,6 +5,7 @@
 mod reading;
 mod requests;
 
+pub use reading::{tokens_of, tree_of};
 pub use requests::{
     answer_completion, answer_definition, answer_references, answer_rename, answer_symbols,
 };
