@@ -1,0 +1,4 @@
+//! Tests of what is shown of a text.
+#![tactic(auto)]
+
+mod requests;

@@ -1,0 +1,4 @@
+pub mod Each
+pub mod Lookups
+pub mod Readings
+pub mod FloatFree

@@ -1,0 +1,7 @@
+use Rattle.pb_codegen.proofs.TextOutcomes.{complete}
+use Rattle.pb_tree.specs.View.{program_view}
+use Rattle.pb_server_claims.proofs.numbered.number_tree.Goals as goal
+
+pub resolve-requires : goal.resolve-requires
+resolve-requires c =
+    complete c.requires.0 c.requires.1 (program_view c.args.tree.now) c.requires.2.cut c.requires.2.tree_of.read

@@ -1,0 +1,15 @@
+//! What a language server shows of a text beside the names: what stands at a position, and the claims of each process
+//! behind its name.
+#![tactic(auto)]
+
+mod hints;
+mod hover;
+mod named;
+mod numbered;
+mod ranges;
+mod reading;
+mod requests;
+mod said;
+mod words;
+
+pub use requests::{answer_hints, answer_hover};
