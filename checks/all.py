@@ -53,6 +53,7 @@ SLOW = (
     f"checks/memory_use.py {PROGRAM}",
     f"checks/page.py {PROGRAM}",
     f"checks/clients.py {PROGRAM}",
+    f"checks/adapter_sessions.py {PROGRAM}",
     "checks/package.py",
 )
 SETS = {"quick": QUICK, "slow": SLOW}

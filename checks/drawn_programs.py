@@ -122,4 +122,5 @@ def main():
     tally.end("drawn programs")
 
 
-main()
+if __name__ == "__main__":
+    main()

@@ -21,6 +21,7 @@ from calls import TOP, WORDS, Tally, call, installed
 LEXER = TOP / "crates/pb_lexer/src/words.rt"
 VIM = TOP / "extras/vim/syntax/parbegin.vim"
 GRAMMAR = TOP / "extras/vscode/syntaxes/parbegin.tmLanguage.json"
+SNIPPETS = TOP / "extras/vscode/snippets/parbegin.json"
 BASH = TOP / "extras/completion/parbegin.bash"
 FISH = TOP / "extras/completion/parbegin.fish"
 MANUAL = TOP / "docs/parbegin.1"
@@ -142,6 +143,16 @@ def try_vim(tally, folder, script):
     tally.expect(is_found, "vim does not find the place of a refusal")
 
 
+def try_snippets(tally):
+    """Checks the text of each snippet of VS Code, with the words that it proposes."""
+    whole = {"process": "%s\n", "resource": "%s\nprocess p begin skip end\n"}
+    for name, snippet in json.loads(SNIPPETS.read_text()).items():
+        proposed = re.sub(r"\$\{\d:([^}]*)\}", r"\1", "\n".join(snippet["body"]))
+        text = whole.get(name, "resource name = 1;\nprocess p\nbegin\ninteger x;\n%s\nend\n") % proposed
+        status, said = call(["check"], text.encode())
+        tally.expect(status == 0, "the snippet", name, said)
+
+
 def try_editors(tally):
     """Tries completion, and the editors that are there."""
     with tempfile.TemporaryDirectory() as name:
@@ -174,6 +185,7 @@ def main():
     for file, options in BEFORE.items():
         for option in options:
             tally.expect(option in file.read_text(), f"{file.name}: {option}")
+    try_snippets(tally)
     try_editors(tally)
     print(f"{len(words)} reserved words, {len(wanted)} commands")
     tally.end("editors")

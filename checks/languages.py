@@ -23,10 +23,12 @@ EXTRAS = TOP / "extras"
 TESTS = TOP / "checks" / "languages"
 C_FLAGS = ("-std=gnu11", "-O2", "-Wall", "-Wextra", "-Werror", "-pthread")
 PLAN = TOP / "examples" / "devices.pb"
-# What a call is compared on: words, and a text.
+# What a call is compared on: words, and a text, or several with lines %% between them.
 CALLS = (
     (["check"], "examples/devices.pb"),
     (["claims"], "examples/devices.pb"),
+    (["plan"], "examples/devices.pb"),
+    (["plan"], "examples/9-plan/copies.pb examples/9-plan/lists.pb"),
     (["emit"], "examples/devices.pb"),
     (["outcomes"], "examples/devices.pb"),
     (["outcomes", "--lend=cash"], "examples/devices.pb"),
@@ -130,14 +132,14 @@ def in_python(library: Path, _room: Path) -> None:
 def calls_as_the_program(library: Path, room: Path, program: Path) -> None:
     """Each call writes what the program writes, with its status."""
     caller = compiled(TESTS / "call.c", library, room)
-    for words, name in CALLS:
-        text = (TOP / name).read_bytes()
+    for words, names in CALLS:
+        text = b"%%\n".join((TOP / name).read_bytes() for name in names.split())
         ran = [
             subprocess.run([it, *words], input=text, stdout=subprocess.PIPE, stderr=subprocess.DEVNULL, check=False)
             for it in (caller, program)
         ]
         if (ran[0].returncode, ran[0].stdout) != (ran[1].returncode, ran[1].stdout):
-            raise Wrong(f"{' '.join(words)} of {name}: the library does not write what the program writes")
+            raise Wrong(f"{' '.join(words)} of {names}: the library does not write what the program writes")
 
 
 def through_pipes(program: Path) -> None:

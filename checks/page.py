@@ -295,12 +295,14 @@ def look_at_dead_run(tally: Tally, it: Any, folder: Path) -> None:
     tally.expect("banker" not in it.js("$('processes').textContent"), path.name, "the banker is told of by the cash alone")
 
 
-def look_at_no_text(tally: Tally, it: Any, path: Path) -> None:
-    """A program of which only the object is there has its instructions in the place of its text."""
-    page = path.read_text(encoding="utf-8")
-    bare = path.with_name(f"bare-{path.name}")
-    bare.write_text(re.sub(r'"text":"(?:[^"\\]|\\.)*"', '"text":""', page), encoding="utf-8")
+def look_at_no_text(tally: Tally, it: Any, folder: Path) -> None:
+    """An object with picks has its instructions in the place of a text, and the run alone."""
+    text = (TOP / "examples/lost.pb").read_bytes()
+    _, recorded = call(["record", "--seed", "3"], text)
+    _, spelled = call(["emit"], text)
+    bare, _ = write_page(folder, "bare", spelled + b"%%\n" + recorded.partition(b"\n%%\n")[2])
     it.open(bare, "step=2")
+    tally.expect(it.js("views.length") == 1, bare.name, "there is more than a run")
     tally.expect("no source text" in it.js("$('source').textContent"), bare.name, "that there is no text is not said")
     marked = it.js("""[...document.querySelectorAll("#lines .here")].map((it) =>
       [it.querySelector("code").textContent.trim().split(/ +/)[0], it.querySelector(".chip").textContent])""")
@@ -352,7 +354,7 @@ def look_at_all(tally: Tally, it: Any, folder: Path, examples: tuple[str, ...] =
     look_at_drawing(tally, it, *write_page(folder, "customers", (TOP / "examples/customers.pb").read_bytes()))
     look_at_deadlock(tally, it, folder / "devices.html")
     look_at_dead_run(tally, it, folder)
-    look_at_no_text(tally, it, folder / "lost.html")
+    look_at_no_text(tally, it, folder)
     look_at_tabs(tally, it, folder / "devices.html")
     look_at_too_late(tally, it, folder)
     look_at_looks(tally, it, folder / "devices.html")

@@ -81,7 +81,7 @@ def looks(it: Browser, folder: Path) -> Iterator[Callable[[Tally], None]]:
     yield lambda tally: page.look_at_deadlock(tally, it, made["devices"][0])
     yield lambda tally: page.look_at_dead_run(tally, it, folder)
     yield lambda tally: page.look_at_drawing(tally, it, *made["customers"])
-    yield lambda tally: page.look_at_no_text(tally, it, made["lost"][0])
+    yield lambda tally: page.look_at_no_text(tally, it, folder)
     yield lambda tally: page.look_at_tabs(tally, it, made["devices"][0])
     yield lambda tally: page.look_at_too_late(tally, it, folder)
     for path, text in made.values():

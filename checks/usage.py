@@ -12,7 +12,7 @@ import shutil
 import subprocess
 import tempfile
 
-from calls import DEVICE, DONE, LIMIT, REFUSED, TOP, WORDS, Tally, installed
+from calls import DEVICE, DONE, FAULT, LIMIT, REFUSED, TOP, WORDS, Tally, installed
 
 # The words of a call, its status, and what standard output and standard error must have: a part of it, or none.
 CALLS = [
@@ -54,6 +54,9 @@ CALLS = [
     (["--quiet", "exec", "hello.pb"], REFUSED, "refused O1 at 0", None),
     (["run", "--steps", "2", "hello.pb"], LIMIT, "limit 2\n", "--steps N allows N steps"),
     (["--quiet", "run", "--steps", "2", "hello.pb"], LIMIT, "limit 2\n", None),
+    (["run", "fault.pb"], FAULT, "broken.2 fault divide\n", "`parbegin record FILE > my.run`"),
+    (["--quiet", "run", "fault.pb"], FAULT, "broken.2 fault divide\n", None),
+    (["--json", "run", "fault.pb"], FAULT, '"fault":"divide"', "`parbegin record FILE > my.run`"),
     (["outcomes", "--states", "1", "hello.pb"], LIMIT, "there may be others\n", "--states N allows N configurations"),
     (["--json", "run", "hello.pb"], DONE, '"value":1}\n', None),
     (["--json", "check", "hello.pb"], DONE, '{"kind":"ok"}\n', None),
@@ -73,7 +76,7 @@ def fits(told: str, wanted: str | None) -> bool:
 
 def fill(folder: pathlib.Path) -> None:
     """Puts files of the examples into a folder, and some with names that are also words."""
-    for name in ("hello.pb", "lost.pb", "lost.run", "6-objects/sum.pbo"):
+    for name in ("hello.pb", "lost.pb", "lost.run", "1-arms/fault.pb", "6-objects/sum.pbo"):
         shutil.copy(TOP / "examples" / name, folder)
     hello = (folder / "hello.pb").read_bytes()
     for name in ("hello.txt", "cash", "banker", "5"):

@@ -13,10 +13,10 @@ from script.places import DEVICE, say
 
 # Commands whose words are never files.
 NO_FILES = ("explain", "help")
-# Commands that read one text, an object, and a text with picks.
+# Commands that read one text, an object, and a text with picks, but for those that read an object with picks too.
 OF_TEXTS = ("run", "claims", "plan", "emit", "record", "outcomes")
 OF_OBJECTS = ("exec", "migrate")
-OF_PICKS = ("replay", "draw", "states")
+OF_PICKS = ("replay", "draw")
 PICK = re.compile(rb"[A-Za-z]\w*\.\d+ \d+$")
 # A file of which the kind is looked for is read up to here: the longest input of the program.
 MOST_READ = 4_194_304
@@ -116,6 +116,8 @@ def advice(command: str, name: str, given: bytes) -> str | None:
     """Returns which command reads this, if this one can't."""
     parts = parts_of(given)
     if is_object(given) and command in (*OF_TEXTS, *OF_PICKS, "check"):
+        if len(parts) > 1:
+            return f"{name} is an object with picks: debug and states read it"
         return f"{name} is an object: exec runs it, and debug and migrate read it"
     if command in OF_TEXTS and len(parts) > 1 and has_picks(parts):
         return f"{name} has picks behind a line %%: replay makes them, and debug and draw read them"

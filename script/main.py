@@ -14,7 +14,7 @@ from script.program import program, record_of_gate
 AWAITED = {
     "check": "texts, with lines %% between them", "plan": "a text, or several with lines %% between them", "exec": "an object", "migrate": "an object",
     "replay": "a text, a line %% and pick lines", "draw": "a text, a line %% and pick lines",
-    "debug": "a text, a line %%, pick lines, a line %% and commands", "states": "a text, a line %% and pick lines",
+    "debug": "a text, a line %%, pick lines, a line %% and commands", "states": "a text or an object, a line %% and pick lines",
     "bank": "commands, of which help lists all", "dap": "messages of the Debug Adapter Protocol",
     "lsp": "messages of the Language Server Protocol",
 }

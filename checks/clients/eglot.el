@@ -33,6 +33,37 @@
                 (list (line-number-at-pos) (- begin (line-beginning-position)) (- (flymake-diagnostic-end one) begin)))))
           (flymake-diagnostics)))
 
+(defun line-of (number)
+  (save-excursion
+    (goto-char (point-min))
+    (forward-line number)
+    (buffer-substring-no-properties (line-beginning-position) (line-end-position))))
+
+(defun take-action ()
+  "Takes the action that declares y."
+  (goto-char (point-min))
+  (search-forward "x := y")
+  (let* ((place (list :line 3 :character 30))
+         (actions (jsonrpc-request (eglot--current-server-or-lose) :textDocument/codeAction
+                                   (list :textDocument (eglot--TextDocumentIdentifier)
+                                         :range (list :start place :end place)
+                                         :context (list :diagnostics [])))))
+    (check "the action that mends the text" (mapcar (lambda (a) (plist-get a :title)) actions) '("declare integer y"))
+    (eglot--apply-workspace-edit (plist-get (aref actions 0) :edit))
+    (check "the text that it leaves" (line-of 3)
+           "begin integer x, y; x := 1; x := y + 1; hold 1 of tape do skip od end")))
+
+(defun ask-names ()
+  "Asks where y is declared, and gives it another name."
+  (goto-char (point-min))
+  (search-forward "x := y")
+  (backward-char 1)
+  (let ((found (xref-backend-definitions 'eglot "LSP identifier at point.")))
+    (check "where y is declared" (mapcar (lambda (one) (xref-location-line (xref-item-location one))) found) '(4)))
+  (eglot-rename "total")
+  (check "y is total now" (line-of 3)
+         "begin integer x, total; x := 1; x := total + 1; hold 1 of tape do skip od end"))
+
 (let ((file (expand-file-name (car command-line-args-left))))
   (setq command-line-args-left nil)
   (with-current-buffer (find-file-noselect file)
@@ -43,13 +74,11 @@
       (flymake-start)
       (wait-until "diagnostics of the first text" (lambda () (flymake-diagnostics)))
       (check "the refusal at its range" (shown) '((4 30 1)))
-      (goto-char (point-min))
-      (search-forward "x := y")
-      (delete-char -1)
-      (insert "x")
+      (take-action)
       (eglot--signal-textDocument/didChange)
       (wait-until "diagnostics of the mended text" (lambda () (null (flymake-diagnostics))))
       (check "none behind the mend" (shown) nil)
+      (ask-names)
       (eglot-shutdown (eglot--current-server-or-lose))
       (set-buffer-modified-p nil)))
   (kill-emacs (if (= wrong 0) 0 1)))

@@ -30,6 +30,50 @@ local function diagnostics()
   end, vim.diagnostic.get(buffer))
 end
 
+local function line(number)
+  return vim.api.nvim_buf_get_lines(buffer, number, number + 1, false)[1]
+end
+
+-- what the server answers to a request at a byte of a line
+local function ask(method, row, column, more)
+  vim.api.nvim_win_set_cursor(0, { row + 1, column })
+  local params = vim.tbl_extend("force", vim.lsp.util.make_position_params(0, "utf-16"), more or {})
+  local answers = vim.lsp.buf_request_sync(buffer, method, params, 10000) or {}
+  for _, answer in pairs(answers) do
+    return answer.result
+  end
+end
+
+local function labels(items)
+  return vim.tbl_map(function(item) return item.label or item.name end, items or {})
+end
+
+-- the action that declares y, as a person takes it
+local function take_action()
+  local range = { start = { line = 3, character = 30 }, ["end"] = { line = 3, character = 31 } }
+  local actions = ask("textDocument/codeAction", 3, 30, { range = range, context = { diagnostics = {} } }) or {}
+  check("the action that mends the text", vim.tbl_map(function(a) return a.title end, actions), { "declare integer y" })
+  if actions[1] then
+    vim.lsp.util.apply_workspace_edit(actions[1].edit, "utf-16")
+  end
+  check("the text that it leaves", line(3), "begin integer x, y; x := 1; x := y + 1; hold 1 of tape do skip od end")
+end
+
+-- definition, references, names and a new name of y, which stands at bytes 17 and 33 of its line
+local function ask_names()
+  local found = ask("textDocument/definition", 3, 33) or {}
+  check("where y is declared", (found.range or {}).start, { line = 3, character = 17 })
+  local places = ask("textDocument/references", 3, 33, { context = { includeDeclaration = true } }) or {}
+  check("where y stands", vim.tbl_map(function(l) return l.range.start.character end, places), { 17, 33 })
+  check("what is declared", labels(ask("textDocument/documentSymbol", 0, 0)), { "tape", "a", "b" })
+  local offered = labels(ask("textDocument/completion", 3, 33))
+  check("names that may be written", { offered[1], offered[2], offered[3] }, { "tape", "x", "y" })
+  vim.api.nvim_win_set_cursor(0, { 4, 33 })
+  vim.lsp.buf.rename("total")
+  wait_for("the new name", function() return line(3):find("total") end)
+  check("y is total now", line(3), "begin integer x, total; x := 1; x := total + 1; hold 1 of tape do skip od end")
+end
+
 local function run()
   buffer = vim.api.nvim_get_current_buf()
   local client = vim.lsp.start_client({
@@ -48,10 +92,10 @@ local function run()
   check("the refusal at its range", diagnostics(), { { 3, 30, 3, 31, "N3" } })
   local message = (vim.diagnostic.get(buffer)[1] or {}).message or ""
   check("its words", vim.split(message, "\n")[1], "integer y is not declared in process a")
-  -- the mend, as a person types it
-  vim.api.nvim_buf_set_text(buffer, 3, 30, 3, 31, { "x" })
+  take_action()
   wait_for("diagnostics of the mended text", function() return heard >= 2 end)
   check("none behind the mend", diagnostics(), {})
+  ask_names()
   for i = 1, 50 do
     vim.api.nvim_buf_set_lines(buffer, 0, -1, false, { "// " .. string.rep("x", 60 * i) })
   end

@@ -34,6 +34,13 @@ int main(void) {
     expect("its bytes", (unsigned long)memcmp(reply, "refused N3 at 22\n", needed), 0);
     expect("claims", pb_claims(text, length, reply, 0, &needed), 1);
     expect("claims too", needed, strlen("refused N3 at 22\n"));
+    /* two texts, which are one program: the second declares the resource with another capital */
+    const uint8_t *texts = (const uint8_t *)"resource r = 1; process p begin hold 1 of r do skip od end\n%%\n"
+                                            "resource r = 2; process q begin hold 1 of r do skip od end\n";
+    const char *clash = "text 2 refused N2 at 9\n";
+    expect("plan", pb_plan(texts, strlen((const char *)texts), reply, sizeof reply, &needed), 1);
+    expect("plan too", needed, strlen(clash));
+    expect("of two texts", (unsigned long)memcmp(reply, clash, needed), 0);
     if (!fails) printf("well\n");
     return fails != 0;
 }

@@ -33,7 +33,7 @@ _parbegin() {
         mapfile -t COMPREPLY < <(compgen -W "text gcc json sarif" -- "$word")
         return
         ;;
-    --jobs | --heap | --workers | --quantum | --steps | --seed | --states | --rows | --from)
+    --jobs | --heap | --workers | --quantum | --steps | --seed | --states | --rows | --from | --width | --scale)
         return
         ;;
     esac
@@ -42,7 +42,7 @@ _parbegin() {
     check) options="--heap --format --jobs" ;;
     claims) options="" ;;
     debug) options="--live --lend" ;;
-    draw) options="--lend" ;;
+    draw) options="--lend --width --scale" ;;
     emit) options="--object" ;;
     exec) options="--workers --quantum --steps" ;;
     explain)

@@ -31,6 +31,7 @@ NAMES = (
     "pb_call",
     "pb_check",
     "pb_claims",
+    "pb_plan",
 )
 VERSION = "0.1.0"
 

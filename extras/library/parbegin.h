@@ -120,9 +120,11 @@ typedef struct pb_word {
 PB_NONNULL uint8_t pb_call(const pb_word *words, size_t count, const uint8_t *input, size_t length, uint8_t *output,
                            size_t room, size_t *needed);
 
-/* What `parbegin check` and `parbegin claims` write of a text, without the reading of words. */
+/* What `parbegin check`, `parbegin claims` and `parbegin plan` write of a text, without the reading of words. `check` and
+ * `plan` take several texts, with lines %% between them: `plan` as one program, whose processes run beside one another. */
 PB_NONNULL uint8_t pb_check(const uint8_t *text, size_t length, uint8_t *output, size_t room, size_t *needed);
 PB_NONNULL uint8_t pb_claims(const uint8_t *text, size_t length, uint8_t *output, size_t room, size_t *needed);
+PB_NONNULL uint8_t pb_plan(const uint8_t *texts, size_t length, uint8_t *output, size_t room, size_t *needed);
 
 #ifdef __cplusplus
 }

@@ -4,11 +4,12 @@
     make_page.py PROGRAM[,WORD ..] [--seed N] [--lend WHO] [--from I] [--rows N] [--states N] FILE > page.html
 
 PROGRAM is the program parbegin, with words that come before each command, if any. FILE has a text, or a text with the
-picks of a run behind a line `%%`, as `record` writes it. The program writes the data, each document as a line of JSON
-in which there is no `<` (docs/FORMATS.md, "Documents for a page"); here it is put into the template beside this file.
-Nothing of a text is looked at here, and no number is changed. The page has all schedules by the banker, and if there are
-resources those by the cash alone, if they have at most 10,000 configurations or what `--states` says. `--lend cash`
-is for the run: its picks are made by the cash alone, and of a text it is drawn, with seed 1 if no other is given.
+picks of a run behind a line `%%`, as `record` writes it; or an object in the place of a text. The program writes the
+data, each document as a line of JSON in which there is no `<` (docs/FORMATS.md, "Documents for a page"); here it is put
+into the template beside this file. Nothing of a text is looked at here, and no number is changed. The page has all
+schedules by the banker, and if there are resources those by the cash alone, if they have at most 10,000 configurations or
+what `--states` says. `--lend cash` is for the run: its picks are made by the cash alone, and of a text it is drawn, with
+seed 1 if no other is given. Of an object the page has the run of its picks alone, since `outcomes` takes a text.
 
 If the program refuses the text or the words, what it writes stands in the place of the page, with its status.
 """
@@ -64,13 +65,16 @@ def option(name: str, value: str | None) -> list[str]:
 
 def documents(program: list[str], given: bytes, options: Options) -> Iterator[tuple[str, str]]:
     """Yields the name and the JSON of each document of a page."""
-    has_picks = b"\n%%\n" in given
+    is_object = given.startswith(b"PBO ")
+    has_picks = is_object or b"\n%%\n" in given
     lend = option("--lend", options.lend)
     # (workers ask the banker: by the cash alone a run is drawn)
     seed = "1" if options.lend == "cash" and options.seed is None else options.seed
     recorded = given if has_picks else answer(program, ["record", *option("--seed", seed), *lend], given)
     words = ["states", *lend, *option("--from", options.first), *option("--rows", options.rows)]
     yield "run", answer(program, words, recorded).decode().strip()
+    if is_object:
+        return
     text = given.partition(b"\n%%\n")[0] + b"\n" if has_picks else given
     words = ["outcomes", "--graph", "--states", options.states]
     by_banker = answer(program, words, text, (DONE, LIMIT)).decode().strip()

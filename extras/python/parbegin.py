@@ -20,6 +20,7 @@ import ctypes
 import ctypes.util
 import enum
 import os
+import re
 import shutil
 import subprocess
 from collections.abc import Sequence
@@ -27,7 +28,10 @@ from ctypes import POINTER, byref, c_char_p, c_size_t, c_uint8, c_uint32
 from pathlib import Path
 from typing import NamedTuple, Protocol
 
-__all__ = ["Answer", "Bank", "Fault", "Outcome", "Reason", "Reply", "check", "claims", "outcomes", "run"]
+__all__ = [
+    "Answer", "Bank", "Claim", "Fault", "Need", "Nest", "Outcome", "Plan", "Reason", "Reply", "check", "claims", "outcomes",
+    "plan", "run",
+]
 
 MAX_JOBS = 64
 MAX_RESOURCES = 16
@@ -70,6 +74,59 @@ class Outcome(NamedTuple):
 
     events: list[str]
     end: str
+
+
+class Claim(NamedTuple):
+    """The most that a process may hold of a resource, and the lines of the holds that make it up.
+
+    `text` is the number of the text of the process, from 1.
+    """
+
+    process: str
+    text: int
+    resource: str
+    amount: int
+    lines: tuple[int, ...]
+
+
+class Need(NamedTuple):
+    """The capital of a resource; the greatest claim on it, `least`; and the sum of all claims, `free`."""
+
+    resource: str
+    capital: int
+    least: int
+    free: int
+
+
+class Nest(NamedTuple):
+    """A hold of a resource inside a hold of another one, with their lines."""
+
+    process: str
+    text: int
+    outer: str
+    outer_line: int
+    inner: str
+    inner_line: int
+
+
+class Plan(NamedTuple):
+    """What `plan` says of texts whose processes run beside one another.
+
+    `bottleneck` is the resource of which most is lacking, or None if no request ever waits. `order` is an order of the
+    resources that every process follows, so that even the cash alone cannot deadlock; or None if there is none, and then
+    `circle` has nested holds that make a circle.
+    """
+
+    claims: list[Claim]
+    needs: list[Need]
+    bottleneck: str | None
+    order: list[str] | None
+    circle: list[Nest]
+
+    @property
+    def fits(self) -> bool:
+        """Whether the capital is enough for every claim, as it must be for a program that is to run."""
+        return all(need.least <= need.capital for need in self.needs)
 
 
 NO_REQUEST = "no such job, or not an amount for each resource"
@@ -123,7 +180,14 @@ _DECLARED = {
     "pb_call": (c_uint8, POINTER(_Word), c_size_t, c_char_p, c_size_t, _BYTES, c_size_t, _SIZE),
     "pb_check": (c_uint8, c_char_p, c_size_t, _BYTES, c_size_t, _SIZE),
     "pb_claims": (c_uint8, c_char_p, c_size_t, _BYTES, c_size_t, _SIZE),
+    "pb_plan": (c_uint8, c_char_p, c_size_t, _BYTES, c_size_t, _SIZE),
 }
+# The commands that have a function of their own.
+_OF_TEXTS = ("check", "claims", "plan")
+# The lines of a plan. (Names have no digit in front, so none is taken for an amount.)
+_CLAIM_LINE = re.compile(r"(\w+)(?: of text (\d+))? claim (\d+) (\w+)(?: lines ([\d ]+))?")
+_NEED_LINE = re.compile(r"(\w+) capital (\d+) least (\d+) free (\d+)")
+_NEST_LINE = re.compile(r"(\w+)(?: of text (\d+))? holds (\w+) line (\d+) around (\w+) line (\d+)")
 
 
 def _load() -> ctypes.PyDLL | None:
@@ -479,14 +543,18 @@ def _by_program(words: Sequence[str], text: bytes) -> Reply:
     return Reply(ran.returncode, ran.stdout.decode(errors="replace"))
 
 
+def _bytes_of(text: str | bytes) -> bytes:
+    return text.encode() if isinstance(text, str) else text
+
+
 def _command(words: Sequence[str], text: str | bytes) -> Reply:
     """Does what the program does with these words and this input."""
-    given = text.encode() if isinstance(text, str) else text
+    given = _bytes_of(text)
     library = _LIBRARY
     if not library:
         return _by_program(words, given)
-    if list(words) in (["check"], ["claims"]):
-        called = library.pb_check if words[0] == "check" else library.pb_claims
+    if len(words) == 1 and words[0] in _OF_TEXTS:
+        called = getattr(library, f"pb_{words[0]}")
         return _grow(lambda output, room, needed: called(given, len(given), output, room, needed))
     spelled = [word.encode() for word in words]
     array = (_Word * len(spelled))(*[(word, len(word)) for word in spelled])
@@ -501,6 +569,36 @@ def check(text: str | bytes) -> Reply:
 def claims(text: str | bytes) -> Reply:
     """Returns what each process of a text claims of each resource, as the command `claims` writes it."""
     return _command(["claims"], text)
+
+
+def plan(*texts: str | bytes) -> Plan:
+    """Plans texts whose processes run beside one another, also if the capital is too little for a claim.
+
+    Raises Fault with the refusal line of the first text that is not a program, or not one together with those before it.
+    """
+    joined = b""
+    for number, text in enumerate(map(_bytes_of, texts)):
+        mark = b"" if not number else b"%%\n" if not joined or joined.endswith(b"\n") else b"\n%%\n"
+        joined += mark + text
+    said = _command(["plan"], joined).text.splitlines()
+    if len(said) < 2:
+        raise Fault("".join(said))
+    return _read_plan(said)
+
+
+def _read_plan(lines: Sequence[str]) -> Plan:
+    """Reads the lines of a plan."""
+    claimed = [it.groups() for it in map(_CLAIM_LINE.fullmatch, lines) if it]
+    needed = [it.groups() for it in map(_NEED_LINE.fullmatch, lines) if it]
+    nested = [it.groups() for it in map(_NEST_LINE.fullmatch, lines) if it]
+    bottleneck, order = lines[len(claimed) + len(needed) :][:2]
+    return Plan(
+        [Claim(p, int(n or 1), r, int(k), tuple(map(int, (at or "").split()))) for p, n, k, r, at in claimed],
+        [Need(r, int(capital), int(least), int(free)) for r, capital, least, free in needed],
+        None if bottleneck == "no request waits" else bottleneck.split()[1],
+        None if order == "no order" else order.split()[1:],
+        [Nest(p, int(n or 1), outer, int(at), inner, int(inside)) for p, n, outer, at, inner, inside in nested],
+    )
 
 
 def outcomes(text: str | bytes, lend: str = "banker") -> Reply:

@@ -5,9 +5,25 @@ import os
 import unittest
 
 import parbegin
-from parbegin import Answer, Bank, Fault, Reason
+from parbegin import Answer, Bank, Claim, Fault, Need, Nest, Reason
 
 PROGRAM = os.environ.get("PARBEGIN_TEST_PROGRAM")
+COPIES = """resource tape = 2;
+resource disk = 1;
+process copy
+begin
+  hold 1 of disk do
+    hold 2 of tape do print 1 od
+  od
+end
+"""
+LISTS = """resource tape = 2; resource disk = 1;
+process list
+begin
+  hold 1 of tape do
+    hold 1 of disk do print 2 od
+  od
+end"""
 PLAN = "resource tape = 1; process a begin hold 1 of tape do print 1 od end"
 
 
@@ -103,6 +119,33 @@ class Commands(unittest.TestCase):
         self.assertEqual(parbegin.claims(PLAN).status, 0)
         self.assertIn("tape", parbegin.claims(PLAN).text)
         self.assertEqual(parbegin.outcomes(PLAN).status, 0)
+
+    def test_plans_a_text(self) -> None:
+        plan = parbegin.plan(COPIES)
+        self.assertEqual(plan.claims, [Claim("copy", 1, "tape", 2, (6,)), Claim("copy", 1, "disk", 1, (5,))])
+        self.assertEqual(plan.needs, [Need("tape", 2, 2, 2), Need("disk", 1, 1, 1)])
+        self.assertEqual((plan.bottleneck, plan.order, plan.circle, plan.fits), (None, ["disk", "tape"], [], True))
+        self.assertEqual(parbegin.plan("process p begin skip end").order, [])
+
+    def test_plans_texts_together(self) -> None:
+        plan = parbegin.plan(COPIES, LISTS.encode())
+        self.assertEqual([(it.process, it.text, it.lines) for it in plan.claims if it.resource == "disk"], [("copy", 1, (5,)), ("list", 2, (5,))])
+        self.assertEqual((plan.needs[0], plan.bottleneck, plan.order, plan.fits), (Need("tape", 2, 2, 3), "tape", None, True))
+        self.assertEqual(sorted(plan.circle), [Nest("copy", 1, "disk", 5, "tape", 6), Nest("list", 2, "tape", 4, "disk", 5)])
+        # without a line feed at its end a text comes first too
+        self.assertEqual(len(parbegin.plan(LISTS, COPIES).claims), 4)
+
+    def test_plans_what_is_too_much(self) -> None:
+        plan = parbegin.plan(COPIES.replace("tape = 2", "tape = 1"))
+        self.assertEqual((plan.fits, plan.bottleneck), (False, "tape"))
+        for texts, said in (
+            (("process p begin print q end",), "refused N3 at 22"),
+            ((COPIES, LISTS.replace("disk = 1", "disk = 3")), "text 2 refused N2 at 28"),
+            ((), "refused P1 at 0"),
+        ):
+            with self.assertRaises(Fault) as caught:
+                parbegin.plan(*texts)
+            self.assertEqual(str(caught.exception), said)
 
     def test_runs(self) -> None:
         ran = parbegin.run(PLAN, seed=7)

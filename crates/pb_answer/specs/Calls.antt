@@ -15,7 +15,7 @@ use Rattle.pb_debug_engine.specs.Debugs.{SaysOfDebug}
 use Rattle.pb_debug_engine.specs.Faults.{TellsAnyFault}
 use Rattle.pb_debug.specs.Sessions.{SaysBefore}
 use Rattle.pb_debug_engine.specs.Live.{SaysOfLive, SaysOfRead}
-use Rattle.pb_draw_engine.specs.Draws.{SaysOfDraw}
+use Rattle.pb_draw_engine.specs.Draws.{SaysOfDraw, size_of}
 use Rattle.pb_command_io.specs.declared.status.Status.{Status}
 use Rattle.pb_command_io.specs.declared.status.Status.TheVariants.{Words, Memory}
 use Rattle.pb_command_io.specs.Answers.{Says, Tells, memory_line}
@@ -61,7 +61,7 @@ CommandSays (option.Check numbers) = SaysOfInput SaysOfChecks
 CommandSays option.Claims = SaysOfInput SaysOfClaims
 CommandSays option.Dap = SaysOfAdapter
 CommandSays (option.Debug flags) = SaysOfCommands flags
-CommandSays (option.Draw options) = SaysOfInput (SaysOfDraw (lending_for options.lend))
+CommandSays (option.Draw options) = SaysOfInput (SaysOfDraw (lending_for options.lend) (size_of options))
 CommandSays (option.Emit numbers) = SaysOfInput (SaysOfEmission numbers.object)
 CommandSays (option.Exec numbers) = SaysOfInput (SaysOfExecution numbers.steps)
 CommandSays (option.Explain code) = λ bytes. SaysOfExplain code

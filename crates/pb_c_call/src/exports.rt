@@ -5,6 +5,7 @@ ghost use Rattle.std.specs.Prelude.{◌⊎◌, map};
 ghost use Rattle.pb_accept.specs.Checks.{SaysOfChecks};
 ghost use Rattle.pb_accept.specs.ClaimLines.{SaysOfClaims};
 ghost use Rattle.pb_c_call.specs.Replies.{IsGiven, IsNotRead, Replies, Tellings};
+ghost use Rattle.pb_plan_engine.specs.PlanLines.{SaysOfPlan};
 
 use crate::alone::answer_alone;
 use crate::reply::{Kept, put_front};
@@ -13,6 +14,7 @@ use pb_accept::{check_engine, claims_engine};
 use pb_base::MemoryInput;
 use pb_command_io::Status;
 use pb_options::CheckOptions;
+use pb_plan_engine::plan_engine;
 use std::alloc::Global;
 
 /// Does what the words of a call say with the bytes of an input, and gives the reply. Its length is written to
@@ -68,6 +70,21 @@ pub extern "C" fn pb_claims(alloc: Global, text: &[u8], output: &mut [u8], neede
     let mut source = MemoryInput::new(text);
     let mut reply = Kept::new(alloc);
     let status = claims_engine(alloc, &mut source, &mut reply);
+    let bytes = reply.as_slice();
+    put_front(output, bytes);
+    *needed = bytes.len();
+    status.number()
+}
+
+/// Plans the texts that the input holds, which lines `%%` part, as one program, as the command `plan` does, and gives
+/// the reply as `pb_call` does.
+#[unsafe(no_mangle)]
+pub extern "C" fn pb_plan(alloc: Global, texts: &[u8], output: &mut [u8], needed: &mut usize) -> u8
+    ensures { IsGiven (Tellings SaysOfPlan texts.now) output.new result needed.new }
+{
+    let mut source = MemoryInput::new(texts);
+    let mut reply = Kept::new(alloc);
+    let status = plan_engine(alloc, &mut source, &mut reply);
     let bytes = reply.as_slice();
     put_front(output, bytes);
     *needed = bytes.len();

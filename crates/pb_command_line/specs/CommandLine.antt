@@ -44,7 +44,12 @@ debug_command =
     with_rule (with_rule (new_app (codes "debug")) (flag_rule (codes "live"))) (word_rule_or (codes "lend") (codes "banker"))
 
 unfoldable pub draw_command : App
-draw_command = with_rule (new_app (codes "draw")) (word_rule_or (codes "lend") (codes "banker"))
+draw_command =
+    with_rule
+    (with_rule
+    (with_rule (new_app (codes "draw")) (word_rule_or (codes "lend") (codes "banker")))
+    (number_rule (codes "width") 200 20000))
+    (number_rule_or (codes "scale") 50 400 (codes "100"))
 
 unfoldable pub emit_command : App
 emit_command = with_rule (new_app (codes "emit")) (number_rule_or (codes "object") 1 2 (codes "2"))

@@ -6,7 +6,7 @@ use Rattle.pb_base.specs.declared.lending.Lending.{Lending}
 use Rattle.pb_code.specs.Whole.{ProcessLabels}
 use Rattle.pb_codegen.specs.Compiled.{IsCompiled}
 use Rattle.pb_debug.specs.Value.{Debugging}
-use Rattle.pb_debug_engine.specs.Debugs.{GivesCode, IsObjectPart, IsOpened, SaysOfDebugging, SaysOfDebug, SaysOfParts}
+use Rattle.pb_debug_engine.specs.Debugs.{IsOpened, SaysOfDebugging, SaysOfDebug, SaysOfParts}
 use Rattle.pb_debug_engine.specs.Debugs.{SaysOfSession, debugged, no_memory, no_picks, no_room, no_source, with_code}
 use Rattle.pb_debug_engine.specs.Faults.{TellsAnyFault}
 use Rattle.pb_debug_engine.specs.Live.{AnswersOfCode, AnswersOfParts}
@@ -22,6 +22,7 @@ use Rattle.pb_accept.specs.ReplayLines.{SaysOfNoPicksBy}
 use Rattle.pb_command_io.specs.declared.reply.Reply.{Reply}
 use Rattle.pb_command_io.specs.declared.status.Status.{Status}
 use Rattle.pb_command_io.specs.declared.status.Status.TheVariants.{Device, Memory}
+use Rattle.pb_sources.specs.Sources.{GivesCode, IsObjectPart}
 use Rattle.pb_verifier.specs.Verified.{VerifiedCode}
 
 -- ---- the code of the first part

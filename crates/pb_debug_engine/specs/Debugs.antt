@@ -1,21 +1,19 @@
 -- What `debug` says of an input, and with which status.
-use Rattle.std.specs.Prelude.{◌≡◌, ◌++◌, ◌⊎◌, ℕ, List, codes, take, Option, Some, None}
+use Rattle.std.specs.Prelude.{◌≡◌, ◌++◌, ℕ, List, Option}
 use Rattle.pb_base.specs.declared.lending.Lending.{Lending}
-use Rattle.pb_code.specs.Whole.{Code, ProcessLabels}
-use Rattle.pb_codegen.specs.Compiled.{IsCompiled}
+use Rattle.pb_code.specs.Whole.{ProcessLabels}
 use Rattle.pb_debug_commands.specs.Lines.{lines_of}
 use Rattle.pb_debug.specs.Sessions.{Session, session_bytes}
 use Rattle.pb_debug.specs.Value.{Debugging, IsPosition, at_start, showing}
 use Rattle.pb_command_io.specs.Answers.{memory_line}
-use Rattle.pb_accept.specs.Loading.{IsLoaded, SaysOfNoCode}
 use Rattle.pb_command_io.specs.Parts.{AreTwoParts}
-use Rattle.pb_accept.specs.Refusals.{SaysOfRefusedText}
 use Rattle.pb_accept.specs.ReplayLines.{SaysOfNoPicksBy}
 use Rattle.pb_command_io.specs.declared.status.Status.{Status}
 use Rattle.pb_command_io.specs.declared.status.Status.TheVariants.{Done, Memory, Device}
 use Rattle.pb_history.specs.Replays.{spread}
 use Rattle.pb_history.specs.declared.counted.CountedPick.{CountedPick}
 use Rattle.pb_picks.specs.PickLines.{SpellsPicks}
+use Rattle.pb_sources.specs.Sources.{GivesCode, SaysOfNoSource}
 use Rattle.pb_verifier.specs.Verified.{VerifiedCode}
 
 -- ---- the three parts of an input
@@ -25,22 +23,6 @@ use Rattle.pb_verifier.specs.Verified.{VerifiedCode}
 abbrev pub AreThreeParts : (bytes source lines commands : List ℕ) → Type 0
 AreThreeParts bytes source lines commands =
     (rest : List ℕ) × AreTwoParts bytes source rest × AreTwoParts rest lines commands
-
--- the first part is an object exactly if it begins with these four bytes
-abbrev pub IsObjectPart : List ℕ → Type 0
-IsObjectPart source = take 4 source ≡ codes "PBO "
-
--- the code and the labels that the first part gives, and the text whose lines are shown: the first part, if
--- it is not an object
-abbrev pub GivesCode : (source : List ℕ) → Code → List ProcessLabels → (shown : Option (List ℕ)) → Type 0
-GivesCode source code labels shown =
-    (IsObjectPart source × IsLoaded source code labels × (shown ≡ None))
-    ⊎ ((¬ IsObjectPart source) × IsCompiled source code labels × (shown ≡ Some source))
-
--- what is said of a first part that gives none
-abbrev pub SaysOfNoSource : (source : List ℕ) → List ℕ → Status → Type 0
-SaysOfNoSource source text status =
-    (IsObjectPart source × SaysOfNoCode source text status) ⊎ ((¬ IsObjectPart source) × SaysOfRefusedText source text status)
 
 -- the debugger of the code and of the picks that the lines say, each enabled in turn under this lending, before
 -- the first of them; with the text whose lines are shown

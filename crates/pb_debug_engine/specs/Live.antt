@@ -8,12 +8,13 @@ use Rattle.pb_code.specs.Whole.{ProcessLabels}
 use Rattle.pb_debug_commands.specs.Lines.{cut}
 use Rattle.pb_debug.specs.Sessions.{Session}
 use Rattle.pb_debug.specs.Value.{Debugging}
-use Rattle.pb_debug_engine.specs.Debugs.{AreThreeParts, GivesCode, IsOpened, SaysOfDebug}
+use Rattle.pb_debug_engine.specs.Debugs.{AreThreeParts, IsOpened, SaysOfDebug}
 use Rattle.pb_base.specs.Lines.{line}
 use Rattle.pb_command_io.specs.Answers.{memory_line}
 use Rattle.pb_command_io.specs.Parts.{AreTwoParts, IsMarkAt}
 use Rattle.pb_command_io.specs.declared.status.Status.TheVariants.{Refused, Memory, Device}
 use Rattle.pb_command_io.specs.declared.status.Status.{Status}
+use Rattle.pb_sources.specs.Sources.{GivesCode}
 use Rattle.pb_verifier.specs.Verified.{VerifiedCode}
 
 -- a line `%%` and its line feed are the end of the text

@@ -1,11 +1,11 @@
 //! The three parts of what is debugged: a text or an object, pick lines, and commands.
 
-ghost use Rattle.std.specs.Prelude.{◌≢◌, ◌≤◌, ◌↔◌, IfSome, IsTrue, length, option_map};
+ghost use Rattle.std.specs.Prelude.{◌≢◌, ◌≤◌, IfSome, length, option_map};
 ghost use Rattle.pb_base.specs.Device.{LeavesRest};
 ghost use Rattle.pb_code.specs.Limits.{AreLabels};
 ghost use Rattle.pb_code.specs.View.{labels_view};
 ghost use Rattle.pb_debug.specs.Sessions.{SaysBefore};
-ghost use Rattle.pb_debug_engine.specs.Debugs.{IsObjectPart, SaysOfDebugging, SaysOfParts};
+ghost use Rattle.pb_debug_engine.specs.Debugs.{SaysOfDebugging, SaysOfParts};
 ghost use Rattle.pb_debug_engine.specs.Faults.{TellsAnyFault};
 ghost use Rattle.pb_debug_engine.specs.Live.{AnswersOfCode, AnswersOfParts};
 ghost use Rattle.pb_command_io.specs.Answers.{Tells};
@@ -19,15 +19,9 @@ use pb_code::Labels;
 use pb_command_io::{Status, tell};
 use pb_debug::Debugger;
 use pb_picks::read_picks;
+use pb_sources::is_object;
 use pb_verifier::Verified;
 use std::alloc::Global;
-
-/// Returns whether a first part is an object. No text begins so.
-fn is_object(source: &[u8]) -> bool
-    ensures { IsTrue result ↔ IsObjectPart source.now }
-{
-    source.starts_with(b"PBO ")
-}
 
 /// Debugs the code that a first part gave under a lending, with the text whose lines are shown.
 #[tactic(auto, using(crate::proofs::PartLemmas::takes_none))]

@@ -1,20 +1,19 @@
 -- The token that begins at an offset.
-use Rattle.std.proofs.Common.{◌≡◌, ℕ, suc, ◌+◌, ◌<◌, Bool, true, false, cond, List, ◌∷◌, length, drop, map, get_or, Option, Some, None, sym, ap, ◌∙◌, arith}
+use Rattle.std.proofs.Common.{◌≡◌, ℕ, suc, ◌+◌, ◌<◌, true, false, cond, List, ◌∷◌, length, drop, map, get_or, Option, Some, None, sym, ap, ◌∙◌, arith}
 use Rattle.std.specs.List.{find}
 use Rattle.std.proofs.Math.Seq.{drop-cons}
 use Rattle.std.proofs.lemmas.List.{drop_all}
-use Rattle.pb_diagnostics.specs.Ranges.{begins_at, end_of, token_end}
+use Rattle.pb_diagnostics.specs.Ranges.{begins_at}
 use Rattle.pb_lexer.specs.Tokens.{Token, token}
 use Rattle.pb_lexer.specs.declared.token.Token.{Token as Given}
 
 module _ (at : ℕ) where
   -- the token from a number on
-  pub token_from : List Given → ℕ → Option Token
+  abbrev pub token_from : List Given → ℕ → Option Token
   token_from ts i = find (begins_at at) (map token (drop i ts))
 
   step : (ts : List Given) (i : ℕ) (d : Given) → i < length ts
       → token_from ts i ≡ cond (begins_at at (token (get_or ts i d))) (Some (token (get_or ts i d))) (token_from ts (i + 1))
-  unfolding token_from
   step ts i d lt =
       let next : suc i ≡ i + 1 = omega arith in
       let here : drop i ts ≡ get_or ts i d ∷ drop (i + 1) ts = drop-cons ts i d lt ∙ ap (λ k. get_or ts i d ∷ drop k ts) next in
@@ -31,5 +30,4 @@ module _ (at : ℕ) where
       sym (step ts i d lt ∙ ap (λ t. cond t (Some (token (get_or ts i d))) (token_from ts (i + 1))) other)
 
   pub no_token : (ts : List Given) (i : ℕ) → length ts ≡ i → token_from ts i ≡ None
-  unfolding token_from
   no_token ts i ends = ap (λ (gs : List Given). find (begins_at at) (map token gs)) (drop_all i ts (omega (arith, ends)))

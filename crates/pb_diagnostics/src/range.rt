@@ -16,7 +16,7 @@ use serde_json::{Value, json};
 use std::alloc::{AllocError, Global};
 
 /// Returns a place by line and character.
-fn position(alloc: Global, place: Place) -> Result<Value, AllocError>
+pub(crate) fn position(alloc: Global, place: Place) -> Result<Value, AllocError>
     ensures { IfOk result (λ v. view v ≡ position_data place) }
 {
     let line = place.line.saturating_sub(1);
@@ -25,7 +25,7 @@ fn position(alloc: Global, place: Place) -> Result<Value, AllocError>
 }
 
 /// Returns a range between two positions.
-fn between(alloc: Global, start: Value, stop: Value) -> Result<Value, AllocError>
+pub(crate) fn between(alloc: Global, start: Value, stop: Value) -> Result<Value, AllocError>
     ensures { IfOk result (λ v. view v ≡ range_with (view start) (view stop)) }
 {
     json!(in alloc; {"start": start, "end": stop})

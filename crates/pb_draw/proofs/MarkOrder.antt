@@ -4,8 +4,8 @@ use Rattle.std.specs.Prelude.{slice_get}
 use Rattle.std.proofs.lemmas.List.{append-nil}
 use Rattle.pb_base.specs.declared.event.Event.{Event}
 use Rattle.pb_base.specs.declared.pick.Pick.{Pick}
-use Rattle.pb_code.specs.Whole.{Code}
-use Rattle.pb_draw.specs.Marks.{AreInOrder, mark_list, marks_before}
+use Rattle.pb_code.specs.Whole.{Code, ProcessLabels}
+use Rattle.pb_draw.specs.Marks.{AreInOrder, line_before, mark_list, marks_before}
 use Rattle.pb_draw.specs.Walks.{event_at}
 use Rattle.pb_draw.specs.declared.drawing.Mark.{Mark}
 use Rattle.pb_machine.proofs.BuiltLists.{at_push}
@@ -52,19 +52,21 @@ order_push marks x n early here ordered = λ i j a b lt one two.
           omega (arith, same, here, first))
     ]
 
-both : (code : Code) (picks : List Pick) (n : ℕ) → AreBefore n (marks_before code picks n) × AreInOrder (marks_before code picks n)
-both code picks zero = (λ i m there. cc, λ i j a b lt one two. cc)
-both code picks (suc n) =
-    go (marks_before code picks n) (event_at code picks n) (slice_get picks n) (both code picks n).0 (both code picks n).1
+both : (code : Code) (labels : List ProcessLabels) (picks : List Pick) (n : ℕ)
+    → AreBefore n (marks_before code labels picks n) × AreInOrder (marks_before code labels picks n)
+both code labels picks zero = (λ i m there. cc, λ i j a b lt one two. cc)
+both code labels picks (suc n) =
+    go (marks_before code labels picks n) (event_at code picks n) (slice_get picks n) (line_before code labels picks n)
+    (both code labels picks n).0 (both code labels picks n).1
   where
-    go : (marks : List Mark) (event : Option Event) (pick : Option Pick) → AreBefore n marks → AreInOrder marks
-        → AreBefore (suc n) (marks ++ mark_list event pick n) × AreInOrder (marks ++ mark_list event pick n)
-    go marks None pick early ordered =
+    go : (marks : List Mark) (event : Option Event) (pick : Option Pick) (source : Option ℕ) → AreBefore n marks → AreInOrder marks
+        → AreBefore (suc n) (marks ++ mark_list event pick source n) × AreInOrder (marks ++ mark_list event pick source n)
+    go marks None pick source early ordered =
         subst (λ (ms : List Mark). AreBefore (suc n) ms × AreInOrder ms) (sym (append-nil marks)) (early_later marks n early, ordered)
-    go marks (Some event) None early ordered =
+    go marks (Some event) None source early ordered =
         subst (λ (ms : List Mark). AreBefore (suc n) ms × AreInOrder ms) (sym (append-nil marks)) (early_later marks n early, ordered)
-    go marks (Some event) (Some pick) early ordered =
+    go marks (Some event) (Some pick) source early ordered =
         (early_push marks _ n early refl, order_push marks _ n early refl ordered)
 
-pub marks_in_order : (code : Code) (picks : List Pick) (n : ℕ) → AreInOrder (marks_before code picks n)
-marks_in_order code picks n = (both code picks n).1
+pub marks_in_order : (code : Code) (labels : List ProcessLabels) (picks : List Pick) (n : ℕ) → AreInOrder (marks_before code labels picks n)
+marks_in_order code labels picks n = (both code labels picks n).1

@@ -3,6 +3,7 @@
 ghost use Rattle.std.specs.Prelude.{◌≡◌, ◌≤◌, ◌*◌, All, IfOk, length, map};
 ghost use Rattle.pb_base.specs.Lines.{HasNames};
 ghost use Rattle.pb_base.specs.declared.limits.TheConstants.{MAX_ARMS, MAX_PROCESSES};
+ghost use Rattle.pb_code.specs.View.{labels_view};
 ghost use Rattle.pb_draw.specs.Arms.{AreDifferent};
 ghost use Rattle.pb_draw.specs.Drawings.{IsDrawing};
 ghost use Rattle.pb_draw.specs.Marks.{AreInOrder};
@@ -15,16 +16,19 @@ use crate::lanes::lanes_of;
 use crate::marks::marks_of;
 use pb_base::limits::MAX_PICKS;
 use pb_base::{Bundle, Event, Lending, NoMemory, Pick};
+use pb_code::Labels;
 use pb_history::Trace;
 use pb_verifier::Verified;
 use std::alloc::Global;
 
-/// An event, and the number of the pick that shows it, counted from 0.
+/// An event, the number of the pick that shows it, counted from 0, and the source line of its arm before that pick, if
+/// the place there has one.
 #[derive(Clone, Copy)]
 pub struct Mark {
     pub at: u32,
     pub pick: Pick,
     pub event: Event,
+    pub line: Option<u32>,
 }
 
 /// A hold of an arm, with the number of the pick that takes it and that of the pick that gives it back, if
@@ -92,17 +96,18 @@ pub struct Drawing {
     pub curves: Vec<CashCurve>,
 }
 
-/// Returns what the run with this trace shows over its picks. The trace is of a replay of the code under this
-/// lending.
+/// Returns what the run with this trace shows over its picks, with the source lines that the labels of the code tell.
+/// The trace is of a replay of the code under this lending.
 pub fn draw(
     alloc: Global,
     verified: &Verified,
+    labels: &Labels,
     lending: Lending,
     trace: &Trace,
 ) -> Result<Drawing, NoMemory>
     requires enabled { AreEnabledBy lending verified.now.code (picks_of trace.now.entries) }
     requires few { length trace.now.entries ≤ MAX_PICKS }
-    ensures drawing { IfOk result (IsDrawing lending verified.now.code (picks_of trace.now.entries)) }
+    ensures drawing { IfOk result (IsDrawing lending verified.now.code (labels_view labels.now) (picks_of trace.now.entries)) }
     ensures named { IfOk result (λ d. All (λ m. HasNames verified.now.code.names m.event) d.marks.items) }
     ensures ordered { IfOk result (λ d. AreInOrder d.marks.items) }
     ensures different { IfOk result (λ d. AreDifferent (map (λ lane. lane.pick) d.lanes.items)) }
@@ -112,7 +117,7 @@ pub fn draw(
     // Called for its contract alone, which the proof needs.
     let _ = verified.code();
     let picks = trace.len();
-    let marks = marks_of(alloc, verified, lending, trace)?;
+    let marks = marks_of(alloc, verified, labels, lending, trace)?;
     let bars = bars_of(alloc, marks.as_slice())?;
     let lanes = lanes_of(alloc, verified, lending, trace)?;
     let curves = cash_curves(alloc, verified, lending, trace)?;

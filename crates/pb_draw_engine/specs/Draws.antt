@@ -1,5 +1,5 @@
 -- What `draw` says of an input, and with which status.
-use Rattle.std.specs.Prelude.{◌≡◌, ℕ, Bool, true, false, List, map}
+use Rattle.std.specs.Prelude.{◌≡◌, ◌<◌, ◌≤◌, ℕ, Bool, true, false, List, codes, length, map}
 use Rattle.pb_base.specs.declared.lending.Lending.{Lending}
 use Rattle.pb_base.specs.Steppers.{State}
 use Rattle.pb_code.specs.Code.{CodeProcess}
@@ -13,6 +13,7 @@ use Rattle.pb_draw_picture.specs.Shapes.{sign_of}
 use Rattle.pb_draw_picture.specs.Svg.{svg}
 use Rattle.pb_draw.specs.declared.drawing.Drawing.{Drawing}
 use Rattle.pb_draw_picture.specs.declared.picture.Picture.{Picture}
+use Rattle.pb_draw_picture.specs.declared.picture.Size.{Size}
 use Rattle.pb_draw_picture.specs.declared.sizes.TheConstants.{TOP}
 use Rattle.pb_base.specs.Lines.{line}
 use Rattle.pb_command_io.specs.Answers.{memory_line}
@@ -22,19 +23,27 @@ use Rattle.pb_accept.specs.ReplayLines.{AreReplayedBy, IsEnding, IsEndStatus, Sa
 use Rattle.pb_accept.specs.declared.ending.Ending.{Ending}
 use Rattle.pb_accept.specs.declared.ending.Ending.TheVariants.{Open, Over, Stuck}
 use Rattle.pb_command_io.specs.declared.status.Status.{Status}
-use Rattle.pb_command_io.specs.declared.status.Status.TheVariants.{Memory, Refused}
+use Rattle.pb_command_io.specs.declared.status.Status.TheVariants.{Limit, Memory, Refused}
 use Rattle.pb_history.specs.Entries.{Entry, picks_of}
+use Rattle.pb_options.specs.declared.options.DrawOptions.{DrawOptions}
+use Rattle.pb_draw_engine.specs.declared.draw.TheConstants.{MAX_PICTURE}
 
--- a text is the picture of these entries as SVG: the layout of what their run shows under this lending, and whether it
--- ends in a deadlock. Its rows are one below the other, and of two marks the earlier is further left
-pub record IsPictured (lending : Lending) (code : Code) (entries : List Entry) (deadlock : Bool) (text : List ℕ) : Type 0 where
+-- how large these options ask a picture to be
+abbrev pub size_of : DrawOptions → Size
+size_of options = record { width = options.width; scale = options.scale }
+
+-- a text is the picture of these entries as SVG, as large as it is asked to be: the layout of what their run shows under
+-- this lending, and whether it ends in a deadlock. Its rows are one below the other, and of two marks the earlier is
+-- further left
+pub record IsPictured (lending : Lending) (size : Size) (code : Code) (labels : List ProcessLabels) (entries : List Entry) (deadlock : Bool)
+    (text : List ℕ) : Type 0 where
   pub drawing : Drawing
   pub picture : Picture
-  pub drawn : IsDrawing lending code (picks_of entries) drawing
+  pub drawn : IsDrawing lending code labels (picks_of entries) drawing
   pub laid_out : IsLayout code.names code.capital drawing deadlock picture
   pub stacked : AreStacked laid_out.places TOP drawing.lanes.items laid_out.places.bottom
   pub rising : AreFromLeft (map sign_of picture.ticks.items)
-  pub written : text ≡ svg picture
+  pub written : text ≡ svg size picture
 
 -- whether this is a deadlock
 abbrev pub is_stuck : Ending → Bool
@@ -43,28 +52,47 @@ is_stuck Stuck = true
 is_stuck Open = false
 
 -- a text is the picture of a run that made these entries and led to this state, and the status is that of its end
-pub record IsDrawn (lending : Lending) (code : Code) (entries : List Entry) (end : State CodeProcess) (text : List ℕ)
-    (status : Status) : Type 0 where
+pub record IsDrawn (lending : Lending) (size : Size) (code : Code) (labels : List ProcessLabels) (entries : List Entry) (end : State CodeProcess)
+    (text : List ℕ) (status : Status) : Type 0 where
   pub ending : Ending
   pub ends : IsEnding lending code end ending
-  pub picture : IsPictured lending code entries (is_stuck ending) text
+  pub picture : IsPictured lending size code labels entries (is_stuck ending) text
   pub told : IsEndStatus end ending status
 
--- what is said of the lines behind an accepted text, by its code: their picks are refused under this lending; or
--- all are made, and the picture of them is written
-pub data SaysOfDrawnLines (lending : Lending) (code : Code) (lines : List ℕ) : List ℕ → Status → Type 0 where
+-- the line in place of a picture that is too large
+abbrev pub limit_text : List ℕ
+limit_text = line (codes "limit 8388608")
+
+-- what is written of a picture with a status: the picture, with that status; or if it is longer than the limit, a line
+-- that says so
+pub data Fits (picture : List ℕ) (ended : Status) : List ℕ → Status → Type 0 where
+  whole : length picture ≤ MAX_PICTURE → Fits picture ended picture ended
+  too_large : MAX_PICTURE < length picture → Fits picture ended limit_text Limit
+
+-- what is said of a run that made these entries and led to this state: its picture, if that is not too large
+pub record IsShown (lending : Lending) (size : Size) (code : Code) (labels : List ProcessLabels) (entries : List Entry) (end : State CodeProcess)
+    (text : List ℕ) (status : Status) : Type 0 where
+  pub picture : List ℕ
+  pub ended : Status
+  pub drawn : IsDrawn lending size code labels entries end picture ended
+  pub fits : Fits picture ended text status
+
+-- what is said of the lines behind an accepted text, by its code and its labels: their picks are refused under this
+-- lending; or all are made, and the picture of them is written, or that it is too large
+pub data SaysOfDrawnLines (lending : Lending) (size : Size) (code : Code) (labels : List ProcessLabels) (lines : List ℕ)
+    : List ℕ → Status → Type 0 where
   not_made : (said : List ℕ) (status : Status) → SaysOfNoPicksBy lending code lines said status
-      → SaysOfDrawnLines lending code lines said status
-  no_memory : SaysOfDrawnLines lending code lines memory_line Memory
+      → SaysOfDrawnLines lending size code labels lines said status
+  no_memory : SaysOfDrawnLines lending size code labels lines memory_line Memory
   drawn : (entries : List Entry) (end : State CodeProcess) → AreReplayedBy lending code lines entries end
-      → (said : List ℕ) (status : Status) → IsDrawn lending code entries end said status
-      → SaysOfDrawnLines lending code lines said status
+      → (said : List ℕ) (status : Status) → IsShown lending size code labels entries end said status
+      → SaysOfDrawnLines lending size code labels lines said status
 
 -- what is said of an input, which is a text and pick lines behind it: its text is refused; or it is accepted
-pub data SaysOfDraw (lending : Lending) (bytes : List ℕ) : List ℕ → Status → Type 0 where
+pub data SaysOfDraw (lending : Lending) (size : Size) (bytes : List ℕ) : List ℕ → Status → Type 0 where
   no_text : (text lines : List ℕ) → AreTwoParts bytes text lines
-      → (refusal : List ℕ) → RefusesWith text refusal → SaysOfDraw lending bytes (line refusal) Refused
+      → (refusal : List ℕ) → RefusesWith text refusal → SaysOfDraw lending size bytes (line refusal) Refused
   with_code : (text lines : List ℕ) → AreTwoParts bytes text lines
       → (code : Code) (labels : List ProcessLabels) → IsCompiled text code labels
-      → (said : List ℕ) (status : Status) → SaysOfDrawnLines lending code lines said status
-      → SaysOfDraw lending bytes said status
+      → (said : List ℕ) (status : Status) → SaysOfDrawnLines lending size code labels lines said status
+      → SaysOfDraw lending size bytes said status

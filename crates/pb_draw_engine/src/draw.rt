@@ -1,7 +1,8 @@
 //! The command `draw`, over any input and output.
 
 ghost use Rattle.std.specs.Prelude.{◌≡◌, ◌≤◌, IfOk, IfSome, length};
-ghost use Rattle.pb_draw_engine.specs.Draws.{IsDrawn, SaysOfDraw, SaysOfDrawnLines, is_stuck};
+ghost use Rattle.pb_draw_engine.specs.Draws.{Fits, IsDrawn, IsShown, SaysOfDraw, SaysOfDrawnLines, is_stuck, size_of};
+ghost use Rattle.pb_code.specs.View.{labels_view};
 ghost use Rattle.pb_command_io.specs.Answers.{Tells};
 ghost use Rattle.pb_command_io.specs.Faults.{TellsFaults, TellsWriteFaults};
 ghost use Rattle.pb_command_io.specs.Inputs.{SaysOfInput};
@@ -15,18 +16,26 @@ use pb_accept::{
 };
 use pb_base::limits::{MAX_INPUT, MAX_PICKS};
 use pb_base::{Input, Lending, NoMemory, Output};
+use pb_code::Labels;
 use pb_command_io::{Reply, Status, read_input, tell, two_parts};
 use pb_draw::draw;
-use pb_draw_picture::{lay_out, write_svg};
+use pb_draw_picture::{Size, lay_out, write_svg};
 use pb_history::Trace;
 use pb_machine::Machine;
 use pb_options::DrawOptions;
 use pb_verifier::Verified;
 use std::alloc::Global;
 
+/// The most bytes of a picture.
+pub const MAX_PICTURE: usize = 8_388_608;
+
+/// What is written in place of a longer picture.
+const LIMIT_LINE: &[u8] = b"limit 8388608\n";
+
 /// Makes the picks that the pick lines behind the text of the input say, from the start of the text, under
 /// whoever decides on requests, and writes a picture of that run as SVG. A line `%%` separates the text from the pick lines. If the text, a
-/// line or a pick is refused, only the refusal line is written, as by `replay`.
+/// line or a pick is refused, only the refusal line is written, as by `replay`; and of a picture that would be longer than
+/// 8 MB only the line `limit 8388608`, with status `Limit`.
 ///
 /// The status is `Deadlock` if some process has neither ended nor faulted and no pick is enabled, which the picture says
 /// too, and else `Fault` if a process faulted. After a read that failed nothing is written; after a write
@@ -38,27 +47,47 @@ pub fn draw_engine<I: Input, O: Output>(
     output: &mut O,
 ) -> Status
     ensures text { IfSome (I.rest input.old) (λ bytes.
-        Tells (SaysOfInput (SaysOfDraw (lending_for options.lend)) bytes) (O.written output.old) (O.written output.new) result) }
+        Tells (SaysOfInput (SaysOfDraw (lending_for options.lend) (size_of options)) bytes) (O.written output.old) (O.written output.new) result) }
     ensures faults { TellsFaults
         (record { reads = I.failures input.old; writes = O.failures output.old; written = O.written output.old })
         (record { reads = I.failures input.new; writes = O.failures output.new; written = O.written output.new })
         result }
 {
     match read_input(alloc, input, output) {
-        Ok(bytes) => draw_bytes(alloc, options.lend.lending(), bytes.as_slice(), output),
+        Ok(bytes) => draw_bytes(
+            alloc,
+            options.lend.lending(),
+            size_of(options),
+            bytes.as_slice(),
+            output,
+        ),
         Err(status) => status,
     }
 }
 
 /// Draws the run of a whole input.
-fn draw_bytes<O: Output>(alloc: Global, lending: Lending, bytes: &[u8], output: &mut O) -> Status
+fn draw_bytes<O: Output>(
+    alloc: Global,
+    lending: Lending,
+    size: Size,
+    bytes: &[u8],
+    output: &mut O,
+) -> Status
     requires { length bytes.now ≤ MAX_INPUT }
-    ensures text { Tells (SaysOfInput (SaysOfDraw lending) bytes.now) (O.written output.old) (O.written output.new) result }
+    ensures text { Tells (SaysOfInput (SaysOfDraw lending size) bytes.now) (O.written output.old) (O.written output.new) result }
     ensures faults { TellsWriteFaults (O.failures output.old) (O.failures output.new) result }
 {
     let (text, lines) = two_parts(bytes);
     match compile_text(alloc, text) {
-        Ok(compiled) => draw_lines(alloc, lending, compiled.verified(), lines, output),
+        Ok(compiled) => draw_lines(
+            alloc,
+            lending,
+            size,
+            compiled.verified(),
+            compiled.labels(),
+            lines,
+            output,
+        ),
         Err(refusal) => refuse(alloc, refusal, output),
     }
 }
@@ -67,41 +96,66 @@ fn draw_bytes<O: Output>(alloc: Global, lending: Lending, bytes: &[u8], output: 
 fn draw_lines<O: Output>(
     alloc: Global,
     lending: Lending,
+    size: Size,
     verified: &Verified,
+    labels: &Labels,
     lines: &[u8],
     output: &mut O,
 ) -> Status
-    ensures text { Tells (SaysOfDrawnLines lending verified.now.code lines.now) (O.written output.old) (O.written output.new) result }
+    ensures text { Tells (SaysOfDrawnLines lending size verified.now.code (labels_view labels.now) lines.now) (O.written output.old) (O.written output.new) result }
     ensures faults { TellsWriteFaults (O.failures output.old) (O.failures output.new) result }
 {
     match make_lines_by(alloc, lending, verified, lines) {
         Ok((machine, trace)) => {
             let mut machine = machine;
-            let reply = drawn(alloc, verified, lending, &trace, &mut machine);
+            let reply = shown(alloc, lending, size, verified, labels, &trace, &mut machine);
             tell(alloc, reply, output)
         }
         Err(fault) => tell(alloc, lines_refusal(alloc, fault), output),
     }
 }
 
-/// Returns the picture of a replay. If the machine could go on, a pick is made that is enabled.
-fn drawn(
+/// Returns the picture of a replay, or that it is too large. If the machine could go on, a pick is made that is
+/// enabled.
+fn shown(
     alloc: Global,
-    verified: &Verified,
     lending: Lending,
+    size: Size,
+    verified: &Verified,
+    labels: &Labels,
     trace: &Trace,
     machine: &mut Machine,
 ) -> Result<Reply, NoMemory>
     requires enabled { AreEnabledBy lending verified.now.code (picks_of trace.now.entries) }
     requires few { length trace.now.entries ≤ MAX_PICKS }
     requires machine { IsMachineBy lending verified.now machine.old }
-    ensures { IfOk result (λ r. IsDrawn lending verified.now.code trace.now.entries (machine_view machine.old)
+    ensures { IfOk result (λ r. IsShown lending size verified.now.code (labels_view labels.now) trace.now.entries (machine_view machine.old)
+        r.text.items r.status) }
+{
+    let reply = drawn(alloc, lending, size, verified, labels, trace, machine)?;
+    if_it_fits(alloc, reply)
+}
+
+/// Returns the picture of a replay.
+fn drawn(
+    alloc: Global,
+    lending: Lending,
+    size: Size,
+    verified: &Verified,
+    labels: &Labels,
+    trace: &Trace,
+    machine: &mut Machine,
+) -> Result<Reply, NoMemory>
+    requires enabled { AreEnabledBy lending verified.now.code (picks_of trace.now.entries) }
+    requires few { length trace.now.entries ≤ MAX_PICKS }
+    requires machine { IsMachineBy lending verified.now machine.old }
+    ensures { IfOk result (λ r. IsDrawn lending size verified.now.code (labels_view labels.now) trace.now.entries (machine_view machine.old)
         r.text.items r.status) }
 {
     let code = verified.code();
     let faulted = status_at(machine);
     let ending = ending_of(machine, verified);
-    let drawing = draw(alloc, verified, lending, trace)?;
+    let drawing = draw(alloc, verified, labels, lending, trace)?;
     let picture = lay_out(
         alloc,
         &code.names,
@@ -109,10 +163,33 @@ fn drawn(
         &drawing,
         is_stuck(ending),
     )?;
-    let text = write_svg(alloc, &picture)?;
+    let text = write_svg(alloc, size, &picture)?;
     Ok(Reply {
         text,
         status: end_status(ending, faulted),
+    })
+}
+
+/// Returns how large these options ask a picture to be.
+fn size_of(options: DrawOptions) -> Size
+    ensures { result ≡ size_of options }
+{
+    Size {
+        width: options.width,
+        scale: options.scale,
+    }
+}
+
+/// Returns a picture, or in place of one that is too large the line that says so.
+fn if_it_fits(alloc: Global, picture: Reply) -> Result<Reply, NoMemory>
+    ensures { IfOk result (λ r. Fits picture.text.items picture.status r.text.items r.status) }
+{
+    if picture.text.len() <= MAX_PICTURE {
+        return Ok(picture);
+    }
+    Ok(Reply {
+        text: Vec::from_slice(alloc, LIMIT_LINE)?,
+        status: Status::Limit,
     })
 }
 

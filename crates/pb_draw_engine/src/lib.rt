@@ -3,4 +3,4 @@
 
 mod draw;
 
-pub use draw::draw_engine;
+pub use draw::{MAX_PICTURE, draw_engine};

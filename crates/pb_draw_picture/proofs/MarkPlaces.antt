@@ -13,7 +13,7 @@ use Rattle.pb_draw_picture.specs.declared.sizes.TheConstants.{MIDDLE}
 pub signs_rise : (names : NameTable) (places : Places) (marks : List Mark) → IsAxis marks places.x → AreInOrder marks
     → AreFromLeft (signs names places marks)
 signs_rise names places marks axis ordered = λ i j s t lt one two.
-    let f : Mark → Sign = λ m. sign_at names (places.x (m.at + 1)) (places.line m.pick + MIDDLE) m.event in
+    let f : Mark → Sign = λ m. sign_at names (places.x (m.at + 1)) (places.line m.pick + MIDDLE) m.line m.event in
     let first = get_mapped f marks i s one in
     let second = get_mapped f marks j t two in
     let before : first.0.at < second.0.at = ordered i j first.0 second.0 lt first.1 second.1 in

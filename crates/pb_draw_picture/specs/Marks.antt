@@ -1,5 +1,5 @@
 -- The marks of a picture, and the numbers of their picks above them: of each event one.
-use Rattle.std.specs.Prelude.{◌≡◌, ◌<◌, ℕ, ◌+◌, ◌-◌, List, Some, map, slice_get}
+use Rattle.std.specs.Prelude.{◌≡◌, ◌<◌, ℕ, ◌+◌, ◌-◌, List, Option, Some, map, slice_get}
 use Rattle.std.specs.Fmt.{decimal}
 use Rattle.pb_base.specs.Lines.{NameTable, line_of}
 use Rattle.pb_base.specs.declared.event.Event.{Event}
@@ -21,21 +21,21 @@ kind_of (Printed pick value) = Print
 kind_of (Faulted pick kind) = Fault
 kind_of (Finished process) = End
 
--- an event at a place: its kind, its line as the title, and its text
-abbrev pub sign_at : NameTable → (x y : ℕ) → Event → Sign
-sign_at names x y event = record {
+-- an event of a source line at a place: its kind, its line as the title, and its text
+abbrev pub sign_at : NameTable → (x y : ℕ) → (source : Option ℕ) → Event → Sign
+sign_at names x y source event = record {
   kind = kind_of event;
   x = x;
   y = y;
   title = line_of names event;
-  label = label_of names event;
+  label = label_of names source event;
   label_x = x - LABEL_LEFT;
   label_y = y - LABEL_UP;
 }
 
 -- each event at the position behind its pick, on the line of its arm
 abbrev pub signs : NameTable → Places → List Mark → List Sign
-signs names places marks = map (λ m. sign_at names (places.x (m.at + 1)) (places.line m.pick + MIDDLE) m.event) marks
+signs names places marks = map (λ m. sign_at names (places.x (m.at + 1)) (places.line m.pick + MIDDLE) m.line m.event) marks
 
 -- and above it the number of the pick
 abbrev pub numbers : Places → List Mark → List Text

@@ -1,10 +1,10 @@
 -- A picture as SVG.
-use Rattle.std.specs.Prelude.{ℕ, ◌%◌, List, [], ◌++◌, codes}
+use Rattle.std.specs.Prelude.{ℕ, ◌%◌, ◌*◌, ◌/◌, max, List, [], ◌++◌, codes, unwrap_or}
 use Rattle.std.specs.Fmt.{decimal}
 use Rattle.std.specs.List.{flat_map}
 use Rattle.pb_draw_picture.specs.declared.svg.TheConstants.{COLOURS, STYLE}
 use Rattle.pb_draw_picture.specs.declared.picture.LabelKind.{LabelKind}
-use Rattle.pb_draw_picture.specs.declared.picture.LabelKind.TheVariants.{Name, Number, Silent, Bundle, Amount, Note, Deadlock}
+use Rattle.pb_draw_picture.specs.declared.picture.LabelKind.TheVariants.{Name, Again, Number, Silent, Bundle, Amount, Note, Deadlock}
 use Rattle.pb_draw_picture.specs.declared.picture.RectKind.{RectKind}
 use Rattle.pb_draw_picture.specs.declared.picture.RectKind.TheVariants.{Gap, Going, Short, KeptBack, Hold, Cash, Level}
 use Rattle.pb_draw_picture.specs.declared.picture.TickKind.{TickKind}
@@ -12,6 +12,7 @@ use Rattle.pb_draw_picture.specs.declared.picture.TickKind.TheVariants.{Grant, R
 use Rattle.pb_draw_picture.specs.declared.picture.Label.{Label}
 use Rattle.pb_draw_picture.specs.declared.picture.Picture.{Picture}
 use Rattle.pb_draw_picture.specs.declared.picture.Rect.{Rect}
+use Rattle.pb_draw_picture.specs.declared.picture.Size.{Size}
 use Rattle.pb_draw_picture.specs.declared.picture.Tick.{Tick}
 
 -- the word for what a rectangle stands for
@@ -33,6 +34,7 @@ colour_text kind = []
 -- the word for what a text stands for
 abbrev pub label_word : LabelKind → List ℕ
 label_word Name = codes "name"
+label_word Again = codes "again"
 label_word Number = codes "number"
 label_word Silent = codes "silent"
 label_word Bundle = codes "bundle"
@@ -79,14 +81,25 @@ tick_text t =
 unfoldable pub style : List ℕ
 style = STYLE.now
 
--- what a picture begins with: its size, and its style
-unfoldable pub head_text : Picture → List ℕ
-head_text p =
-    codes "<svg xmlns=\"http://www.w3.org/2000/svg\" width=\"" ++ decimal p.width ++ codes "\" height=\""
-    ++ decimal p.height ++ codes "\" viewBox=\"0 0 " ++ decimal p.width ++ codes " " ++ decimal p.height ++ style
+-- how wide a picture is shown: a percentage of the width that is asked for, or of its own
+abbrev pub shown_width : Size → Picture → ℕ
+shown_width size p = unwrap_or size.width p.width * size.scale / 100
 
--- a picture: a line for each shape, the rectangles first, then the texts, and then the marks of events
-abbrev pub svg : Picture → List ℕ
-svg p =
-    head_text p ++ flat_map rect_text p.rects.items ++ flat_map label_text p.labels.items
+-- and how high: in proportion
+abbrev pub shown_height : Size → Picture → ℕ
+shown_height size p = p.height * shown_width size p / max p.width 1
+
+-- what a picture that is shown so wide and so high begins with: that, its own size, and its style
+unfoldable pub head_for : (width height : ℕ) → Picture → List ℕ
+head_for width height p =
+    codes "<svg xmlns=\"http://www.w3.org/2000/svg\" width=\"" ++ decimal width ++ codes "\" height=\""
+    ++ decimal height ++ codes "\" viewBox=\"0 0 " ++ decimal p.width ++ codes " " ++ decimal p.height ++ style
+
+abbrev pub head_text : Size → Picture → List ℕ
+head_text size p = head_for (shown_width size p) (shown_height size p) p
+
+-- a picture, shown at a size: a line for each shape, the rectangles first, then the texts, and then the marks of events
+abbrev pub svg : Size → Picture → List ℕ
+svg size p =
+    head_text size p ++ flat_map rect_text p.rects.items ++ flat_map label_text p.labels.items
     ++ flat_map tick_text p.ticks.items ++ codes "</svg>\n"

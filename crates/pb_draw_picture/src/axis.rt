@@ -57,7 +57,7 @@ fn width_of(alloc: Global, names: &Names, mark: &Mark) -> Result<u64, NoMemory>
     ensures wide { IfOk result (λ width. SIDE ≤ width) }
     ensures narrow { IfOk result (λ width. width ≤ 900) }
 {
-    let said = caption(alloc, names, &mark.event)?;
+    let said = caption(alloc, names, mark.line, &mark.event)?;
     let number = number_text(alloc, u64::from(mark.at), b"")?;
     let characters = said.len().max(number.len()) as u64;
     Ok(SIDE + characters.min(MAX_CHARACTERS) * CHARACTER)

@@ -83,9 +83,25 @@ fn fault_word(kind: FaultKind) -> &'static [u8]
     }
 }
 
-/// Returns what is written of an event: the bundle of a grant or a return, and the event itself of the others.
-pub(crate) fn caption(alloc: Global, names: &Names, event: &Event) -> Result<Vec<u8>, NoMemory>
-    ensures { IfOk result (λ text. text.items ≡ spec.caption (names_view names.now) event.now) }
+/// Appends a source line to `text`, if there is one.
+fn put_line(text: &mut Vec<u8>, line: Option<u32>) -> Result<(), NoMemory>
+    ensures { OnOk result (text.new.items ≡ text.old.items ++ spec.line_text line) }
+{
+    match line {
+        Some(line) => put_number(text, b", line ", line),
+        None => Ok(()),
+    }
+}
+
+/// Returns what is written of an event: the bundle of a grant or a return, the event itself of the others, and the
+/// source line of a fault.
+pub(crate) fn caption(
+    alloc: Global,
+    names: &Names,
+    line: Option<u32>,
+    event: &Event,
+) -> Result<Vec<u8>, NoMemory>
+    ensures { IfOk result (λ text. text.items ≡ spec.caption (names_view names.now) line event.now) }
 {
     let mut text = Vec::new(alloc);
     match event {
@@ -95,6 +111,7 @@ pub(crate) fn caption(alloc: Global, names: &Names, event: &Event) -> Result<Vec
         Event::Faulted { kind, .. } => {
             put(&mut text, b"fault ")?;
             put(&mut text, fault_word(*kind))?;
+            put_line(&mut text, line)?;
         }
         Event::Finished { .. } => put(&mut text, b"end")?,
     }
@@ -102,15 +119,20 @@ pub(crate) fn caption(alloc: Global, names: &Names, event: &Event) -> Result<Vec
 }
 
 /// Returns what is written beside the mark of an event. A grant and a return have their hold.
-pub(crate) fn label_of(alloc: Global, names: &Names, event: &Event) -> Result<Vec<u8>, NoMemory>
-    ensures { IfOk result (λ text. text.items ≡ spec.label_of (names_view names.now) event.now) }
+pub(crate) fn label_of(
+    alloc: Global,
+    names: &Names,
+    line: Option<u32>,
+    event: &Event,
+) -> Result<Vec<u8>, NoMemory>
+    ensures { IfOk result (λ text. text.items ≡ spec.label_of (names_view names.now) line event.now) }
 {
     match event {
         Event::Granted { .. } => Ok(Vec::new(alloc)),
         Event::Returned { .. } => Ok(Vec::new(alloc)),
-        Event::Printed { .. } => caption(alloc, names, event),
-        Event::Faulted { .. } => caption(alloc, names, event),
-        Event::Finished { .. } => caption(alloc, names, event),
+        Event::Printed { .. } => caption(alloc, names, line, event),
+        Event::Faulted { .. } => caption(alloc, names, line, event),
+        Event::Finished { .. } => caption(alloc, names, line, event),
     }
 }
 

@@ -12,7 +12,7 @@ use crate::grid::Grid;
 use crate::picture::{Label, LabelKind, Rect, RectKind};
 use crate::rows::is_ever_live;
 use crate::shapes::{add_if_wide, rect_to};
-use crate::sizes::{MARGIN, TRACK};
+use crate::sizes::{AGAIN, AGAIN_UP, MARGIN, TRACK};
 use pb_base::{Names, NoMemory};
 use pb_draw::{Lane, LaneStep, Standing};
 use std::alloc::Global;
@@ -89,6 +89,66 @@ fn name_of(alloc: Global, names: &Names, grid: &Grid, lane: &Lane) -> Result<Lab
     })
 }
 
+/// Returns the name of an arm once more, above its line, at the place with this number.
+fn name_again(
+    alloc: Global,
+    names: &Names,
+    grid: &Grid,
+    lane: &Lane,
+    k: u64,
+) -> Result<Label, NoMemory>
+    requires { k ≤ 2 ^ 45 }
+    ensures { IfOk result (λ l. text_of l ≡ spec.name_again (names_view names.now) (places_of grid.now) lane.now k) }
+{
+    let text = arm_text(alloc, names, lane.pick)?;
+    Ok(Label {
+        kind: LabelKind::Again,
+        x: k * AGAIN,
+        y: grid.line(lane.pick).saturating_sub(AGAIN_UP),
+        text,
+    })
+}
+
+/// Adds the name of an arm once more at each of these places.
+fn add_again(
+    alloc: Global,
+    names: &Names,
+    grid: &Grid,
+    lane: &Lane,
+    places: u64,
+    labels: &mut Vec<Label>,
+) -> Result<(), NoMemory>
+    requires { places ≤ 2 ^ 44 }
+    ensures { OnOk result (map text_of labels.new.items ≡
+        map text_of labels.old.items ++ spec.names_again (names_view names.now) (places_of grid.now) lane.now places) }
+{
+    for k in 0..places {
+        let name = name_again(alloc, names, grid, lane, k + 1)?;
+        labels.push(name)?;
+    }
+    Ok(())
+}
+
+/// Adds the names of an arm, if it is ever live: one before its line, and one at each place along it.
+fn add_names_of(
+    alloc: Global,
+    names: &Names,
+    grid: &Grid,
+    lane: &Lane,
+    labels: &mut Vec<Label>,
+) -> Result<(), NoMemory>
+    requires { IsChain grid.now.knots.items }
+    ensures { OnOk result (map text_of labels.new.items ≡
+        map text_of labels.old.items ++ spec.names_of_lane (names_view names.now) (places_of grid.now) lane.now) }
+{
+    if is_ever_live(lane) {
+        let name = name_of(alloc, names, grid, lane)?;
+        labels.push(name)?;
+        add_again(alloc, names, grid, lane, grid.right() / AGAIN, labels)?;
+    }
+    Ok(())
+}
+
 /// Adds the names of the arms that are ever live.
 pub(crate) fn add_names(
     alloc: Global,
@@ -97,15 +157,12 @@ pub(crate) fn add_names(
     lanes: &[Lane],
     labels: &mut Vec<Label>,
 ) -> Result<(), NoMemory>
+    requires { IsChain grid.now.knots.items }
     ensures { OnOk result (map text_of labels.new.items ≡
         map text_of labels.old.items ++ spec.lane_names (names_view names.now) (places_of grid.now) lanes.now) }
 {
     for i in 0..lanes.len() {
-        let lane = &lanes[i];
-        if is_ever_live(lane) {
-            let name = name_of(alloc, names, grid, lane)?;
-            labels.push(name)?;
-        }
+        add_names_of(alloc, names, grid, &lanes[i], labels)?;
     }
     Ok(())
 }

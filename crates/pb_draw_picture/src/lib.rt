@@ -19,5 +19,5 @@ mod sizes;
 mod svg;
 
 pub use layout::lay_out;
-pub use picture::Picture;
+pub use picture::{Picture, Size};
 pub use svg::write_svg;

@@ -29,13 +29,20 @@ fn kind_of(event: &Event) -> TickKind
     }
 }
 
-/// Returns the mark of an event at a place.
-fn mark_at(alloc: Global, names: &Names, x: u64, y: u64, event: &Event) -> Result<Tick, NoMemory>
+/// Returns the mark of an event of a source line at a place.
+fn mark_at(
+    alloc: Global,
+    names: &Names,
+    x: u64,
+    y: u64,
+    line: Option<u32>,
+    event: &Event,
+) -> Result<Tick, NoMemory>
     requires { HasNames (names_view names.now) event.now }
-    ensures { IfOk result (λ t. sign_of t ≡ spec.sign_at (names_view names.now) x y event.now) }
+    ensures { IfOk result (λ t. sign_of t ≡ spec.sign_at (names_view names.now) x y line event.now) }
 {
     let title = event_line(alloc, names, event)?;
-    let label = label_of(alloc, names, event)?;
+    let label = label_of(alloc, names, line, event)?;
     Ok(Tick {
         kind: kind_of(event),
         x,
@@ -70,7 +77,7 @@ pub(crate) fn marks_of(
         let mark = &marks[i];
         let x = grid.x(behind(mark));
         let y = grid.line(mark.pick) + MIDDLE;
-        let tick = mark_at(alloc, names, x, y, &mark.event)?;
+        let tick = mark_at(alloc, names, x, y, mark.line, &mark.event)?;
         ticks.push(tick)?;
     }
     Ok(ticks)

@@ -1,5 +1,8 @@
 //! Shapes with their places, in pixels from the upper left corner.
 
+ghost use Rattle.std.specs.Prelude.{◌≤◌};
+ghost use Rattle.pb_draw_picture.specs.declared.sizes.TheConstants.{HIGHEST, WIDEST};
+
 /// What a rectangle stands for.
 #[derive(Clone, Copy, Debug, PartialEq, Eq)]
 pub enum RectKind {
@@ -34,6 +37,8 @@ pub struct Rect {
 pub enum LabelKind {
     /// The name of an arm or a resource.
     Name,
+    /// The name of an arm once more.
+    Again,
     /// The number of a pick.
     Number,
     /// How many silent picks a shortened stretch has.
@@ -89,4 +94,15 @@ pub struct Picture {
     pub rects: Vec<Rect>,
     pub labels: Vec<Label>,
     pub ticks: Vec<Tick>,
+    pub ghost near: { width ≤ WIDEST },
+    pub ghost low: { height ≤ HIGHEST },
+}
+
+/// How large a picture is shown.
+#[derive(Clone, Copy, Debug, PartialEq, Eq)]
+pub struct Size {
+    /// How wide it is at 100 percent, in pixels, if not as wide as its shapes are.
+    pub width: Option<u32>,
+    /// How large it is, in percent.
+    pub scale: u16,
 }

@@ -26,6 +26,11 @@ pub const NAME_SIDE: u64 = 100;
 /// Where names and notes begin.
 pub const MARGIN: u64 = 8;
 
+/// How far apart the places are at which the name of an arm is written once more, and how far above its line.
+pub const AGAIN: u64 = 800;
+
+pub const AGAIN_UP: u64 = 17;
+
 /// Where the first row begins, below the numbers of the picks.
 pub const TOP: u64 = 40;
 
@@ -94,6 +99,11 @@ pub const MIN_WIDTH: u64 = 680;
 pub const RIGHT: u64 = 20;
 
 pub const BOTTOM: u64 = 80;
+
+/// No picture is wider or higher.
+pub const WIDEST: u64 = 35_184_372_088_832;
+
+pub const HIGHEST: u64 = 9_223_372_036_854_775_808;
 
 /// No row is lower.
 pub const LOWEST: u64 = 4_611_686_018_427_387_904;

@@ -1,10 +1,11 @@
 //! A picture as SVG.
 
-ghost use Rattle.std.specs.Prelude.{◌≡◌, ◌++◌, IfOk, OnOk};
+ghost use Rattle.std.specs.Prelude.{◌≡◌, ◌≤◌, ◌^◌, ◌++◌, IfOk, OnOk};
+ghost use Rattle.std.specs.Fmt.{decimal};
 ghost use Rattle.std.specs.List.{flat_map};
 ghost use Rattle.pb_draw_picture.specs.Svg as spec;
 
-use crate::picture::{Label, LabelKind, Picture, Rect, RectKind, Tick, TickKind};
+use crate::picture::{Label, LabelKind, Picture, Rect, RectKind, Size, Tick, TickKind};
 use pb_base::NoMemory;
 use pb_base::writing::{put, put_number};
 use std::alloc::Global;
@@ -30,6 +31,7 @@ fn label_word(kind: LabelKind) -> &'static [u8]
 {
     match kind {
         LabelKind::Name => b"name",
+        LabelKind::Again => b"again",
         LabelKind::Number => b"number",
         LabelKind::Silent => b"silent",
         LabelKind::Bundle => b"bundle",
@@ -142,21 +144,61 @@ fn style() -> &'static [u8]
     STYLE
 }
 
-/// Appends what a picture begins with to `text`.
-fn put_head(text: &mut Vec<u8>, picture: &Picture) -> Result<(), NoMemory>
-    ensures { OnOk result (text.new.items ≡ text.old.items ++ spec.head_text picture.now) }
+/// Returns how wide a picture is shown.
+fn shown_width(size: Size, picture: &Picture) -> u128
+    ensures width { result ≡ spec.shown_width size picture.now }
+    ensures near { result ≤ 2 ^ 61 }
+{
+    let width = match size.width {
+        Some(width) => u64::from(width),
+        None => picture.width,
+    };
+    u128::from(width) * u128::from(size.scale) / 100
+}
+
+/// Returns how high a picture is shown.
+fn shown_height(size: Size, picture: &Picture) -> u128
+    ensures { result ≡ spec.shown_height size picture.now }
+{
+    u128::from(picture.height) * shown_width(size, picture) / u128::from(picture.width.max(1))
+}
+
+/// Appends words and then a number to `text`.
+fn put_wide(text: &mut Vec<u8>, words: &[u8], number: u128) -> Result<(), NoMemory>
+    ensures { OnOk result (text.new.items ≡ text.old.items ++ (words.now ++ decimal number)) }
+{
+    put_number(text, words, number)
+}
+
+/// Appends what a picture that is shown so wide and so high begins with to `text`.
+fn put_head_for(
+    text: &mut Vec<u8>,
+    width: u128,
+    height: u128,
+    picture: &Picture,
+) -> Result<(), NoMemory>
+    ensures { OnOk result (text.new.items ≡ text.old.items ++ spec.head_for width height picture.now) }
 {
     let looks = style();
-    put_number(
+    put_wide(
         text,
         b"<svg xmlns=\"http://www.w3.org/2000/svg\" width=\"",
-        picture.width,
+        width,
     )?;
-    put_number(text, b"\" height=\"", picture.height)?;
+    put_wide(text, b"\" height=\"", height)?;
     put_number(text, b"\" viewBox=\"0 0 ", picture.width)?;
     put_number(text, b" ", picture.height)?;
     put(text, looks)?;
     Ok(())
+}
+
+/// Appends what a picture begins with to `text`.
+fn put_head(text: &mut Vec<u8>, size: Size, picture: &Picture) -> Result<(), NoMemory>
+    ensures { OnOk result (text.new.items ≡ text.old.items ++ spec.head_text size picture.now) }
+{
+    let width = shown_width(size, picture);
+    let height = shown_height(size, picture);
+    put_head_for(text, width, height, picture)
 }
 
 /// How many colours there are: the first eight resources differ, and the ninth has the colour of the first. They are
@@ -165,7 +207,7 @@ const COLOURS: usize = 8;
 
 /// What each kind of shape looks like.
 const STYLE: &[u8] =
-    b"\">\n<title>A run, pick by pick</title>\n<style>\ntext{font:11px monospace;fill:#000}\npath{fill:#000}\n.name{font-weight:bold}\n.number,.silent,.note{fill:#555;font-size:10px}\n.amount{font-size:10px}\n.paper{fill:#fff}\n.gap{fill:#eee}\n.going{fill:#999}\n.short{fill:url(#hatch);stroke:#000;stroke-width:.5}\n.kept{fill:url(#dots);stroke:#000;stroke-width:.5}\n.hatch{stroke:#000}\n.deadlock{fill:#c00;font-weight:bold}\n.hold{stroke:#000;stroke-width:.5}\n.level{fill:#333}\n.r0{fill:#bfe1f6}\n.r1{fill:#f7dca3}\n.r2{fill:#a3dccb}\n.r3{fill:#edcbdd}\n.r4{fill:#f9f5b9}\n.r5{fill:#8fb8dc}\n.r6{fill:#f1c4a6}\n.r7{fill:#d9d9d9}\n.print path{fill:#fff;stroke:#000;stroke-width:1.5}\n.fault path{stroke:#c00;stroke-width:2.5}\n@media (prefers-color-scheme:dark){\ntext{fill:#eee}\npath{fill:#eee}\n.number,.silent,.note{fill:#aaa}\n.paper{fill:#1b1b1b}\n.gap{fill:#333}\n.going{fill:#888}\n.short,.kept{stroke:#eee}\n.hatch{stroke:#eee}\n.deadlock{fill:#f66}\n.hold{stroke:#eee}\n.level{fill:#ddd}\n.r0{fill:#1f5f86}\n.r1{fill:#7a5600}\n.r2{fill:#00604a}\n.r3{fill:#74405d}\n.r4{fill:#6b6600}\n.r5{fill:#00436a}\n.r6{fill:#7d3800}\n.r7{fill:#555}\n.print path{fill:#1b1b1b;stroke:#eee}\n.fault path{stroke:#f66}\n}\n</style>\n<defs><pattern id=\"hatch\" width=\"5\" height=\"5\" patternUnits=\"userSpaceOnUse\"><path class=\"hatch\" d=\"M0 5L5 0\"/></pattern><pattern id=\"dots\" width=\"8\" height=\"8\" patternUnits=\"userSpaceOnUse\"><path d=\"M2 4a2 2 0 1 0 4 0a2 2 0 1 0-4 0z\"/></pattern></defs>\n<rect class=\"paper\" width=\"100%\" height=\"100%\"/>\n";
+    b"\">\n<title>A run, pick by pick</title>\n<style>\ntext{font:11px monospace;fill:#000}\npath{fill:#000}\n.name{font-weight:bold}\n.number,.silent,.note,.again{fill:#555;font-size:10px}\n.amount{font-size:10px}\n.paper{fill:#fff}\n.gap{fill:#eee}\n.going{fill:#999}\n.short{fill:url(#hatch);stroke:#000;stroke-width:.5}\n.kept{fill:url(#dots);stroke:#000;stroke-width:.5}\n.hatch{stroke:#000}\n.deadlock{fill:#c00;font-weight:bold}\n.hold{stroke:#000;stroke-width:.5}\n.level{fill:#333}\n.r0{fill:#bfe1f6}\n.r1{fill:#f7dca3}\n.r2{fill:#a3dccb}\n.r3{fill:#edcbdd}\n.r4{fill:#f9f5b9}\n.r5{fill:#8fb8dc}\n.r6{fill:#f1c4a6}\n.r7{fill:#d9d9d9}\n.print path{fill:#fff;stroke:#000;stroke-width:1.5}\n.fault path{stroke:#c00;stroke-width:2.5}\n@media (prefers-color-scheme:dark){\ntext{fill:#eee}\npath{fill:#eee}\n.number,.silent,.note,.again{fill:#aaa}\n.paper{fill:#1b1b1b}\n.gap{fill:#333}\n.going{fill:#888}\n.short,.kept{stroke:#eee}\n.hatch{stroke:#eee}\n.deadlock{fill:#f66}\n.hold{stroke:#eee}\n.level{fill:#ddd}\n.r0{fill:#1f5f86}\n.r1{fill:#7a5600}\n.r2{fill:#00604a}\n.r3{fill:#74405d}\n.r4{fill:#6b6600}\n.r5{fill:#00436a}\n.r6{fill:#7d3800}\n.r7{fill:#555}\n.print path{fill:#1b1b1b;stroke:#eee}\n.fault path{stroke:#f66}\n}\n</style>\n<defs><pattern id=\"hatch\" width=\"5\" height=\"5\" patternUnits=\"userSpaceOnUse\"><path class=\"hatch\" d=\"M0 5L5 0\"/></pattern><pattern id=\"dots\" width=\"8\" height=\"8\" patternUnits=\"userSpaceOnUse\"><path d=\"M2 4a2 2 0 1 0 4 0a2 2 0 1 0-4 0z\"/></pattern></defs>\n<rect class=\"paper\" width=\"100%\" height=\"100%\"/>\n";
 
 /// Appends rectangles to `text`.
 fn put_rects(text: &mut Vec<u8>, rects: &[Rect]) -> Result<(), NoMemory>
@@ -197,13 +239,13 @@ fn put_ticks(text: &mut Vec<u8>, ticks: &[Tick]) -> Result<(), NoMemory>
     Ok(())
 }
 
-/// Returns a picture as SVG: a line for each shape, the rectangles first, then the labels, and then the marks
+/// Returns a picture as SVG, shown at a size: a line for each shape, the rectangles first, then the labels, and then the marks
 /// of events.
-pub fn write_svg(alloc: Global, picture: &Picture) -> Result<Vec<u8>, NoMemory>
-    ensures { IfOk result (λ text. text.items ≡ spec.svg picture.now) }
+pub fn write_svg(alloc: Global, size: Size, picture: &Picture) -> Result<Vec<u8>, NoMemory>
+    ensures { IfOk result (λ text. text.items ≡ spec.svg size picture.now) }
 {
     let mut text = Vec::new(alloc);
-    put_head(&mut text, picture)?;
+    put_head(&mut text, size, picture)?;
     put_rects(&mut text, picture.rects.as_slice())?;
     put_labels(&mut text, picture.labels.as_slice())?;
     put_ticks(&mut text, picture.ticks.as_slice())?;

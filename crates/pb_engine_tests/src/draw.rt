@@ -7,10 +7,10 @@ use pb_engines::replay_engine;
 use pb_options::{DrawOptions, Lend, ReplayOptions};
 use std::alloc::Global;
 
-/// An input, who decides on requests, the size that its picture begins with, the shapes behind [`LOOKS`], and the status.
+/// An input, the options, the size that its picture begins with, the shapes behind [`LOOKS`], and the status.
 struct Case {
     input: &'static [u8],
-    lend: Lend,
+    options: DrawOptions,
     head: &'static [u8],
     shapes: &'static [u8],
     status: Status,
@@ -18,22 +18,75 @@ struct Case {
 
 /// What is in each picture between its size and its shapes.
 const LOOKS: &[u8] =
-    b"\">\n<title>A run, pick by pick</title>\n<style>\ntext{font:11px monospace;fill:#000}\npath{fill:#000}\n.name{font-weight:bold}\n.number,.silent,.note{fill:#555;font-size:10px}\n.amount{font-size:10px}\n.paper{fill:#fff}\n.gap{fill:#eee}\n.going{fill:#999}\n.short{fill:url(#hatch);stroke:#000;stroke-width:.5}\n.kept{fill:url(#dots);stroke:#000;stroke-width:.5}\n.hatch{stroke:#000}\n.deadlock{fill:#c00;font-weight:bold}\n.hold{stroke:#000;stroke-width:.5}\n.level{fill:#333}\n.r0{fill:#bfe1f6}\n.r1{fill:#f7dca3}\n.r2{fill:#a3dccb}\n.r3{fill:#edcbdd}\n.r4{fill:#f9f5b9}\n.r5{fill:#8fb8dc}\n.r6{fill:#f1c4a6}\n.r7{fill:#d9d9d9}\n.print path{fill:#fff;stroke:#000;stroke-width:1.5}\n.fault path{stroke:#c00;stroke-width:2.5}\n@media (prefers-color-scheme:dark){\ntext{fill:#eee}\npath{fill:#eee}\n.number,.silent,.note{fill:#aaa}\n.paper{fill:#1b1b1b}\n.gap{fill:#333}\n.going{fill:#888}\n.short,.kept{stroke:#eee}\n.hatch{stroke:#eee}\n.deadlock{fill:#f66}\n.hold{stroke:#eee}\n.level{fill:#ddd}\n.r0{fill:#1f5f86}\n.r1{fill:#7a5600}\n.r2{fill:#00604a}\n.r3{fill:#74405d}\n.r4{fill:#6b6600}\n.r5{fill:#00436a}\n.r6{fill:#7d3800}\n.r7{fill:#555}\n.print path{fill:#1b1b1b;stroke:#eee}\n.fault path{stroke:#f66}\n}\n</style>\n<defs><pattern id=\"hatch\" width=\"5\" height=\"5\" patternUnits=\"userSpaceOnUse\"><path class=\"hatch\" d=\"M0 5L5 0\"/></pattern><pattern id=\"dots\" width=\"8\" height=\"8\" patternUnits=\"userSpaceOnUse\"><path d=\"M2 4a2 2 0 1 0 4 0a2 2 0 1 0-4 0z\"/></pattern></defs>\n<rect class=\"paper\" width=\"100%\" height=\"100%\"/>\n";
+    b"\">\n<title>A run, pick by pick</title>\n<style>\ntext{font:11px monospace;fill:#000}\npath{fill:#000}\n.name{font-weight:bold}\n.number,.silent,.note,.again{fill:#555;font-size:10px}\n.amount{font-size:10px}\n.paper{fill:#fff}\n.gap{fill:#eee}\n.going{fill:#999}\n.short{fill:url(#hatch);stroke:#000;stroke-width:.5}\n.kept{fill:url(#dots);stroke:#000;stroke-width:.5}\n.hatch{stroke:#000}\n.deadlock{fill:#c00;font-weight:bold}\n.hold{stroke:#000;stroke-width:.5}\n.level{fill:#333}\n.r0{fill:#bfe1f6}\n.r1{fill:#f7dca3}\n.r2{fill:#a3dccb}\n.r3{fill:#edcbdd}\n.r4{fill:#f9f5b9}\n.r5{fill:#8fb8dc}\n.r6{fill:#f1c4a6}\n.r7{fill:#d9d9d9}\n.print path{fill:#fff;stroke:#000;stroke-width:1.5}\n.fault path{stroke:#c00;stroke-width:2.5}\n@media (prefers-color-scheme:dark){\ntext{fill:#eee}\npath{fill:#eee}\n.number,.silent,.note,.again{fill:#aaa}\n.paper{fill:#1b1b1b}\n.gap{fill:#333}\n.going{fill:#888}\n.short,.kept{stroke:#eee}\n.hatch{stroke:#eee}\n.deadlock{fill:#f66}\n.hold{stroke:#eee}\n.level{fill:#ddd}\n.r0{fill:#1f5f86}\n.r1{fill:#7a5600}\n.r2{fill:#00604a}\n.r3{fill:#74405d}\n.r4{fill:#6b6600}\n.r5{fill:#00436a}\n.r6{fill:#7d3800}\n.r7{fill:#555}\n.print path{fill:#1b1b1b;stroke:#eee}\n.fault path{stroke:#f66}\n}\n</style>\n<defs><pattern id=\"hatch\" width=\"5\" height=\"5\" patternUnits=\"userSpaceOnUse\"><path class=\"hatch\" d=\"M0 5L5 0\"/></pattern><pattern id=\"dots\" width=\"8\" height=\"8\" patternUnits=\"userSpaceOnUse\"><path d=\"M2 4a2 2 0 1 0 4 0a2 2 0 1 0-4 0z\"/></pattern></defs>\n<rect class=\"paper\" width=\"100%\" height=\"100%\"/>\n";
 
 /// A run to its end, and a run whose hold is not given back.
 const RUNS: [Case; 2] = [
     Case {
-        input: b"process p begin print 1 end\n%%\np.0 3\n",
-        lend: Lend::Banker,
+        input: PRINT,
+        options: BY_BANKER,
         head: b"<svg xmlns=\"http://www.w3.org/2000/svg\" width=\"680\" height=\"158\" viewBox=\"0 0 680 158",
-        shapes: b"<rect class=\"going\" x=\"107\" y=\"58\" width=\"119\" height=\"8\"/>\n<text class=\"number\" x=\"161\" y=\"28\">1</text>\n<text class=\"number\" x=\"226\" y=\"28\">2</text>\n<text class=\"name\" x=\"8\" y=\"66\">p.0</text>\n<text class=\"note\" x=\"8\" y=\"102\">time goes from left to right, pick by pick, with the numbers of picks above. grey: shortened</text>\n<text class=\"note\" x=\"8\" y=\"116\">line: an arm. hatched: it asks for more than is there. dotted: the banker keeps back what is there</text>\n<text class=\"note\" x=\"8\" y=\"130\">bar: what it holds. triangle: taken or given back, circle: print, cross: fault, square: end</text>\n<g class=\"print\"><title>p.0 print 1</title><path d=\"M161 62m-4 0a4 4 0 1 0 8 0a4 4 0 1 0-8 0z\"/><text x=\"157\" y=\"53\">print 1</text></g>\n<g class=\"end\"><title>p end</title><path d=\"M226 62m-4-4h8v8h-8z\"/><text x=\"222\" y=\"53\">end</text></g>\n</svg>\n",
+        shapes: PRINTED,
         status: Status::Done,
     },
     Case {
         input: b"resource tape = 1;\nprocess a begin hold 1 of tape do print 1 od end\n%%\na.0 3\n",
-        lend: Lend::Banker,
+        options: BY_BANKER,
         head: b"<svg xmlns=\"http://www.w3.org/2000/svg\" width=\"680\" height=\"252\" viewBox=\"0 0 680 252",
         shapes: b"<rect class=\"going\" x=\"128\" y=\"58\" width=\"177\" height=\"8\"/>\n<rect class=\"hold r0\" x=\"176\" y=\"68\" width=\"129\" height=\"15\"/>\n<rect class=\"cash r0\" x=\"128\" y=\"124\" width=\"48\" height=\"48\"/>\n<rect class=\"level\" x=\"128\" y=\"123\" width=\"48\" height=\"2\"/>\n<rect class=\"cash r0\" x=\"176\" y=\"172\" width=\"129\" height=\"0\"/>\n<rect class=\"level\" x=\"176\" y=\"171\" width=\"129\" height=\"2\"/>\n<text class=\"number\" x=\"176\" y=\"28\">0</text>\n<text class=\"number\" x=\"240\" y=\"28\">2</text>\n<text class=\"name\" x=\"8\" y=\"66\">a.0</text>\n<text class=\"bundle\" x=\"183\" y=\"79\">1 tape</text>\n<text class=\"name\" x=\"8\" y=\"172\">tape of 1</text>\n<text class=\"amount\" x=\"130\" y=\"120\">1</text>\n<text class=\"amount\" x=\"178\" y=\"168\">0</text>\n<text class=\"note\" x=\"8\" y=\"196\">time goes from left to right, pick by pick, with the numbers of picks above. grey: shortened</text>\n<text class=\"note\" x=\"8\" y=\"210\">line: an arm. hatched: it asks for more than is there. dotted: the banker keeps back what is there</text>\n<text class=\"note\" x=\"8\" y=\"224\">bar: what it holds. triangle: taken or given back, circle: print, cross: fault, square: end</text>\n<g class=\"grant\"><title>a.0 grant 1 tape</title><path d=\"M176 62m0-6v12l7-6z\"/><text x=\"172\" y=\"53\"></text></g>\n<g class=\"print\"><title>a.0 print 1</title><path d=\"M240 62m-4 0a4 4 0 1 0 8 0a4 4 0 1 0-8 0z\"/><text x=\"236\" y=\"53\">print 1</text></g>\n</svg>\n",
+        status: Status::Done,
+    },
+];
+
+/// The shapes of the run of `PRINT` to its end.
+const PRINTED: &[u8] = b"<rect class=\"going\" x=\"107\" y=\"58\" width=\"119\" height=\"8\"/>\n<text class=\"number\" x=\"161\" y=\"28\">1</text>\n<text class=\"number\" x=\"226\" y=\"28\">2</text>\n<text class=\"name\" x=\"8\" y=\"66\">p.0</text>\n<text class=\"note\" x=\"8\" y=\"102\">time goes from left to right, pick by pick, with the numbers of picks above. grey: shortened</text>\n<text class=\"note\" x=\"8\" y=\"116\">line: an arm. hatched: it asks for more than is there. dotted: the banker keeps back what is there</text>\n<text class=\"note\" x=\"8\" y=\"130\">bar: what it holds. triangle: taken or given back, circle: print, cross: fault, square: end</text>\n<g class=\"print\"><title>p.0 print 1</title><path d=\"M161 62m-4 0a4 4 0 1 0 8 0a4 4 0 1 0-8 0z\"/><text x=\"157\" y=\"53\">print 1</text></g>\n<g class=\"end\"><title>p end</title><path d=\"M226 62m-4-4h8v8h-8z\"/><text x=\"222\" y=\"53\">end</text></g>\n</svg>\n";
+
+const PRINT: &[u8] = b"process p begin print 1 end\n%%\np.0 3\n";
+
+/// The same run, larger, smaller, as wide as is asked, and larger than that.
+const SIZES: [Case; 4] = [
+    Case {
+        input: PRINT,
+        options: DrawOptions {
+            lend: Lend::Banker,
+            width: None,
+            scale: 200,
+        },
+        head: b"<svg xmlns=\"http://www.w3.org/2000/svg\" width=\"1360\" height=\"316\" viewBox=\"0 0 680 158",
+        shapes: PRINTED,
+        status: Status::Done,
+    },
+    Case {
+        input: PRINT,
+        options: DrawOptions {
+            lend: Lend::Banker,
+            width: None,
+            scale: 50,
+        },
+        head: b"<svg xmlns=\"http://www.w3.org/2000/svg\" width=\"340\" height=\"79\" viewBox=\"0 0 680 158",
+        shapes: PRINTED,
+        status: Status::Done,
+    },
+    Case {
+        input: PRINT,
+        options: DrawOptions {
+            lend: Lend::Banker,
+            width: Some(1_000),
+            scale: 100,
+        },
+        head: b"<svg xmlns=\"http://www.w3.org/2000/svg\" width=\"1000\" height=\"232\" viewBox=\"0 0 680 158",
+        shapes: PRINTED,
+        status: Status::Done,
+    },
+    Case {
+        input: PRINT,
+        options: DrawOptions {
+            lend: Lend::Banker,
+            width: Some(1_000),
+            scale: 150,
+        },
+        head: b"<svg xmlns=\"http://www.w3.org/2000/svg\" width=\"1500\" height=\"348\" viewBox=\"0 0 680 158",
+        shapes: PRINTED,
         status: Status::Done,
     },
 ];
@@ -41,9 +94,9 @@ const RUNS: [Case; 2] = [
 /// A run that ends with a fault, which gives its hold back.
 const FAULT: Case = Case {
     input: b"resource tape = 1;\nprocess a begin hold 1 of tape do print 1 div 0 od end\n%%\na.0 4\n",
-    lend: Lend::Banker,
+    options: BY_BANKER,
     head: b"<svg xmlns=\"http://www.w3.org/2000/svg\" width=\"680\" height=\"252\" viewBox=\"0 0 680 252",
-    shapes: b"<rect class=\"going\" x=\"128\" y=\"58\" width=\"118\" height=\"8\"/>\n<rect class=\"hold r0\" x=\"176\" y=\"68\" width=\"70\" height=\"15\"/>\n<rect class=\"cash r0\" x=\"128\" y=\"124\" width=\"48\" height=\"48\"/>\n<rect class=\"level\" x=\"128\" y=\"123\" width=\"48\" height=\"2\"/>\n<rect class=\"cash r0\" x=\"176\" y=\"172\" width=\"70\" height=\"0\"/>\n<rect class=\"level\" x=\"176\" y=\"171\" width=\"70\" height=\"2\"/>\n<rect class=\"cash r0\" x=\"246\" y=\"124\" width=\"100\" height=\"48\"/>\n<rect class=\"level\" x=\"246\" y=\"123\" width=\"100\" height=\"2\"/>\n<text class=\"number\" x=\"176\" y=\"28\">0</text>\n<text class=\"number\" x=\"246\" y=\"28\">3</text>\n<text class=\"name\" x=\"8\" y=\"66\">a.0</text>\n<text class=\"bundle\" x=\"183\" y=\"79\">1 tape</text>\n<text class=\"name\" x=\"8\" y=\"172\">tape of 1</text>\n<text class=\"amount\" x=\"130\" y=\"120\">1</text>\n<text class=\"amount\" x=\"178\" y=\"168\">0</text>\n<text class=\"amount\" x=\"248\" y=\"120\">1</text>\n<text class=\"note\" x=\"8\" y=\"196\">time goes from left to right, pick by pick, with the numbers of picks above. grey: shortened</text>\n<text class=\"note\" x=\"8\" y=\"210\">line: an arm. hatched: it asks for more than is there. dotted: the banker keeps back what is there</text>\n<text class=\"note\" x=\"8\" y=\"224\">bar: what it holds. triangle: taken or given back, circle: print, cross: fault, square: end</text>\n<g class=\"grant\"><title>a.0 grant 1 tape</title><path d=\"M176 62m0-6v12l7-6z\"/><text x=\"172\" y=\"53\"></text></g>\n<g class=\"fault\"><title>a.0 fault divide</title><path d=\"M246 62m-5-5l10 10m0-10l-10 10\"/><text x=\"242\" y=\"53\">fault divide</text></g>\n</svg>\n",
+    shapes: b"<rect class=\"going\" x=\"128\" y=\"58\" width=\"118\" height=\"8\"/>\n<rect class=\"hold r0\" x=\"176\" y=\"68\" width=\"70\" height=\"15\"/>\n<rect class=\"cash r0\" x=\"128\" y=\"124\" width=\"48\" height=\"48\"/>\n<rect class=\"level\" x=\"128\" y=\"123\" width=\"48\" height=\"2\"/>\n<rect class=\"cash r0\" x=\"176\" y=\"172\" width=\"70\" height=\"0\"/>\n<rect class=\"level\" x=\"176\" y=\"171\" width=\"70\" height=\"2\"/>\n<rect class=\"cash r0\" x=\"246\" y=\"124\" width=\"156\" height=\"48\"/>\n<rect class=\"level\" x=\"246\" y=\"123\" width=\"156\" height=\"2\"/>\n<text class=\"number\" x=\"176\" y=\"28\">0</text>\n<text class=\"number\" x=\"246\" y=\"28\">3</text>\n<text class=\"name\" x=\"8\" y=\"66\">a.0</text>\n<text class=\"bundle\" x=\"183\" y=\"79\">1 tape</text>\n<text class=\"name\" x=\"8\" y=\"172\">tape of 1</text>\n<text class=\"amount\" x=\"130\" y=\"120\">1</text>\n<text class=\"amount\" x=\"178\" y=\"168\">0</text>\n<text class=\"amount\" x=\"248\" y=\"120\">1</text>\n<text class=\"note\" x=\"8\" y=\"196\">time goes from left to right, pick by pick, with the numbers of picks above. grey: shortened</text>\n<text class=\"note\" x=\"8\" y=\"210\">line: an arm. hatched: it asks for more than is there. dotted: the banker keeps back what is there</text>\n<text class=\"note\" x=\"8\" y=\"224\">bar: what it holds. triangle: taken or given back, circle: print, cross: fault, square: end</text>\n<g class=\"grant\"><title>a.0 grant 1 tape</title><path d=\"M176 62m0-6v12l7-6z\"/><text x=\"172\" y=\"53\"></text></g>\n<g class=\"fault\"><title>a.0 fault divide</title><path d=\"M246 62m-5-5l10 10m0-10l-10 10\"/><text x=\"242\" y=\"53\">fault divide, line 2</text></g>\n</svg>\n",
     status: Status::Fault,
 };
 
@@ -51,14 +104,14 @@ const FAULT: Case = Case {
 const WAITS: [Case; 2] = [
     Case {
         input: b"resource r = 1; resource s = 1; process p begin hold 1 of r do hold 1 of s do skip od od end process q begin hold 1 of s do hold 1 of r do skip od od end\n%%\np.0 1\nq.0 1\n",
-        lend: Lend::Cash,
+        options: BY_CASH,
         head: b"<svg xmlns=\"http://www.w3.org/2000/svg\" width=\"680\" height=\"384\" viewBox=\"0 0 680 384",
         shapes: b"<rect class=\"going\" x=\"107\" y=\"58\" width=\"85\" height=\"8\"/>\n<rect class=\"short\" x=\"192\" y=\"58\" width=\"37\" height=\"8\"/>\n<rect class=\"going\" x=\"107\" y=\"114\" width=\"85\" height=\"8\"/>\n<rect class=\"short\" x=\"192\" y=\"114\" width=\"37\" height=\"8\"/>\n<rect class=\"hold r0\" x=\"155\" y=\"68\" width=\"74\" height=\"15\"/>\n<rect class=\"hold r1\" x=\"192\" y=\"124\" width=\"37\" height=\"15\"/>\n<rect class=\"cash r0\" x=\"107\" y=\"180\" width=\"48\" height=\"48\"/>\n<rect class=\"level\" x=\"107\" y=\"179\" width=\"48\" height=\"2\"/>\n<rect class=\"cash r0\" x=\"155\" y=\"228\" width=\"74\" height=\"0\"/>\n<rect class=\"level\" x=\"155\" y=\"227\" width=\"74\" height=\"2\"/>\n<rect class=\"cash r1\" x=\"107\" y=\"256\" width=\"85\" height=\"48\"/>\n<rect class=\"level\" x=\"107\" y=\"255\" width=\"85\" height=\"2\"/>\n<rect class=\"cash r1\" x=\"192\" y=\"304\" width=\"37\" height=\"0\"/>\n<rect class=\"level\" x=\"192\" y=\"303\" width=\"37\" height=\"2\"/>\n<text class=\"number\" x=\"155\" y=\"28\">0</text>\n<text class=\"number\" x=\"192\" y=\"28\">1</text>\n<text class=\"name\" x=\"8\" y=\"66\">p.0</text>\n<text class=\"name\" x=\"8\" y=\"122\">q.0</text>\n<text class=\"bundle\" x=\"162\" y=\"79\">1 r</text>\n<text class=\"bundle\" x=\"199\" y=\"135\">1 s</text>\n<text class=\"name\" x=\"8\" y=\"228\">r of 1</text>\n<text class=\"amount\" x=\"109\" y=\"176\">1</text>\n<text class=\"amount\" x=\"157\" y=\"224\">0</text>\n<text class=\"name\" x=\"8\" y=\"304\">s of 1</text>\n<text class=\"amount\" x=\"109\" y=\"252\">1</text>\n<text class=\"amount\" x=\"194\" y=\"300\">0</text>\n<text class=\"note\" x=\"8\" y=\"328\">time goes from left to right, pick by pick, with the numbers of picks above. grey: shortened</text>\n<text class=\"note\" x=\"8\" y=\"342\">line: an arm. hatched: it asks for more than is there. dotted: the banker keeps back what is there</text>\n<text class=\"note\" x=\"8\" y=\"356\">bar: what it holds. triangle: taken or given back, circle: print, cross: fault, square: end</text>\n<text class=\"deadlock\" x=\"8\" y=\"372\">deadlock: no arm can go on</text>\n<g class=\"grant\"><title>p.0 grant 1 r</title><path d=\"M155 62m0-6v12l7-6z\"/><text x=\"151\" y=\"53\"></text></g>\n<g class=\"grant\"><title>q.0 grant 1 s</title><path d=\"M192 118m0-6v12l7-6z\"/><text x=\"188\" y=\"109\"></text></g>\n</svg>\n",
         status: Status::Deadlock,
     },
     Case {
         input: b"resource r = 1; resource s = 1; process p begin hold 1 of r do hold 1 of s do skip od od end process q begin hold 1 of s do hold 1 of r do skip od od end\n%%\np.0 1\n",
-        lend: Lend::Banker,
+        options: BY_BANKER,
         head: b"<svg xmlns=\"http://www.w3.org/2000/svg\" width=\"680\" height=\"366\" viewBox=\"0 0 680 366",
         shapes: b"<rect class=\"going\" x=\"107\" y=\"58\" width=\"85\" height=\"8\"/>\n<rect class=\"going\" x=\"107\" y=\"114\" width=\"48\" height=\"8\"/>\n<rect class=\"kept\" x=\"155\" y=\"114\" width=\"37\" height=\"8\"/>\n<rect class=\"hold r0\" x=\"155\" y=\"68\" width=\"37\" height=\"15\"/>\n<rect class=\"cash r0\" x=\"107\" y=\"162\" width=\"48\" height=\"48\"/>\n<rect class=\"level\" x=\"107\" y=\"161\" width=\"48\" height=\"2\"/>\n<rect class=\"cash r0\" x=\"155\" y=\"210\" width=\"37\" height=\"0\"/>\n<rect class=\"level\" x=\"155\" y=\"209\" width=\"37\" height=\"2\"/>\n<rect class=\"cash r1\" x=\"107\" y=\"238\" width=\"85\" height=\"48\"/>\n<rect class=\"level\" x=\"107\" y=\"237\" width=\"85\" height=\"2\"/>\n<text class=\"number\" x=\"155\" y=\"28\">0</text>\n<text class=\"name\" x=\"8\" y=\"66\">p.0</text>\n<text class=\"name\" x=\"8\" y=\"122\">q.0</text>\n<text class=\"bundle\" x=\"162\" y=\"79\">1 r</text>\n<text class=\"name\" x=\"8\" y=\"210\">r of 1</text>\n<text class=\"amount\" x=\"109\" y=\"158\">1</text>\n<text class=\"amount\" x=\"157\" y=\"206\">0</text>\n<text class=\"name\" x=\"8\" y=\"286\">s of 1</text>\n<text class=\"amount\" x=\"109\" y=\"234\">1</text>\n<text class=\"note\" x=\"8\" y=\"310\">time goes from left to right, pick by pick, with the numbers of picks above. grey: shortened</text>\n<text class=\"note\" x=\"8\" y=\"324\">line: an arm. hatched: it asks for more than is there. dotted: the banker keeps back what is there</text>\n<text class=\"note\" x=\"8\" y=\"338\">bar: what it holds. triangle: taken or given back, circle: print, cross: fault, square: end</text>\n<g class=\"grant\"><title>p.0 grant 1 r</title><path d=\"M155 62m0-6v12l7-6z\"/><text x=\"151\" y=\"53\"></text></g>\n</svg>\n",
         status: Status::Done,
@@ -91,7 +144,17 @@ const REFUSALS: [Refusal; 4] = [
     },
 ];
 
-const BY_BANKER: DrawOptions = DrawOptions { lend: Lend::Banker };
+const BY_BANKER: DrawOptions = DrawOptions {
+    lend: Lend::Banker,
+    width: None,
+    scale: 100,
+};
+
+const BY_CASH: DrawOptions = DrawOptions {
+    lend: Lend::Cash,
+    width: None,
+    scale: 100,
+};
 
 /// Returns whether exactly the picture of a case is written, with its status.
 fn draws(alloc: Global, case: &Case) -> Option<bool> {
@@ -101,7 +164,7 @@ fn draws(alloc: Global, case: &Case) -> Option<bool> {
     let mut output = MemoryOutput::new(alloc, 16_384).ok()?;
     let status = draw_engine(
         alloc,
-        DrawOptions { lend: case.lend },
+        case.options,
         &mut MemoryInput::new(case.input),
         &mut output,
     );
@@ -127,6 +190,49 @@ fn runs_are_drawn(rt: HostRuntime) {
     for case in &RUNS {
         assert!(rt; draws(rt.alloc(), case) == Some(true));
     }
+}
+
+#[test]
+fn a_picture_is_as_large_as_is_asked(rt: HostRuntime) {
+    for case in &SIZES {
+        assert!(rt; draws(rt.alloc(), case) == Some(true));
+    }
+}
+
+/// Returns whether the picture of an input has these bytes in it.
+fn has(alloc: Global, input: &'static [u8], line: &[u8]) -> Option<bool> {
+    let mut output = MemoryOutput::new(alloc, 65_536).ok()?;
+    let _ = draw_engine(alloc, BY_BANKER, &mut MemoryInput::new(input), &mut output);
+    let picture = output.as_slice();
+    for at in 0..picture.len() {
+        if picture[at..].starts_with(line) {
+            return Some(true);
+        }
+    }
+    Some(false)
+}
+
+#[test]
+fn a_wide_picture_has_names_again(rt: HostRuntime) {
+    let prints = b"process p begin while 1 do print 1 od end\n%%\np.0 60\n";
+    let again = b"<text class=\"again\" x=\"800\" y=\"41\">p.0</text>\n";
+    assert!(rt; has(rt.alloc(), prints, again) == Some(true));
+    assert!(rt; has(rt.alloc(), PRINT, again) == Some(false));
+}
+
+/// A run whose picture would have more than 8 MB.
+const LARGE: &[u8] = b"process p begin while 1 do print 1 od end\n%%\np.0 200000\n";
+
+/// Returns whether it is told that a picture is too large, and nothing else.
+fn is_too_large(alloc: Global) -> Option<bool> {
+    let mut output = MemoryOutput::new(alloc, 64).ok()?;
+    let status = draw_engine(alloc, BY_BANKER, &mut MemoryInput::new(LARGE), &mut output);
+    Some(status == Status::Limit && output.as_slice() == b"limit 8388608\n")
+}
+
+#[test]
+fn a_picture_that_is_too_large_is_not_written(rt: HostRuntime) {
+    assert!(rt; is_too_large(rt.alloc()) == Some(true));
 }
 
 #[test]

@@ -42,7 +42,14 @@ fn commands_have_their_defaults(rt: HostRuntime) {
                 lend: Lend::Banker,
             }),
         ),
-        ("draw", Options::Draw(DrawOptions { lend: Lend::Banker })),
+        (
+            "draw",
+            Options::Draw(DrawOptions {
+                lend: Lend::Banker,
+                width: None,
+                scale: 100,
+            }),
+        ),
         (
             "emit",
             Options::Emit(EmitOptions {
@@ -219,7 +226,47 @@ fn options_with_one_word_are_read(rt: HostRuntime) {
         (
             "draw",
             "--lend=cash",
-            Options::Draw(DrawOptions { lend: Lend::Cash }),
+            Options::Draw(DrawOptions {
+                lend: Lend::Cash,
+                width: None,
+                scale: 100,
+            }),
+        ),
+        (
+            "draw",
+            "--width=200",
+            Options::Draw(DrawOptions {
+                lend: Lend::Banker,
+                width: Some(200),
+                scale: 100,
+            }),
+        ),
+        (
+            "draw",
+            "--width=20000",
+            Options::Draw(DrawOptions {
+                lend: Lend::Banker,
+                width: Some(20_000),
+                scale: 100,
+            }),
+        ),
+        (
+            "draw",
+            "--scale=50",
+            Options::Draw(DrawOptions {
+                lend: Lend::Banker,
+                width: None,
+                scale: 50,
+            }),
+        ),
+        (
+            "draw",
+            "--scale=400",
+            Options::Draw(DrawOptions {
+                lend: Lend::Banker,
+                width: None,
+                scale: 400,
+            }),
         ),
         (
             "replay",
@@ -397,6 +444,10 @@ fn other_words_are_refused(rt: HostRuntime) {
         ("debug", "--steps=3"),
         ("debug", "text"),
         ("draw", "--svg"),
+        ("draw", "--width=199"),
+        ("draw", "--width=20001"),
+        ("draw", "--scale=49"),
+        ("draw", "--scale=401"),
         ("emit", "--object=0"),
         ("emit", "--object=3"),
         ("emit", "--object=one"),

@@ -7,7 +7,7 @@ use Rattle.pb_base.specs.Device.{appended, one_more_failure, AddsPrefix}
 use Rattle.pb_answer.specs.Calls.{CallTellsFaults, CallWrites}
 use Rattle.pb_command_io.specs.Faults.{Devices, TellsFaults}
 use Rattle.pb_command_io.specs.declared.status.Status.{Status}
-use Rattle.pb_command_io.specs.declared.status.Status.TheVariants.{Done, Limit, Refused}
+use Rattle.pb_command_io.specs.declared.status.Status.TheVariants.{Done, Fault, Limit, Refused}
 use Rattle.pb_json_lines.specs.Dialects.{comes_live, dialect_of}
 use Rattle.pb_json_lines.specs.Live.{IsEnded, LiveSink, begun, failures_of_writers, seen_by_writers}
 use Rattle.pb_json_lines.specs.Replies.{TellsInJson}
@@ -77,7 +77,7 @@ TellsRefused option.Plan = SaysToPerson reading.Together
 TellsRefused (option.Record numbers) = SaysToPerson reading.Recorded
 TellsRefused (option.Replay options) = SaysToPerson (reading.Replayed (lending_for options.lend))
 TellsRefused (option.Run numbers) = SaysToPerson reading.Text
-TellsRefused (option.States options) = SaysToPerson (reading.Replayed (lending_for options.lend))
+TellsRefused (option.States options) = SaysToPerson (reading.Shown (lending_for options.lend))
 
 -- what a person is told of a run that was stopped by its steps
 abbrev pub stopped_run : List ℕ
@@ -87,6 +87,10 @@ stopped_run = codes "limit steps: the run was stopped before its end\n  = hint: 
 abbrev pub stopped_search : List ℕ
 stopped_search = codes "limit search: there may be more than what was found; the last line says why\n  = hint: --states N allows N configurations, at most 4000000\n"
 
+-- what a person is told of a picture that would be too large
+abbrev pub large_picture : List ℕ
+large_picture = codes "limit picture: the picture would have more than 8388608 bytes\n  = hint: the first of the lines behind %% draw the begin of the run; `parbegin page` shows a long run a part at a time\n"
+
 -- what a person is told of a call that was stopped by a limit: how it is raised
 abbrev pub limit_message : Options → List ℕ
 limit_message option.Bank = []
@@ -94,7 +98,7 @@ limit_message (option.Check numbers) = []
 limit_message option.Claims = []
 limit_message option.Dap = []
 limit_message (option.Debug flags) = []
-limit_message (option.Draw options) = []
+limit_message (option.Draw options) = large_picture
 limit_message (option.Emit numbers) = []
 limit_message (option.Exec numbers) = stopped_run
 limit_message (option.Explain code) = []
@@ -106,6 +110,37 @@ limit_message (option.Record numbers) = []
 limit_message (option.Replay options) = []
 limit_message (option.Run numbers) = stopped_run
 limit_message (option.States numbers) = []
+
+-- what a person is told of a run in which a process faulted, and of one of code
+abbrev pub faulted_run : List ℕ
+faulted_run = codes "fault: an operator of a process had no result, which ended the process\n  = hint: `parbegin record FILE > my.run` writes a run with its picks; if a process faults in it, `parbegin draw my.run` shows in which line, and `fault P` of `parbegin debug my.run`, behind that pick, with which operands\n"
+
+abbrev pub faulted_code : List ℕ
+faulted_code = codes "fault: an operator of a process had no result, which ended the process\n  = hint: of the text, `parbegin record FILE > my.run` writes a run with its picks; if a process faults in it, `parbegin draw my.run` shows in which line, and `fault P` of `parbegin debug my.run`, behind that pick, with which operands\n"
+
+-- and of picks that were made anew
+abbrev pub faulted_replay : List ℕ
+faulted_replay = codes "fault: an operator of a process had no result, which ended the process\n  = hint: `parbegin draw` of the same input shows in which line, and `fault P` of `parbegin debug`, behind that pick, with which operands\n"
+
+-- what a person is told of a call in which a process faulted: how it is seen where
+abbrev pub fault_message : Options → List ℕ
+fault_message option.Bank = []
+fault_message (option.Check numbers) = []
+fault_message option.Claims = []
+fault_message option.Dap = []
+fault_message (option.Debug flags) = []
+fault_message (option.Draw options) = []
+fault_message (option.Emit numbers) = []
+fault_message (option.Exec numbers) = faulted_code
+fault_message (option.Explain code) = []
+fault_message option.Lsp = []
+fault_message option.Migrate = []
+fault_message (option.Outcomes numbers) = []
+fault_message option.Plan = []
+fault_message (option.Record numbers) = []
+fault_message (option.Replay options) = faulted_replay
+fault_message (option.Run numbers) = faulted_run
+fault_message (option.States numbers) = []
 
 -- nothing was written to an output
 abbrev pub Untouched : Devices → Devices → Type 0
@@ -126,14 +161,19 @@ Explains words bytes old new =
 abbrev pub ExplainsLimit : (words : List (Bor Text)) → Devices → Devices → Type 0
 ExplainsLimit words old new = (o : Options) × WordsSay words o × Wrote old new (limit_message o)
 
+-- these words say a command, and how it is seen where a process faulted was written
+abbrev pub ExplainsFault : (words : List (Bor Text)) → Devices → Devices → Type 0
+ExplainsFault words old new = (o : Options) × WordsSay words o × Wrote old new (fault_message o)
+
 -- what a person is told of a call, if it is not to be quiet: nothing; or if it ends with the status of a refusal,
--- what its command says of the bytes that were kept, and if with that of a limit, how the limit is raised
+-- what its command says of the bytes that were kept, if with that of a limit, how the limit is raised, and if with
+-- that of a fault, how it is seen where
 abbrev pub TellsPerson : (words heard : List (Bor Text)) → Status → (kept : Option (List ℕ)) → Devices → Devices → Type 0
 TellsPerson words heard status kept old new =
     Untouched old new
     ⊎ ((IsQuiet words → ⊥)
     × ((status ≡ Refused) × ((bytes : List ℕ) × (kept ≡ Some bytes) × Explains heard bytes old new)
-    ⊎ (status ≡ Limit) × ExplainsLimit heard old new))
+    ⊎ ((status ≡ Limit) × ExplainsLimit heard old new ⊎ (status ≡ Fault) × ExplainsFault heard old new)))
 
 -- what a call writes as JSON lines: those of what it would write to memory, if there is enough, in the forms of its
 -- command, with its status

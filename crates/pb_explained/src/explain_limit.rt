@@ -16,6 +16,10 @@ const STOPPED_RUN: &[u8] =
 const STOPPED_SEARCH: &[u8] =
     b"limit search: there may be more than what was found; the last line says why\n  = hint: --states N allows N configurations, at most 4000000\n";
 
+/// What is said of a picture that would be too large.
+const LARGE_PICTURE: &[u8] =
+    b"limit picture: the picture would have more than 8388608 bytes\n  = hint: the first of the lines behind %% draw the begin of the run; `parbegin page` shows a long run a part at a time\n";
+
 /// Writes how the limit that stopped the command of these words is raised, if it can be.
 pub fn explain_limit<E: Output>(alloc: Global, words: &[&str], error: &mut E)
     ensures { Untouched
@@ -38,12 +42,12 @@ fn limit_message(options: &Options) -> &[u8]
     match options {
         Options::Run(_) | Options::Exec(_) => STOPPED_RUN,
         Options::Outcomes(_) => STOPPED_SEARCH,
+        Options::Draw(_) => LARGE_PICTURE,
         Options::Bank
         | Options::Check(_)
         | Options::Claims
         | Options::Dap
         | Options::Debug(_)
-        | Options::Draw(_)
         | Options::Emit(_)
         | Options::Explain(_)
         | Options::Lsp

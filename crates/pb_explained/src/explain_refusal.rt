@@ -61,7 +61,7 @@ fn message_for(alloc: Global, options: &Options, bytes: &[u8]) -> Option<Result<
         )),
         Options::States(options) => Some(message_of(
             alloc,
-            Reading::Replayed(options.lend.lending()),
+            Reading::Shown(options.lend.lending()),
             bytes,
         )),
         Options::Bank | Options::Dap | Options::Explain(_) | Options::Lsp => None,

@@ -3,6 +3,7 @@
 ghost use Rattle.std.specs.Prelude.{◌≡◌, ◌↔◌, IsTrue, codes};
 ghost use Rattle.pb_explained.specs.Explained.{Answers, AnswersAndExplains, IsFirst, IsWithout};
 
+use crate::explain_fault::explain_fault;
 use crate::explain_limit::explain_limit;
 use crate::explain_refusal::explain_refusal;
 use crate::in_json::answer_in_json;
@@ -15,9 +16,10 @@ use std::alloc::Global;
 use std::sync::Wait;
 use std::thread::Threads;
 
-/// Does what the words of a call say, of which the first is the program's own name, and explains a refusal, or how a
-/// limit is raised, on standard error, unless the next word is `--quiet`. If `--json` is the next word, or the one behind `--quiet`, the
-/// answer is JSON lines, those of `debug` and `bank` as they come. Returns the status of the call.
+/// Does what the words of a call say, of which the first is the program's own name, and explains a refusal, how a
+/// limit is raised, or how it is seen where a process faulted, on standard error, unless the next word is `--quiet`. If
+/// `--json` is the next word, or the one behind `--quiet`, the answer is JSON lines, those of `debug` and `bank` as they
+/// come. Returns the status of the call.
 pub fn answer_and_explain<I: Input, O: Output, E: Output, R: Threads + Wait + Sync>(
     rt: &R,
     alloc: Global,
@@ -40,6 +42,10 @@ pub fn answer_and_explain<I: Input, O: Output, E: Output, R: Threads + Wait + Sy
     }
     if status == Status::Limit {
         explain_limit(alloc, said, error);
+        return status;
+    }
+    if status == Status::Fault {
+        explain_fault(alloc, said, error);
         return status;
     }
     if let (Status::Refused, Some(bytes)) = (status, input.kept()) {

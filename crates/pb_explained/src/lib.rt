@@ -2,6 +2,7 @@
 //! a refusal.
 #![tactic(auto)]
 
+mod explain_fault;
 mod explain_limit;
 mod explain_refusal;
 mod explained;

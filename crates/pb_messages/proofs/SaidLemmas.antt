@@ -1,5 +1,5 @@
 -- What is said of an input, from the message that was made.
-use Rattle.std.proofs.Common.{◌≡◌, ◌≢◌, ◌⊎◌, take, ℕ, List, [], codes, Option, Some, Result, Ok, Err, IfOk}
+use Rattle.std.proofs.Common.{◌≡◌, ◌⊎◌, ℕ, List, [], codes, Option, Some, Result, Ok, Err, IfOk}
 use Rattle.std.proofs.Common.{◌+◌, ◌-◌, ◌<◌, Bool, true, false, not, IsTrue, arith, length, drop, refl, subst, sym, inl, inr}
 use Rattle.std.proofs.lemmas.List.{length-drop}
 use Rattle.pb_base.specs.declared.lending.Lending.{Lending}
@@ -21,13 +21,14 @@ use Rattle.pb_picks.specs.declared.fault.PickFault.{PickFault}
 use Rattle.pb_message_stops.specs.Stops.{HoldsPick}
 use Rattle.pb_messages.specs.Messages.{IsMessage, IsMessageAt}
 use Rattle.pb_messages.specs.Said.{AreSaid, HasNoMark, IsLastLabel, SaysMore, SaysByReading, SaysOfFirstFormat, SaysWhetherFirst}
-use Rattle.pb_messages.specs.Said.{SaysOfPickLines, SaysOfPickedObject, SaysOfPickedText, SaysOfTexts, TellsObject}
+use Rattle.pb_messages.specs.Said.{SaysOfPickLines, SaysOfPickedObject, SaysOfPickedSource, SaysOfPickedText, SaysOfTexts, TellsObject}
 use Rattle.pb_messages.specs.Said.{SaysOfExpectedText, SaysOfPrintLines, SaysOfTogether, TellsFirstFault, all, stopped, unread, unsaid}
 use Rattle.pb_messages.specs.Said.SaysOfTogether.{refused, read}
 use Rattle.pb_search_engine.specs.PrintLines.{IsBadPrint}
 use Rattle.pb_search_engine.specs.declared.print_lines.PrintFault.TheVariants.{NotPrint}
 use Rattle.pb_accept.specs.declared.cause.Cause.{Cause}
-use Rattle.pb_messages.specs.declared.message.Reading.TheVariants.{Debugged, Expected, Replayed}
+use Rattle.pb_messages.specs.declared.message.Reading.TheVariants.{Debugged, Expected, Replayed, Shown}
+use Rattle.pb_sources.specs.Sources.{IsObjectPart}
 
 module _ {W E : Type 0} (seen : W → List ℕ) where
   -- the message of a fault of an object
@@ -91,21 +92,31 @@ module _ {W E : Type 0} (seen : W → List ℕ) where
   fault_together bytes texts (Ok told) parts tells = refused texts (seen told) parts tells
   fault_together bytes texts (Err e) parts tells = tells
 
-  -- what is said of an object, pick lines and commands
-  pub object_debugged : (lending : Lending) (bytes source rest lines commands : List ℕ) (made : Result W E) → AreTwoParts bytes source rest
-      → AreTwoParts rest lines commands → take 4 source ≡ codes "PBO " → IfOk made (λ told. SaysOfPickedObject lending source lines (seen told))
-      → IfOk made (λ told. SaysByReading (Debugged lending) bytes (seen told))
-  object_debugged lending bytes source rest lines commands (Ok told) parts more object says =
-      (source, rest, lines, commands, parts, more, inl (object, says))
-  object_debugged lending bytes source rest lines commands (Err e) parts more object says = says
+  -- what is said of an object and pick lines, and of a text and pick lines
+  pub object_picked : (lending : Lending) (source lines : List ℕ) (made : Result W E) → IsObjectPart source
+      → IfOk made (λ told. SaysOfPickedObject lending source lines (seen told))
+      → IfOk made (λ told. SaysOfPickedSource lending source lines (seen told))
+  object_picked lending source lines (Ok told) object says = inl (object, says)
+  object_picked lending source lines (Err e) object says = says
 
-  -- what is said of a text, pick lines and commands
-  pub text_debugged : (lending : Lending) (bytes source rest lines commands : List ℕ) (made : Result W E) → AreTwoParts bytes source rest
-      → AreTwoParts rest lines commands → take 4 source ≢ codes "PBO " → IfOk made (λ told. SaysOfPickedText lending source lines (seen told))
+  pub text_picked : (lending : Lending) (source lines : List ℕ) (made : Result W E) → ¬ IsObjectPart source
+      → IfOk made (λ told. SaysOfPickedText lending source lines (seen told))
+      → IfOk made (λ told. SaysOfPickedSource lending source lines (seen told))
+  text_picked lending source lines (Ok told) none says = inr (none, says)
+  text_picked lending source lines (Err e) none says = says
+
+  -- what is said of either, with no commands behind the pick lines, and with commands
+  pub source_shown : (lending : Lending) (bytes source lines : List ℕ) (made : Result W E) → AreTwoParts bytes source lines
+      → IfOk made (λ told. SaysOfPickedSource lending source lines (seen told))
+      → IfOk made (λ told. SaysByReading (Shown lending) bytes (seen told))
+  source_shown lending bytes source lines (Ok told) parts says = (source, lines, parts, says)
+  source_shown lending bytes source lines (Err e) parts says = says
+
+  pub source_debugged : (lending : Lending) (bytes source rest lines commands : List ℕ) (made : Result W E) → AreTwoParts bytes source rest
+      → AreTwoParts rest lines commands → IfOk made (λ told. SaysOfPickedSource lending source lines (seen told))
       → IfOk made (λ told. SaysByReading (Debugged lending) bytes (seen told))
-  text_debugged lending bytes source rest lines commands (Ok told) parts more text says =
-      (source, rest, lines, commands, parts, more, inr (text, says))
-  text_debugged lending bytes source rest lines commands (Err e) parts more text says = says
+  source_debugged lending bytes source rest lines commands (Ok told) parts more says = (source, rest, lines, commands, parts, more, says)
+  source_debugged lending bytes source rest lines commands (Err e) parts more says = says
 
 -- what is said of all texts
 pub said_all : (bytes : List ℕ) (number : ℕ) (label rest part before told : List ℕ) → AreSaid bytes number rest before

@@ -1,5 +1,5 @@
 -- What is said to a person of an input that was refused.
-use Rattle.std.specs.Prelude.{◌≡◌, ◌≢◌, ◌<◌, ◌≤◌, ◌⊎◌, ◌+◌, ◌++◌, ◌∷◌, ℕ, Bool, List, [], None, Some, codes, cond, length, slice_get, take}
+use Rattle.std.specs.Prelude.{◌≡◌, ◌≢◌, ◌<◌, ◌≤◌, ◌⊎◌, ◌+◌, ◌++◌, ◌∷◌, ℕ, Bool, List, [], None, Some, codes, cond, length, slice_get}
 use Rattle.std.specs.Fmt.{decimal}
 use Rattle.pb_base.specs.declared.lending.Lending.{Lending}
 use Rattle.pb_base.specs.declared.limits.TheConstants.{MAX_INPUT}
@@ -23,7 +23,7 @@ use Rattle.pb_messages.specs.Messages.{IsMessage, IsMessageAt, TellsRefusal}
 use Rattle.pb_accept.specs.declared.cause.Cause.{Cause}
 use Rattle.pb_messages.specs.declared.message.Reading.{Reading}
 use Rattle.pb_messages.specs.declared.message.Reading.TheVariants.{Text, Claims, Recorded, FirstFormat, Texts, Together, Object}
-use Rattle.pb_messages.specs.declared.message.Reading.TheVariants.{Replayed, Expected, Debugged}
+use Rattle.pb_messages.specs.declared.message.Reading.TheVariants.{Replayed, Expected, Shown, Debugged}
 use Rattle.pb_names.specs.Program.{Program}
 use Rattle.pb_object.specs.Formats.{FitsFirst}
 use Rattle.pb_picks.specs.PickLines.{IsFaulty, SpellsPicks}
@@ -31,6 +31,7 @@ use Rattle.pb_picks.specs.declared.fault.PickFault.{PickFault}
 use Rattle.pb_message_stops.specs.Stops.{HoldsPick}
 use Rattle.pb_search_engine.specs.PrintLines.{IsBadPrint, SpellsPrints}
 use Rattle.pb_search_engine.specs.declared.print_lines.PrintFault.TheVariants.{NotPrint}
+use Rattle.pb_sources.specs.Sources.{IsObjectPart}
 use Rattle.pb_tree.specs.Syntax.{ProgramSyntax}
 use Rattle.pb_search_stages.specs.declared.print.Print.{Print}
 
@@ -176,6 +177,12 @@ SaysOfPickedObject lending bytes lines told =
     ((code : Code) × (labels : List ProcessLabels) × IsLoaded bytes code labels × SaysOfPickLines lending code lines told)
     ⊎ TellsObject bytes told
 
+-- of a text or an object, and pick lines, made under this lending
+abbrev pub SaysOfPickedSource : Lending → (source lines told : List ℕ) → Type 0
+SaysOfPickedSource lending source lines told =
+    (IsObjectPart source × SaysOfPickedObject lending source lines told)
+    ⊎ ((¬ IsObjectPart source) × SaysOfPickedText lending source lines told)
+
 -- of an input that is not too long, by how the command reads it
 abbrev pub SaysByReading : Reading → (bytes told : List ℕ) → Type 0
 SaysByReading Text bytes told = SaysOfText bytes [] told
@@ -189,11 +196,11 @@ SaysByReading (Replayed lending) bytes told =
     (text : List ℕ) × (lines : List ℕ) × AreTwoParts bytes text lines × SaysOfPickedText lending text lines told
 SaysByReading Expected bytes told =
     (text : List ℕ) × (lines : List ℕ) × AreTwoParts bytes text lines × SaysOfExpectedText text lines told
+SaysByReading (Shown lending) bytes told =
+    (source : List ℕ) × (lines : List ℕ) × AreTwoParts bytes source lines × SaysOfPickedSource lending source lines told
 SaysByReading (Debugged lending) bytes told =
     (source : List ℕ) × (rest : List ℕ) × (lines : List ℕ) × (commands : List ℕ)
-    × AreTwoParts bytes source rest × AreTwoParts rest lines commands
-    × (((take 4 source ≡ codes "PBO ") × SaysOfPickedObject lending source lines told)
-    ⊎ ((take 4 source ≢ codes "PBO ") × SaysOfPickedText lending source lines told))
+    × AreTwoParts bytes source rest × AreTwoParts rest lines commands × SaysOfPickedSource lending source lines told
 
 -- of any input
 abbrev pub SaysToPerson : Reading → (bytes told : List ℕ) → Type 0

@@ -1,11 +1,11 @@
 //! The message of a refused input.
 
-ghost use Rattle.std.specs.Prelude.{◌≡◌, ◌↔◌, ◌≤◌, [], IfNone, IfOk, IfSome, IsTrue, false, OnOk, codes, length, string_bytes, take};
+ghost use Rattle.std.specs.Prelude.{◌≡◌, ◌≤◌, [], IfNone, IfOk, IfSome, IsTrue, false, OnOk, length, string_bytes};
 ghost use Rattle.pb_accept.specs.Refusals.{IsAcceptedText};
 ghost use Rattle.pb_messages.specs.Messages.{TellsRefusal};
-ghost use Rattle.pb_messages.specs.Said.{SaysByReading, SaysOfExpectedText, SaysOfObjectText, SaysOfPickedObject, SaysOfPickedText, SaysOfProgram, SaysOfText, SaysOfTexts, SaysOfTogether};
+ghost use Rattle.pb_messages.specs.Said.{SaysByReading, SaysOfExpectedText, SaysOfObjectText, SaysOfPickedObject, SaysOfPickedSource, SaysOfPickedText, SaysOfProgram, SaysOfText, SaysOfTexts, SaysOfTogether};
 ghost use Rattle.pb_messages.specs.Said.{IsLastLabel, SaysMore, SaysToPerson, behind, long_output, text_label};
-ghost use Rattle.pb_messages.specs.declared.message.Reading.TheVariants.{Debugged, Expected, Replayed};
+ghost use Rattle.pb_messages.specs.declared.message.Reading.TheVariants.{Debugged, Expected, Replayed, Shown};
 
 use crate::first_format::first_format_message;
 use crate::objects::object_message;
@@ -20,6 +20,7 @@ use pb_joint::read_texts;
 use pb_message_excerpts::place_of;
 use pb_message_stops::Lines;
 use pb_plan_engine::texts_of;
+use pb_sources::is_object;
 use std::alloc::{AllocError, Global};
 
 /// What is said of an input that is too long.
@@ -53,6 +54,8 @@ pub enum Reading {
     Replayed(Lending),
     /// A text, and print lines behind the first line `%%`.
     Expected,
+    /// A text or an object, and pick lines behind the first line `%%`, made under this lending.
+    Shown(Lending),
     /// A text or an object, and pick lines between the first two lines `%%`. What follows is not looked at.
     Debugged(Lending),
 }
@@ -83,6 +86,7 @@ fn whole_message(alloc: Global, reading: Reading, bytes: &[u8]) -> Result<Vec<u8
         Reading::Object => whole_object_message(alloc, bytes),
         Reading::Replayed(lending) => replayed_message(alloc, lending, bytes),
         Reading::Expected => expected_message(alloc, bytes),
+        Reading::Shown(lending) => shown_message(alloc, lending, bytes),
         Reading::Debugged(lending) => debugged_message(alloc, lending, bytes),
     }
 }
@@ -240,6 +244,15 @@ fn expected_message(alloc: Global, bytes: &[u8]) -> Result<Vec<u8>, NoMemory>
 }
 
 /// Returns the message of a text or an object and the pick lines behind it, made under a lending.
+fn shown_message(alloc: Global, lending: Lending, bytes: &[u8]) -> Result<Vec<u8>, NoMemory>
+    ensures { IfOk result (λ message. SaysByReading (Shown lending) bytes.now message.items) }
+{
+    let (source, text) = two_parts(bytes);
+    let before = line_of(bytes, source.len());
+    picked_message(alloc, lending, source, Lines { text, before })
+}
+
+/// Returns the message of a text or an object and the pick lines behind it, with commands behind them.
 pub(crate) fn debugged_message(
     alloc: Global,
     lending: Lending,
@@ -250,12 +263,7 @@ pub(crate) fn debugged_message(
     let (source, rest) = two_parts(bytes);
     let (text, _) = two_parts(rest);
     let before = line_of(bytes, source.len());
-    let lines = Lines { text, before };
-    if is_object(source) {
-        picked_object_message(alloc, lending, source, lines)
-    } else {
-        picked_text_message(alloc, lending, source, lines)
-    }
+    picked_message(alloc, lending, source, Lines { text, before })
 }
 
 /// Returns the number of the line at an offset.
@@ -263,11 +271,20 @@ fn line_of(bytes: &[u8], at: usize) -> usize {
     place_of(bytes, at.min(bytes.len())).line
 }
 
-/// Returns whether bytes begin as an object does.
-fn is_object(source: &[u8]) -> bool
-    ensures { IsTrue result ↔ (take 4 source.now ≡ codes "PBO ") }
+/// Returns the message of a text or an object, or of pick lines over its code.
+fn picked_message(
+    alloc: Global,
+    lending: Lending,
+    source: &[u8],
+    lines: Lines<'_>,
+) -> Result<Vec<u8>, NoMemory>
+    ensures { IfOk result (λ message. SaysOfPickedSource lending source.now lines.entry.text.now message.items) }
 {
-    source.starts_with(b"PBO ")
+    if is_object(source) {
+        picked_object_message(alloc, lending, source, lines)
+    } else {
+        picked_text_message(alloc, lending, source, lines)
+    }
 }
 
 /// Returns the message of a text, or of pick lines over its code.

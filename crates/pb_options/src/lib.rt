@@ -8,6 +8,7 @@ mod options;
 
 pub use code::{Code, UnknownCode};
 pub use options::{
-    CheckOptions, DebugOptions, DrawOptions, EmitOptions, Lend, MAX_HEAP, MAX_ROWS, MIN_HEAP,
-    OutcomesOptions, RecordOptions, ReplayOptions, RunOptions, StatesOptions, UnknownLend,
+    CheckOptions, DebugOptions, DrawOptions, EmitOptions, Lend, MAX_HEAP, MAX_ROWS, MAX_SCALE,
+    MAX_WIDTH, MIN_HEAP, MIN_SCALE, MIN_WIDTH, OutcomesOptions, RecordOptions, ReplayOptions,
+    RunOptions, StatesOptions, UnknownLend,
 };

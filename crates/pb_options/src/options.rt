@@ -15,6 +15,14 @@ pub const MIN_HEAP: u64 = 1_024;
 pub const MAX_HEAP: u64 = 16_777_216;
 /// The most rows of the document of a run.
 pub const MAX_ROWS: u32 = 1_000_000;
+/// The least width of a picture that can be asked for, in pixels.
+pub const MIN_WIDTH: u32 = 200;
+/// The greatest width of a picture that can be asked for, in pixels.
+pub const MAX_WIDTH: u32 = 20_000;
+/// The least size of a picture, in percent.
+pub const MIN_SCALE: u64 = 50;
+/// The greatest size of a picture, in percent.
+pub const MAX_SCALE: u64 = 400;
 
 /// The options of `check_engine`.
 #[derive(Clone, Copy, Debug, PartialEq, Eq)]
@@ -65,6 +73,10 @@ pub struct RecordOptions {
 pub struct DrawOptions {
     /// Who decides on a request.
     pub lend: Lend,
+    /// How wide the picture is at 100 percent, in pixels, from 200 to 20,000, if not as wide as its picks make it.
+    pub width: Option<u32>,
+    /// How large the picture is, in percent, from 50 to 400.
+    pub scale: u16,
 }
 
 /// The options of `replay_engine`.

@@ -1,5 +1,5 @@
 -- From what is said of each part of an input to what is said of it all.
-use Rattle.std.proofs.Common.{◌≡◌, ◌≤◌, ℕ, List, length, Option, Result, Ok, Err, IfOk, OnErr, Vec, Global, subst, arith}
+use Rattle.std.proofs.Common.{◌≡◌, ◌≤◌, ℕ, List, length, Option, Some, Result, Ok, Err, IfOk, OnErr, inl, inr, refl, subst, arith}
 use Rattle.pb_base.specs.declared.lending.Lending.{Lending}
 use Rattle.pb_base.specs.declared.memory.NoMemory.{NoMemory}
 use Rattle.pb_base.specs.Steppers.{State}
@@ -7,20 +7,21 @@ use Rattle.pb_code.specs.Code.{CodeProcess}
 use Rattle.pb_code.specs.Whole.{Code, ProcessLabels}
 use Rattle.pb_codegen.specs.Compiled.{IsCompiled}
 use Rattle.pb_page.specs.declared.run.Shown.{Shown}
-use Rattle.pb_page_engine.specs.States.{IsDocument, SaysOfStates, SaysOfStatesLines, not_made, no_memory, shows, no_text}
+use Rattle.pb_page_engine.specs.States.{IsDocument, SaysOfStates, SaysOfStatesLines, not_made, no_memory, no_source, shows, text_shown}
 use Rattle.pb_page_engine.specs.States.{with_code}
 use Rattle.pb_command_io.specs.Answers.{Says, Tells, memory_line}
 use Rattle.pb_command_io.specs.Inputs.{SaysOfInput, too_long, nothing, not_read, read}
 use Rattle.pb_command_io.specs.Inputs as input
 use Rattle.pb_command_io.specs.Parts.{AreTwoParts}
-use Rattle.pb_accept.specs.Refusals.{SaysOfRefusedText, refused as by_line}
+use Rattle.pb_accept.specs.Loading.{SaysOfNoCode}
+use Rattle.pb_accept.specs.Refusals.{SaysOfRefusedText}
 use Rattle.pb_accept.specs.ReplayLines.{AreReplayedBy, SaysOfNoPicksBy}
 use Rattle.pb_command_io.specs.declared.reply.Reply.{Reply}
 use Rattle.pb_command_io.specs.declared.status.Status.{Status}
 use Rattle.pb_command_io.specs.declared.status.Status.TheVariants.{Memory}
 use Rattle.pb_history.specs.Entries.{Entry}
-use Rattle.pb_object.specs.Answers.{SpellsCode}
-use Rattle.pb_object.specs.declared.format.Format.TheVariants.{Two}
+use Rattle.pb_sources.specs.Sources.{GivesCode, IsObjectPart}
+use Rattle.pb_verifier.specs.Verified.{VerifiedCode}
 
 -- a reply to lines that say no picks, or out of memory for it
 pub no_picks_told : (lending : Lending) (shown : Shown) (source : List ℕ) (code : Code) (labels : List ProcessLabels) (lines : List ℕ) (reply : Result Reply NoMemory) (old new : Option (List ℕ)) (given : Status)
@@ -40,29 +41,42 @@ document_told lending shown source code labels lines entries end (Ok r) old new 
 document_told lending shown source code labels lines entries end (Err e) old new given are written says memory = (memory_line, Memory, no_memory, memory)
 
 -- a refused text
-pub refusal_told : (lending : Lending) (shown : Shown) (bytes text lines : List ℕ) (old new : Option (List ℕ)) (given : Status) → length bytes ≤ 4194304
-    → length text ≤ 4194304 → AreTwoParts bytes text lines → Tells (SaysOfInput SaysOfRefusedText text) old new given
+pub refusal_told : (lending : Lending) (shown : Shown) (bytes source lines : List ℕ) (old new : Option (List ℕ)) (given : Status) → length bytes ≤ 4194304
+    → length source ≤ 4194304 → AreTwoParts bytes source lines → ¬ IsObjectPart source → Tells (SaysOfInput SaysOfRefusedText source) old new given
     → Tells (SaysOfInput (SaysOfStates lending shown) bytes) old new given
-refusal_told lending shown bytes text lines old new given short few cut (said, status, is, written) = (said, status, go said status is, written)
+refusal_told lending shown bytes source lines old new given short few cut none (said, status, is, written) = (said, status, go said status is, written)
   where
-    go : (said : List ℕ) (status : Status) → SaysOfInput SaysOfRefusedText text said status → SaysOfInput (SaysOfStates lending shown) bytes said status
+    go : (said : List ℕ) (status : Status) → SaysOfInput SaysOfRefusedText source said status → SaysOfInput (SaysOfStates lending shown) bytes said status
     go _ _ (not_read (too_long long)) = absurd (omega (arith, long, few))
     go _ _ (not_read input.no_memory) = not_read input.no_memory
     go _ _ (not_read nothing) = not_read nothing
-    go _ _ (read within (by_line refusal is)) = read short (no_text text lines cut refusal is)
+    go said status (read within is) = read short (no_source source lines cut said status (inr (none, is)))
 
--- an accepted text, and what is said of the lines behind it
-pub lines_told : (lending : Lending) (shown : Shown) (bytes text lines : List ℕ) (code : Code) (labels : List ProcessLabels) (old new : Option (List ℕ))
-    (answered : Status) → length bytes ≤ 4194304 → AreTwoParts bytes text lines → IsCompiled text code labels
-    → Tells (SaysOfStatesLines lending shown text code labels lines) old new answered
+-- a reply to an object that gives no code, or out of memory for it
+pub no_code_told : (lending : Lending) (shown : Shown) (bytes source lines : List ℕ) (reply : Result Reply NoMemory) (old new : Option (List ℕ))
+    (given : Status) → length bytes ≤ 4194304 → AreTwoParts bytes source lines → IsObjectPart source
+    → IfOk reply (λ r. SaysOfNoCode source r.text.items r.status) → IfOk reply (λ r. Says old new r.text.items r.status given)
+    → OnErr reply (Says old new memory_line Memory given) → Tells (SaysOfInput (SaysOfStates lending shown) bytes) old new given
+no_code_told lending shown bytes source lines (Ok r) old new given short cut object is says memory =
+    (r.text.items, r.status, read short (no_source source lines cut r.text.items r.status (inl (object, is))), says)
+no_code_told lending shown bytes source lines (Err e) old new given short cut object is says memory =
+    (memory_line, Memory, not_read input.no_memory, memory)
+
+-- code that the first part gives, and what is said of the lines behind it
+pub lines_told : (lending : Lending) (shown : Shown) (bytes source lines : List ℕ) (code : Code) (labels : List ProcessLabels) (text : Option (List ℕ))
+    (old new : Option (List ℕ)) (answered : Status) → length bytes ≤ 4194304 → AreTwoParts bytes source lines → GivesCode source code labels text
+    → Tells (SaysOfStatesLines lending shown (text_shown text) code labels lines) old new answered
     → Tells (SaysOfInput (SaysOfStates lending shown) bytes) old new answered
-lines_told lending shown bytes text lines code labels old new answered short cut compiled (said, status, says, written) =
-    (said, status, read short (with_code text lines cut code labels compiled said status says), written)
+lines_told lending shown bytes source lines code labels text old new answered short cut gives (said, status, says, written) =
+    (said, status, read short (with_code source lines cut code labels text gives said status says), written)
 
--- an object spells the same code and labels, by whatever name they go
-pub spelled_so : (code given : Code) (labels given_labels : List ProcessLabels) (object : Result (Vec ℕ Global) NoMemory) → given ≡ code
-    → given_labels ≡ labels → IfOk object (λ o. SpellsCode Two given given_labels o.items)
-    → IfOk object (λ o. SpellsCode Two code labels o.items)
-spelled_so code given labels given_labels object same same_labels spells =
-    subst (λ (c : Code). IfOk object (λ o. SpellsCode Two c labels o.items)) same
-    (subst (λ (l : List ProcessLabels). IfOk object (λ o. SpellsCode Two given l o.items)) same_labels spells)
+-- the same of an accepted text, whose code and labels are seen so
+pub lines_of_text_told : (lending : Lending) (shown : Shown) (bytes source lines : List ℕ) (seen verified : VerifiedCode) (seen_labels labels : List ProcessLabels)
+    (old new : Option (List ℕ)) (answered : Status) → length bytes ≤ 4194304 → AreTwoParts bytes source lines → ¬ IsObjectPart source
+    → IsCompiled source verified.code labels → seen ≡ verified → seen_labels ≡ labels
+    → Tells (SaysOfStatesLines lending shown source seen.code seen_labels lines) old new answered
+    → Tells (SaysOfInput (SaysOfStates lending shown) bytes) old new answered
+lines_of_text_told lending shown bytes source lines seen verified seen_labels labels old new answered short cut none compiled same same_labels tells =
+    lines_told lending shown bytes source lines verified.code labels (Some source) old new answered short cut (inr (none, compiled, refl))
+    (subst (λ (v : VerifiedCode). Tells (SaysOfStatesLines lending shown source v.code labels lines) old new answered) same
+    (subst (λ (l : List ProcessLabels). Tells (SaysOfStatesLines lending shown source seen.code l lines) old new answered) same_labels tells))

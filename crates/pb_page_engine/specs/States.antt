@@ -1,23 +1,21 @@
 -- What `states` says of an input, and with which status.
-use Rattle.std.specs.Prelude.{ℕ, List}
-use Rattle.pb_base.specs.Lines.{line}
+use Rattle.std.specs.Prelude.{ℕ, List, [], Option, Some, None}
 use Rattle.pb_base.specs.Steppers.{State}
 use Rattle.pb_base.specs.declared.lending.Lending.{Lending}
 use Rattle.pb_code.specs.Code.{CodeProcess}
 use Rattle.pb_code.specs.Whole.{Code, ProcessLabels}
-use Rattle.pb_codegen.specs.Compiled.{IsCompiled}
 use Rattle.pb_object.specs.Answers.{SpellsCode}
 use Rattle.pb_object.specs.declared.format.Format.TheVariants.{Two}
 use Rattle.pb_page.specs.Runs.{IsRunDocument}
 use Rattle.pb_page.specs.declared.run.Shown.{Shown}
 use Rattle.pb_command_io.specs.Answers.{memory_line}
 use Rattle.pb_command_io.specs.Parts.{AreTwoParts}
-use Rattle.pb_accept.specs.Refusals.{RefusesWith}
 use Rattle.pb_accept.specs.ReplayLines.{AreReplayedBy, IsEnding, IsEndStatus, SaysOfNoPicksBy, last_line}
 use Rattle.pb_accept.specs.declared.ending.Ending.{Ending}
 use Rattle.pb_command_io.specs.declared.status.Status.{Status}
-use Rattle.pb_command_io.specs.declared.status.Status.TheVariants.{Memory, Refused}
+use Rattle.pb_command_io.specs.declared.status.Status.TheVariants.{Memory}
 use Rattle.pb_history.specs.Entries.{Entry, picks_of}
+use Rattle.pb_sources.specs.Sources.{GivesCode, SaysOfNoSource}
 
 -- a document of the run that made these entries and led to this state under this lending, with the text and the object
 -- of its program; it tells by the last word of `replay` how the run has ended, and the status is that of `replay`
@@ -30,7 +28,7 @@ pub record IsDocument (lending : Lending) (shown : Shown) (source : List ℕ) (c
   pub written : IsRunDocument lending code (picks_of entries) source object shown.from shown.rows (last_line ending) document
   pub told : IsEndStatus end ending status
 
--- what is said of the lines behind an accepted text, by its code: their picks are refused under this lending; or all
+-- what is said of the lines behind what gave this code: their picks are refused under this lending; or all
 -- are made, and the document of their run is written
 pub data SaysOfStatesLines (lending : Lending) (shown : Shown) (source : List ℕ) (code : Code) (labels : List ProcessLabels) (lines : List ℕ)
     : List ℕ → Status → Type 0 where
@@ -41,11 +39,17 @@ pub data SaysOfStatesLines (lending : Lending) (shown : Shown) (source : List �
       → (said : List ℕ) (status : Status) → IsDocument lending shown source code labels entries end said status
       → SaysOfStatesLines lending shown source code labels lines said status
 
--- what is said of an input, which is a text and pick lines behind it: its text is refused; or it is accepted
+-- the text that a document has: that whose lines are shown; none of an object
+abbrev pub text_shown : Option (List ℕ) → List ℕ
+text_shown (Some text) = text
+text_shown None = []
+
+-- what is said of an input, which is a text or an object and pick lines behind it: the first part gives no code; or
+-- it gives some
 pub data SaysOfStates (lending : Lending) (shown : Shown) (bytes : List ℕ) : List ℕ → Status → Type 0 where
-  no_text : (text lines : List ℕ) → AreTwoParts bytes text lines
-      → (refusal : List ℕ) → RefusesWith text refusal → SaysOfStates lending shown bytes (line refusal) Refused
-  with_code : (text lines : List ℕ) → AreTwoParts bytes text lines
-      → (code : Code) (labels : List ProcessLabels) → IsCompiled text code labels
-      → (said : List ℕ) (status : Status) → SaysOfStatesLines lending shown text code labels lines said status
+  no_source : (source lines : List ℕ) → AreTwoParts bytes source lines
+      → (said : List ℕ) (status : Status) → SaysOfNoSource source said status → SaysOfStates lending shown bytes said status
+  with_code : (source lines : List ℕ) → AreTwoParts bytes source lines
+      → (code : Code) (labels : List ProcessLabels) (text : Option (List ℕ)) → GivesCode source code labels text
+      → (said : List ℕ) (status : Status) → SaysOfStatesLines lending shown (text_shown text) code labels lines said status
       → SaysOfStates lending shown bytes said status

@@ -57,8 +57,9 @@ fn reply(
     ensures { IfOk result (λ r. SaysOfCodeSchedules lending states source.now compiled.now.verified.code
         compiled.now.labels r.text.items r.status) }
 {
-    let object = object_of(alloc, compiled)?;
-    schedules(alloc, lending, states, source, &object, compiled.verified())
+    let verified = compiled.verified();
+    let object = object_of(alloc, verified, compiled.labels())?;
+    schedules(alloc, lending, states, source, &object, verified)
 }
 
 /// Returns the document of all schedules of a code, or the one that says that there are too many.

@@ -2,6 +2,7 @@
 
 ghost use Rattle.std.specs.Prelude.{◌≤◌, IfOk, IfSome, length};
 ghost use Rattle.pb_code.specs.Limits.{AreLabels};
+ghost use Rattle.pb_code.specs.View.{labels_view};
 ghost use Rattle.pb_page_engine.specs.States.{IsDocument, SaysOfStates, SaysOfStatesLines};
 ghost use Rattle.pb_command_io.specs.Answers.{Tells};
 ghost use Rattle.pb_command_io.specs.Faults.{TellsFaults, TellsWriteFaults};
@@ -11,22 +12,28 @@ ghost use Rattle.pb_history.specs.Positions.{AreEnabledBy};
 ghost use Rattle.pb_machine.specs.Views.{IsMachineBy, machine_view};
 
 use crate::object::object_of;
+use pb_accept::load::{load, load_refusal};
 use pb_accept::{
     compile_text, end_status, ending_of, lines_refusal, make_lines_by, refuse, status_at,
 };
 use pb_base::limits::{MAX_INPUT, MAX_PICKS};
 use pb_base::{Input, Lending, NoMemory, Output};
-use pb_codegen::Compiled;
+use pb_code::Labels;
 use pb_command_io::{Reply, Status, read_input, tell, two_parts};
 use pb_history::Trace;
 use pb_machine::Machine;
 use pb_page::{Shown, run_document};
+use pb_sources::is_object;
+use pb_verifier::Verified;
 use std::alloc::Global;
 
-/// Makes the picks that the pick lines behind the text of the input say, from the start of the text, under whoever
+/// Makes the picks that the pick lines behind the text or the object of the input say, from its start, under whoever
 /// decides on requests, and writes a document of that run: a line of JSON with the text, its object, the state at the
 /// first position that is shown, and a row for each pick from there on. A line `%%` separates the text from the pick
 /// lines. If the text, a line or a pick is refused, only the refusal line is written, as by `replay`.
+///
+/// The first part is an object if it begins with `PBO `. Then the document has an empty text, which no program has,
+/// and the object in the second format, in whichever it was given.
 ///
 /// The document begins with position `shown.from`, or with the last if there are not so many picks, and has
 /// at most `shown.rows` rows; it says so if there are more. Otherwise it ends with the last word of `replay`: `done`,
@@ -66,9 +73,28 @@ fn states_bytes<O: Output>(
     ensures text { Tells (SaysOfInput (SaysOfStates lending shown) bytes.now) (O.written output.old) (O.written output.new) result }
     ensures faults { TellsWriteFaults (O.failures output.old) (O.failures output.new) result }
 {
-    let (text, lines) = two_parts(bytes);
-    match compile_text(alloc, text) {
-        Ok(compiled) => states_lines(alloc, lending, shown, text, &compiled, lines, output),
+    let (source, lines) = two_parts(bytes);
+    if is_object(source) {
+        return match load(alloc, source) {
+            Ok((verified, labels)) => {
+                states_lines(
+                    alloc, lending, shown, b"", &verified, &labels, lines, output,
+                )
+            }
+            Err(fault) => tell(alloc, load_refusal(alloc, fault), output),
+        };
+    }
+    match compile_text(alloc, source) {
+        Ok(compiled) => states_lines(
+            alloc,
+            lending,
+            shown,
+            source,
+            compiled.verified(),
+            compiled.labels(),
+            lines,
+            output,
+        ),
         Err(refusal) => refuse(alloc, refusal, output),
     }
 }
@@ -79,19 +105,29 @@ fn states_lines<O: Output>(
     lending: Lending,
     shown: Shown,
     text: &[u8],
-    compiled: &Compiled,
+    verified: &Verified,
+    labels: &Labels,
     lines: &[u8],
     output: &mut O,
 ) -> Status
-    requires { AreLabels compiled.now.verified.code compiled.now.labels }
-    ensures text { Tells (SaysOfStatesLines lending shown text.now compiled.now.verified.code compiled.now.labels lines.now)
+    requires { AreLabels verified.now.code (labels_view labels.now) }
+    ensures text { Tells (SaysOfStatesLines lending shown text.now verified.now.code (labels_view labels.now) lines.now)
         (O.written output.old) (O.written output.new) result }
     ensures faults { TellsWriteFaults (O.failures output.old) (O.failures output.new) result }
 {
-    match make_lines_by(alloc, lending, compiled.verified(), lines) {
+    match make_lines_by(alloc, lending, verified, lines) {
         Ok((machine, trace)) => {
             let mut machine = machine;
-            let reply = document(alloc, lending, shown, text, compiled, &trace, &mut machine);
+            let reply = document(
+                alloc,
+                lending,
+                shown,
+                text,
+                verified,
+                labels,
+                &trace,
+                &mut machine,
+            );
             tell(alloc, reply, output)
         }
         Err(fault) => tell(alloc, lines_refusal(alloc, fault), output),
@@ -103,34 +139,34 @@ fn document(
     alloc: Global,
     lending: Lending,
     shown: Shown,
-    source: &[u8],
-    compiled: &Compiled,
+    text: &[u8],
+    verified: &Verified,
+    labels: &Labels,
     trace: &Trace,
     machine: &mut Machine,
 ) -> Result<Reply, NoMemory>
-    requires fit { AreLabels compiled.now.verified.code compiled.now.labels }
-    requires enabled { AreEnabledBy lending compiled.now.verified.code (picks_of trace.now.entries) }
+    requires fit { AreLabels verified.now.code (labels_view labels.now) }
+    requires enabled { AreEnabledBy lending verified.now.code (picks_of trace.now.entries) }
     requires few { length (picks_of trace.now.entries) ≤ MAX_PICKS }
-    requires machine { IsMachineBy lending compiled.now.verified machine.old }
-    ensures { IfOk result (λ r. IsDocument lending shown source.now compiled.now.verified.code
-        compiled.now.labels trace.now.entries (machine_view machine.old) r.text.items r.status) }
+    requires machine { IsMachineBy lending verified.now machine.old }
+    ensures { IfOk result (λ r. IsDocument lending shown text.now verified.now.code
+        (labels_view labels.now) trace.now.entries (machine_view machine.old) r.text.items r.status) }
 {
-    let verified = compiled.verified();
-    let object = object_of(alloc, compiled)?;
+    let object = object_of(alloc, verified, labels)?;
     let faulted = status_at(machine);
     let ending = ending_of(machine, verified);
-    let text = run_document(
+    let said = run_document(
         alloc,
         verified,
         lending,
         trace,
-        source,
+        text,
         &object,
         shown,
         ending.last_line(),
     )?;
     Ok(Reply {
-        text,
+        text: said,
         status: end_status(ending, faulted),
     })
 }

@@ -4,6 +4,7 @@ use pb_base::{Lending, MemoryInput, MemoryOutput};
 use pb_command_io::Status;
 use pb_page::Shown;
 use pb_page_engine::states_engine;
+use pb_sources::is_object;
 use std::alloc::Global;
 
 /// An input, who lends, the part that is shown, what is written, and the status.
@@ -115,6 +116,60 @@ const BY_THE_CASH: [Case; 4] = [
     },
 ];
 
+/// Runs of objects: of code that no text has, and a part of one in the first format, of which the document has the
+/// second.
+const OF_OBJECTS: [Case; 2] = [
+    Case {
+        input: b"PBO 2\nresources 0\nprocesses 1\nprocess p\nvars 1 x\narms 1\nclaims\narm 0\ncode 9\n0 push 1\n0 push 2\n0 print\n0 load 0\n0 jzero 6\n0 jump 7\n0 jump 7\n0 print\n0 end\n%%\np.0 8\n",
+        lending: Lending::ByBanker,
+        shown: Shown {
+            from: 0,
+            rows: 20_000,
+        },
+        said: b"{\"parbegin\":1,\"kind\":\"run\",\"text\":\"\",\"object\":\"PBO 2\\nresources 0\\nprocesses 1\\nprocess p\\nvars 1 x\\narms 1\\nclaims\\narm 0\\ncode 9\\n0 push 1\\n0 push 2\\n0 print\\n0 load 0\\n0 jzero 6\\n0 jump 7\\n0 jump 7\\n0 print\\n0 end\\n\",\"lend\":\"banker\",\"picks\":8,\"from\":0,\"start\":[0,[],0,0,[0]],\"rows\":[[0,0,0,1,1,[1]],[0,0,0,2,1,[1,2]],[0,0,0,3,1,[1],\"p.0 print 2\"],[0,0,0,4,1,[1,0]],[0,0,0,6,1,[1]],[0,0,0,7],[0,0,0,8,1,[],\"p.0 print 1\"],[0,0,0,-2,\"p end\"]],\"end\":\"done\"}\n",
+        status: Status::Done,
+    },
+    Case {
+        input: b"PBO 1\nresources 1\nresource tape 1\nprocesses 1\nprocess p\nvars 1\narms 1\nclaims 1\narm 0\ncode 3\ntake 0 1\ngive 0 1\nend\n%%\np.0 2\n",
+        lending: Lending::ByCash,
+        shown: Shown { from: 1, rows: 9 },
+        said: b"{\"parbegin\":1,\"kind\":\"run\",\"text\":\"\",\"object\":\"PBO 2\\nresources 1\\nresource tape 1\\nprocesses 1\\nprocess p\\nvars 1 v0\\narms 1\\nclaims 1\\narm 0\\ncode 3\\n0 take 0 1\\n0 give 0 1\\n0 end\\n\",\"lend\":\"cash\",\"picks\":2,\"from\":1,\"start\":[1,[],0,0,1,[]],\"rows\":[[0,0,0,2,4,0,\"p.0 return 1 tape\"]],\"end\":\"open\"}\n",
+        status: Status::Done,
+    },
+];
+
+/// What is no object, an object that is not safe, and a pick line and a pick over an object, which are refused.
+const REFUSED_OBJECTS: [Case; 4] = [
+    Case {
+        input: b"PBO 3\n%%\n",
+        lending: Lending::ByBanker,
+        shown: Shown { from: 0, rows: 1 },
+        said: b"refused O1 at 0\n",
+        status: Status::Refused,
+    },
+    Case {
+        input: b"PBO 2\nresources 0\nprocesses 1\nprocess p\nvars 0\narms 1\nclaims\narm 0\ncode 2\n0 print\n0 end\n%%\n",
+        lending: Lending::ByBanker,
+        shown: Shown { from: 0, rows: 1 },
+        said: b"refused V2\n",
+        status: Status::Refused,
+    },
+    Case {
+        input: b"PBO 1\nresources 1\nresource tape 1\nprocesses 1\nprocess p\nvars 1\narms 1\nclaims 1\narm 0\ncode 3\ntake 0 1\ngive 0 1\nend\n%%\np.0 2\nq.0 1\n",
+        lending: Lending::ByBanker,
+        shown: Shown { from: 0, rows: 1 },
+        said: b"refused K1 at 6\n",
+        status: Status::Refused,
+    },
+    Case {
+        input: b"PBO 1\nresources 1\nresource tape 1\nprocesses 1\nprocess p\nvars 1\narms 1\nclaims 1\narm 0\ncode 3\ntake 0 1\ngive 0 1\nend\n%%\np.0 4\n",
+        lending: Lending::ByBanker,
+        shown: Shown { from: 0, rows: 1 },
+        said: b"refused H1 at 3\n",
+        status: Status::Refused,
+    },
+];
+
 /// Returns whether exactly what a case says is written, with its status.
 fn says(alloc: Global, case: &Case) -> bool {
     let Ok(mut output) = MemoryOutput::new(alloc, 16_384) else {
@@ -158,4 +213,21 @@ fn refusals_are_those_of_replay(rt: HostRuntime) {
     for case in &REFUSALS {
         assert!(rt; says(rt.alloc(), case));
     }
+}
+
+#[test]
+fn an_object_has_no_text(rt: HostRuntime) {
+    for case in &OF_OBJECTS {
+        assert!(rt; says(rt.alloc(), case));
+    }
+    for case in &REFUSED_OBJECTS {
+        assert!(rt; says(rt.alloc(), case));
+    }
+}
+
+#[test]
+fn an_object_begins_so(rt: HostRuntime) {
+    assert!(rt; is_object(b"PBO 1\nresources 0\n"));
+    assert!(rt; !is_object(b"PBO"));
+    assert!(rt; !is_object(b"process PBO begin skip end"));
 }

@@ -1,9 +1,10 @@
 -- What is said to each message of a client, and what is open then.
-use Rattle.std.specs.Prelude.{◌≡◌, ◌⊎◌, ℕ, List, [], ◌∷◌, Bool, true, Option, None, Some, option_and_then, option_map, codes}
+use Rattle.std.specs.Prelude.{◌≡◌, ℕ, List, [], ◌∷◌, Bool, true, Option, None, Some, option_and_then, option_map, codes}
 use Rattle.std.specs.Str.{IsUtf8}
 use Rattle.serde_json.specs.Data.{Data, null, array, no_items}
 use Rattle.serde_json.specs.Read.{read}
 use Rattle.pb_server.specs.Documents.{Document, text_of, with_text, without}
+use Rattle.pb_server.specs.Founds.{FoundData, response_data}
 use Rattle.pb_server.specs.Messages.{Called, Heard, heard_in, neither, notification, request}
 use Rattle.pb_server.specs.Methods.{method_of, notice_of}
 use Rattle.pb_server.specs.Params.{changed_text, opened_text, uri_in, version_in}
@@ -30,9 +31,9 @@ pub record Serving : Type 0 where
 abbrev pub Diagnosing : Type 1
 Diagnosing = (uri text : List ℕ) → Data → Type 0
 
--- what is found in the text of a document for a request with these parameters
+-- what is found in the text of a document for a request with these parameters, or why nothing can be
 abbrev pub Finding : Type 1
-Finding = Query → (uri text : List ℕ) → Option Data → Data → Type 0
+Finding = Query → (uri text : List ℕ) → Option Data → FoundData → Type 0
 
 -- ---- requests
 
@@ -47,7 +48,7 @@ text_named docs uri = option_and_then (λ u. text_of u docs) uri
 -- a request about the text of a document, which has to be open
 abbrev pub FindsIn : Finding → Query → (id : Data) → Option Data → (uri text : Option (List ℕ)) → List Data → Type 0
 FindsIn Finds query id params (Some uri) (Some text) told =
-    (result : Data) × Finds query uri text params result × (told ≡ result_data id result ∷ [])
+    (found : FoundData) × Finds query uri text params found × (told ≡ response_data id found ∷ [])
 FindsIn Finds query id params (Some uri) None told = told ≡ error_data id faults.WrongParams (codes "no open document has this URI") ∷ []
 FindsIn Finds query id params None text told = told ≡ error_data id faults.WrongParams (codes "no open document has this URI") ∷ []
 

@@ -1,5 +1,5 @@
 -- Conversations: the messages of an input, and what is said to them in turn.
-use Rattle.std.specs.Prelude.{◌≡◌, ◌⊎◌, ◌<◌, ℕ, List, [], ◌∷◌, ◌++◌, length, Option, Some, Bool, true, false}
+use Rattle.std.specs.Prelude.{◌≡◌, ◌⊎◌, ◌<◌, ℕ, List, [], ◌∷◌, ◌++◌, length, Option, true, false}
 use Rattle.serde_json.specs.Data.{Data, null}
 use Rattle.pb_base.specs.Device.{appended, AddsPrefix}
 use Rattle.pb_conversations.specs.Conversations.{AreFrames, IsOfBytes, fault_words, texts}

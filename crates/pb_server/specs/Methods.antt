@@ -10,7 +10,15 @@ use Rattle.pb_server.specs.declared.query.Query.TheVariants as queries
 -- what a request asks of the text of a document; else what is given
 abbrev pub query_or : List ℕ → Method → Method
 query_or m other =
-    cond (bytes_eq m (codes "textDocument/diagnostic")) (methods.Query queries.Diagnostic) other
+    cond (bytes_eq m (codes "textDocument/diagnostic")) (methods.Query queries.Diagnostic)
+    (cond (bytes_eq m (codes "textDocument/definition")) (methods.Query queries.Definition)
+    (cond (bytes_eq m (codes "textDocument/references")) (methods.Query queries.References)
+    (cond (bytes_eq m (codes "textDocument/rename")) (methods.Query queries.Rename)
+    (cond (bytes_eq m (codes "textDocument/documentSymbol")) (methods.Query queries.Symbols)
+    (cond (bytes_eq m (codes "textDocument/completion")) (methods.Query queries.Completion)
+    (cond (bytes_eq m (codes "textDocument/codeAction")) (methods.Query queries.Actions)
+    (cond (bytes_eq m (codes "textDocument/hover")) (methods.Query queries.Hover)
+    (cond (bytes_eq m (codes "textDocument/inlayHint")) (methods.Query queries.Hints) other))))))))
 
 -- what a request asks for
 abbrev pub method_of : List ℕ → Method

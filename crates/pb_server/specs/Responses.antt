@@ -1,6 +1,6 @@
 -- The messages of the server. Their members are in the order of their names.
 use Rattle.std.specs.Prelude.{ℕ, ℤ, negsuc, List, [], ◌∷◌, Option, None, Some, codes, true}
-use Rattle.serde_json.specs.Data.{Data, null, boolean, number, string, array, object, unsigned, no_items, no_members, member}
+use Rattle.serde_json.specs.Data.{Data, boolean, number, string, object, unsigned, no_members, member}
 use Rattle.serde_json.specs.Find.{of_integer}
 use Rattle.serde_json.specs.View.{view}
 use Rattle.serde_json.specs.declared.value.Value.{Value}
@@ -14,6 +14,7 @@ fault_number faults.NoRequest = negsuc 32599
 fault_number faults.UnknownMethod = negsuc 32600
 fault_number faults.WrongParams = negsuc 32601
 fault_number faults.NotInitialized = negsuc 32001
+fault_number faults.RequestFailed = negsuc 32802
 
 -- the response to a request that is carried out
 abbrev pub result_data : (id result : Data) → Data
@@ -56,11 +57,20 @@ publishing_with params = object (member (codes "jsonrpc") (string (codes "2.0"))
 abbrev pub publishing_data : (uri : List ℕ) → (version : Option ℕ) → (items : Data) → Data
 publishing_data uri version items = publishing_with (published_data uri version items)
 
--- what the server can do: it hears of documents that are opened and closed, and of each change the whole text
+-- what the server can do: it hears of documents that are opened and closed, of each change the whole text, and answers
+-- what is asked of a text
 abbrev pub able_data : Data
-able_data = object (member (codes "positionEncoding") (string (codes "utf-16"))
+able_data = object (member (codes "codeActionProvider") (boolean true)
+    (member (codes "completionProvider") (object no_members)
+    (member (codes "definitionProvider") (boolean true)
+    (member (codes "documentSymbolProvider") (boolean true)
+    (member (codes "hoverProvider") (boolean true)
+    (member (codes "inlayHintProvider") (boolean true)
+    (member (codes "positionEncoding") (string (codes "utf-16"))
+    (member (codes "referencesProvider") (boolean true)
+    (member (codes "renameProvider") (boolean true)
     (member (codes "textDocumentSync") (object (member (codes "change") (number (unsigned 1))
-    (member (codes "openClose") (boolean true) no_members))) no_members))
+    (member (codes "openClose") (boolean true) no_members))) no_members))))))))))
 
 abbrev pub capabilities_data : Data
 capabilities_data = object (member (codes "capabilities") able_data

@@ -11,6 +11,7 @@ ghost use Rattle.pb_server.specs.Params.{uri_in as uri_told};
 ghost use Rattle.pb_server.specs.Responses.{error_data, told_by};
 
 use crate::documents::text_of;
+use crate::found::respond;
 use crate::hear::hear;
 use crate::language::Language;
 use crate::message::{Message, message_of};
@@ -58,7 +59,7 @@ fn find_in<L: Language>(
     match text_of(session.documents.as_slice(), uri) {
         Some(text) => {
             let found = language.find(alloc, query, uri, text, params)?;
-            Ok(done(alloc, id, found)?)
+            respond(alloc, id, found)
         }
         None => refuse(
             alloc,

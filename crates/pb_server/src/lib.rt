@@ -5,6 +5,7 @@
 mod answer;
 mod conversation;
 mod documents;
+mod found;
 mod hear;
 mod language;
 mod message;
@@ -17,6 +18,7 @@ mod writer;
 
 pub use answer::answer_content;
 pub use conversation::converse;
+pub use found::Found;
 pub use language::Language;
 pub use query::Query;
 pub use response::{Fault, capabilities};

@@ -47,6 +47,22 @@ fn query_of(method: &str) -> Method
 {
     if is(method, "textDocument/diagnostic") {
         Method::Query(Query::Diagnostic)
+    } else if is(method, "textDocument/definition") {
+        Method::Query(Query::Definition)
+    } else if is(method, "textDocument/references") {
+        Method::Query(Query::References)
+    } else if is(method, "textDocument/rename") {
+        Method::Query(Query::Rename)
+    } else if is(method, "textDocument/documentSymbol") {
+        Method::Query(Query::Symbols)
+    } else if is(method, "textDocument/completion") {
+        Method::Query(Query::Completion)
+    } else if is(method, "textDocument/codeAction") {
+        Method::Query(Query::Actions)
+    } else if is(method, "textDocument/hover") {
+        Method::Query(Query::Hover)
+    } else if is(method, "textDocument/inlayHint") {
+        Method::Query(Query::Hints)
     } else {
         Method::Unknown
     }

@@ -20,6 +20,8 @@ pub enum Fault {
     WrongParams,
     /// The server is to be initialized first.
     NotInitialized,
+    /// What the request asks for cannot be done.
+    RequestFailed,
 }
 
 impl Fault {
@@ -33,6 +35,7 @@ impl Fault {
             Fault::UnknownMethod => -32601,
             Fault::WrongParams => -32602,
             Fault::NotInitialized => -32002,
+            Fault::RequestFailed => -32803,
         }
     }
 }
@@ -127,15 +130,28 @@ pub fn publishing(
     notification(alloc, params)
 }
 
+/// Returns what the server is asked of the text of a document.
+fn able(alloc: Global) -> Result<Value, AllocError>
+    ensures { IfOk result (λ v. view v ≡ spec.able_data) }
+{
+    json!(in alloc; {
+        "positionEncoding": "utf-16",
+        "textDocumentSync": {"openClose": true, "change": 1u64},
+        "definitionProvider": true,
+        "referencesProvider": true,
+        "renameProvider": true,
+        "documentSymbolProvider": true,
+        "completionProvider": {},
+        "codeActionProvider": true,
+        "hoverProvider": true,
+        "inlayHintProvider": true
+    })
+}
+
 /// Returns what the server can do.
 pub fn capabilities(alloc: Global) -> Result<Value, AllocError>
     ensures { IfOk result (λ v. view v ≡ capabilities_data) }
 {
-    json!(in alloc; {
-        "capabilities": {
-            "positionEncoding": "utf-16",
-            "textDocumentSync": {"openClose": true, "change": 1u64}
-        },
-        "serverInfo": {"name": "parbegin"}
-    })
+    let able = able(alloc)?;
+    json!(in alloc; {"capabilities": able, "serverInfo": {"name": "parbegin"}})
 }

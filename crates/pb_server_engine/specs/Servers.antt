@@ -1,6 +1,6 @@
 -- What `lsp` says of an input, and with which status.
 use Rattle.std.specs.Prelude.{◌≡◌, ◌≢◌, ◌⊎◌, ℕ, List, codes, ◌∷◌, [], ◌++◌, length}
-use Rattle.serde_json.specs.Data.{Data, string, object, no_members, member}
+use Rattle.serde_json.specs.Data.{Data, null, string, object, no_members, member}
 use Rattle.pb_base.specs.Device.{one_more_failure}
 use Rattle.pb_command_io.specs.Faults.{Devices, NoneFailed, WriteFailed}
 use Rattle.pb_command_io.specs.declared.status.Status.{Status}
@@ -8,14 +8,18 @@ use Rattle.pb_command_io.specs.declared.status.Status.TheVariants as status
 use Rattle.pb_conversations.specs.Conversations.{IsOfBytes, texts}
 use Rattle.pb_conversations.specs.declared.conversation.Stop.{Stop}
 use Rattle.pb_conversations.specs.declared.conversation.Stop.TheVariants as stop
+use Rattle.pb_diagnostics.specs.Actions.{AnswersActions}
 use Rattle.pb_diagnostics.specs.Diagnostics as diagnostics
 use Rattle.pb_frames.specs.Frames.{IsFrameFault}
 use Rattle.pb_frames.specs.declared.fault.FrameFault.{FrameFault}
 use Rattle.pb_server.specs.Answers.{Diagnosing, Finding, Serving}
 use Rattle.pb_server.specs.Conversations.{IsEnd, Talks, broken_data, fresh}
+use Rattle.pb_server.specs.Founds.{FoundData, refused, result}
 use Rattle.pb_server.specs.declared.query.Query.TheVariants as queries
 use Rattle.pb_server.specs.declared.session.Phase.{Phase}
 use Rattle.pb_server.specs.declared.session.Phase.TheVariants as phases
+use Rattle.pb_server_claims.specs.Answers.{AnswersHints, AnswersHover}
+use Rattle.pb_server_texts.specs.Answers.{AnswersCompletion, AnswersDefinition, AnswersReferences, AnswersRename, AnswersSymbols}
 
 -- ---- the language
 
@@ -27,9 +31,31 @@ Diagnoses uri text items = diagnostics.Diagnoses text items
 abbrev pub full_data : (items : Data) → Data
 full_data items = object (member (codes "items") items (member (codes "kind") (string (codes "full")) no_members))
 
+-- there is always a result, and it is one of these
+abbrev pub FindsOneOf : (Data → Type 0) → FoundData → Type 0
+FindsOneOf Is (result d) = Is d
+FindsOneOf Is (refused message) = ⊥
+
+-- all diagnostics of a document
+abbrev pub AnswersDiagnostic : (uri text : List ℕ) → Data → Type 0
+AnswersDiagnostic uri text d = (items : Data) × Diagnoses uri text items × (d ≡ full_data items)
+
+-- the edits of a new name, or why there are none
+abbrev pub renamed : Data → FoundData
+renamed null = refused (codes "no name stands here, or the new name is none of the language, or it is taken")
+renamed d = result d
+
 -- what is found in a text
 abbrev pub Finds : Finding
-Finds queries.Diagnostic uri text params result = (items : Data) × Diagnoses uri text items × (result ≡ full_data items)
+Finds queries.Diagnostic uri text params found = FindsOneOf (AnswersDiagnostic uri text) found
+Finds queries.Definition uri text params found = FindsOneOf (AnswersDefinition uri text params) found
+Finds queries.References uri text params found = FindsOneOf (AnswersReferences uri text params) found
+Finds queries.Rename uri text params found = (d : Data) × AnswersRename uri text params d × (found ≡ renamed d)
+Finds queries.Symbols uri text params found = FindsOneOf (AnswersSymbols text) found
+Finds queries.Completion uri text params found = FindsOneOf (AnswersCompletion text params) found
+Finds queries.Actions uri text params found = FindsOneOf (AnswersActions uri text) found
+Finds queries.Hover uri text params found = FindsOneOf (AnswersHover text params) found
+Finds queries.Hints uri text params found = FindsOneOf (AnswersHints text) found
 
 -- ---- a conversation
 

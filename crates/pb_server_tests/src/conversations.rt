@@ -14,7 +14,7 @@ struct Case {
     status: Status,
 }
 
-const CASES: [Case; 3] = [
+const CASES: [Case; 4] = [
     // A text that is refused, mended, asked for and closed.
     Case {
         asked: &[
@@ -35,7 +35,7 @@ const CASES: [Case; 3] = [
             "{\"jsonrpc\":\"2.0\",\"id\":7,\"method\":\"shutdown\"}",
         ],
         said: &[
-            "{\"id\":1,\"jsonrpc\":\"2.0\",\"result\":{\"capabilities\":{\"positionEncoding\":\"utf-16\",\"textDocumentSync\":{\"change\":1,\"openClose\":true}},\"serverInfo\":{\"name\":\"parbegin\"}}}",
+            "{\"id\":1,\"jsonrpc\":\"2.0\",\"result\":{\"capabilities\":{\"codeActionProvider\":true,\"completionProvider\":{},\"definitionProvider\":true,\"documentSymbolProvider\":true,\"hoverProvider\":true,\"inlayHintProvider\":true,\"positionEncoding\":\"utf-16\",\"referencesProvider\":true,\"renameProvider\":true,\"textDocumentSync\":{\"change\":1,\"openClose\":true}},\"serverInfo\":{\"name\":\"parbegin\"}}}",
             "{\"jsonrpc\":\"2.0\",\"method\":\"textDocument/publishDiagnostics\",\"params\":{\"diagnostics\":[{\"code\":\"N3\",\"message\":\"integer y is not declared in process a\\nhint: add it to the integers that the process declares\",\"range\":{\"end\":{\"character\":8,\"line\":3},\"start\":{\"character\":7,\"line\":3}},\"relatedInformation\":[],\"severity\":1,\"source\":\"parbegin\"}],\"uri\":\"file:///a.pb\",\"version\":1}}",
             "{\"id\":\"two\",\"jsonrpc\":\"2.0\",\"result\":{\"items\":[{\"code\":\"N3\",\"message\":\"integer y is not declared in process a\\nhint: add it to the integers that the process declares\",\"range\":{\"end\":{\"character\":8,\"line\":3},\"start\":{\"character\":7,\"line\":3}},\"relatedInformation\":[],\"severity\":1,\"source\":\"parbegin\"}],\"kind\":\"full\"}}",
             "{\"jsonrpc\":\"2.0\",\"method\":\"textDocument/publishDiagnostics\",\"params\":{\"diagnostics\":[],\"uri\":\"file:///a.pb\",\"version\":2}}",
@@ -72,7 +72,7 @@ const CASES: [Case; 3] = [
         ],
         said: &[
             "{\"error\":{\"code\":-32002,\"message\":\"the server is not initialized\"},\"id\":1,\"jsonrpc\":\"2.0\"}",
-            "{\"id\":2,\"jsonrpc\":\"2.0\",\"result\":{\"capabilities\":{\"positionEncoding\":\"utf-16\",\"textDocumentSync\":{\"change\":1,\"openClose\":true}},\"serverInfo\":{\"name\":\"parbegin\"}}}",
+            "{\"id\":2,\"jsonrpc\":\"2.0\",\"result\":{\"capabilities\":{\"codeActionProvider\":true,\"completionProvider\":{},\"definitionProvider\":true,\"documentSymbolProvider\":true,\"hoverProvider\":true,\"inlayHintProvider\":true,\"positionEncoding\":\"utf-16\",\"referencesProvider\":true,\"renameProvider\":true,\"textDocumentSync\":{\"change\":1,\"openClose\":true}},\"serverInfo\":{\"name\":\"parbegin\"}}}",
             "{\"error\":{\"code\":-32600,\"message\":\"the server is initialized already\"},\"id\":3,\"jsonrpc\":\"2.0\"}",
             "{\"error\":{\"code\":-32601,\"message\":\"this method is not known\"},\"id\":4,\"jsonrpc\":\"2.0\"}",
             "{\"error\":{\"code\":-32700,\"message\":\"this is not JSON\"},\"id\":null,\"jsonrpc\":\"2.0\"}",
@@ -81,6 +81,34 @@ const CASES: [Case; 3] = [
             "{\"error\":{\"code\":-32600,\"message\":\"this is not a request\"},\"id\":null,\"jsonrpc\":\"2.0\"}",
             "{\"jsonrpc\":\"2.0\",\"method\":\"textDocument/publishDiagnostics\",\"params\":{\"diagnostics\":[],\"uri\":\"file:///a.pb\",\"version\":7}}",
             "{\"jsonrpc\":\"2.0\",\"method\":\"textDocument/publishDiagnostics\",\"params\":{\"diagnostics\":[{\"code\":\"N3\",\"message\":\"integer y is not declared in process a\\nhint: add it to the integers that the process declares\",\"range\":{\"end\":{\"character\":8,\"line\":3},\"start\":{\"character\":7,\"line\":3}},\"relatedInformation\":[],\"severity\":1,\"source\":\"parbegin\"}],\"uri\":\"file:///a.pb\",\"version\":9}}",
+        ],
+        status: Status::Refused,
+    },
+    // Names of a text.
+    Case {
+        asked: &[
+            "{\"jsonrpc\":\"2.0\",\"id\":1,\"method\":\"initialize\",\"params\":{}}",
+            "{\"jsonrpc\":\"2.0\",\"method\":\"textDocument/didOpen\",\"params\":{\"textDocument\":{\"uri\":\"file:///a.pb\",\"languageId\":\"parbegin\",\"version\":1,\"text\":\"resource r = 1;\\nprocess a begin integer x; x := 1; hold 1 of r do print x od end\\nprocess b begin integer x; print x end\\n\"}}}",
+            "{\"jsonrpc\":\"2.0\",\"id\":2,\"method\":\"textDocument/definition\",\"params\":{\"textDocument\":{\"uri\":\"file:///a.pb\"},\"position\":{\"line\":1,\"character\":56}}}",
+            "{\"jsonrpc\":\"2.0\",\"id\":3,\"method\":\"textDocument/definition\",\"params\":{\"textDocument\":{\"uri\":\"file:///a.pb\"},\"position\":{\"line\":0,\"character\":0}}}",
+            "{\"jsonrpc\":\"2.0\",\"id\":4,\"method\":\"textDocument/references\",\"params\":{\"textDocument\":{\"uri\":\"file:///a.pb\"},\"position\":{\"line\":2,\"character\":33},\"context\":{\"includeDeclaration\":false}}}",
+            "{\"jsonrpc\":\"2.0\",\"id\":5,\"method\":\"textDocument/rename\",\"params\":{\"textDocument\":{\"uri\":\"file:///a.pb\"},\"position\":{\"line\":2,\"character\":33},\"newName\":\"y\"}}",
+            "{\"jsonrpc\":\"2.0\",\"id\":6,\"method\":\"textDocument/rename\",\"params\":{\"textDocument\":{\"uri\":\"file:///a.pb\"},\"position\":{\"line\":2,\"character\":33},\"newName\":\"end\"}}",
+            "{\"jsonrpc\":\"2.0\",\"id\":7,\"method\":\"textDocument/documentSymbol\",\"params\":{\"textDocument\":{\"uri\":\"file:///a.pb\"}}}",
+            "{\"jsonrpc\":\"2.0\",\"id\":8,\"method\":\"textDocument/completion\",\"params\":{\"textDocument\":{\"uri\":\"file:///a.pb\"},\"position\":{\"line\":2,\"character\":33}}}",
+            "{\"jsonrpc\":\"2.0\",\"id\":9,\"method\":\"textDocument/codeAction\",\"params\":{\"textDocument\":{\"uri\":\"file:///a.pb\"},\"range\":{\"start\":{\"line\":0,\"character\":0},\"end\":{\"line\":0,\"character\":0}},\"context\":{\"diagnostics\":[]}}}",
+        ],
+        said: &[
+            "{\"id\":1,\"jsonrpc\":\"2.0\",\"result\":{\"capabilities\":{\"codeActionProvider\":true,\"completionProvider\":{},\"definitionProvider\":true,\"documentSymbolProvider\":true,\"hoverProvider\":true,\"inlayHintProvider\":true,\"positionEncoding\":\"utf-16\",\"referencesProvider\":true,\"renameProvider\":true,\"textDocumentSync\":{\"change\":1,\"openClose\":true}},\"serverInfo\":{\"name\":\"parbegin\"}}}",
+            "{\"jsonrpc\":\"2.0\",\"method\":\"textDocument/publishDiagnostics\",\"params\":{\"diagnostics\":[],\"uri\":\"file:///a.pb\",\"version\":1}}",
+            "{\"id\":2,\"jsonrpc\":\"2.0\",\"result\":{\"range\":{\"end\":{\"character\":25,\"line\":1},\"start\":{\"character\":24,\"line\":1}},\"uri\":\"file:///a.pb\"}}",
+            "{\"id\":3,\"jsonrpc\":\"2.0\",\"result\":null}",
+            "{\"id\":4,\"jsonrpc\":\"2.0\",\"result\":[{\"range\":{\"end\":{\"character\":34,\"line\":2},\"start\":{\"character\":33,\"line\":2}},\"uri\":\"file:///a.pb\"}]}",
+            "{\"id\":5,\"jsonrpc\":\"2.0\",\"result\":{\"changes\":{\"file:///a.pb\":[{\"newText\":\"y\",\"range\":{\"end\":{\"character\":25,\"line\":2},\"start\":{\"character\":24,\"line\":2}}},{\"newText\":\"y\",\"range\":{\"end\":{\"character\":34,\"line\":2},\"start\":{\"character\":33,\"line\":2}}}]}}}",
+            "{\"error\":{\"code\":-32803,\"message\":\"no name stands here, or the new name is none of the language, or it is taken\"},\"id\":6,\"jsonrpc\":\"2.0\"}",
+            "{\"id\":7,\"jsonrpc\":\"2.0\",\"result\":[{\"children\":[],\"kind\":14,\"name\":\"r\",\"range\":{\"end\":{\"character\":15,\"line\":0},\"start\":{\"character\":0,\"line\":0}},\"selectionRange\":{\"end\":{\"character\":10,\"line\":0},\"start\":{\"character\":9,\"line\":0}}},{\"children\":[{\"children\":[],\"kind\":13,\"name\":\"x\",\"range\":{\"end\":{\"character\":25,\"line\":1},\"start\":{\"character\":24,\"line\":1}},\"selectionRange\":{\"end\":{\"character\":25,\"line\":1},\"start\":{\"character\":24,\"line\":1}}}],\"kind\":12,\"name\":\"a\",\"range\":{\"end\":{\"character\":64,\"line\":1},\"start\":{\"character\":0,\"line\":1}},\"selectionRange\":{\"end\":{\"character\":9,\"line\":1},\"start\":{\"character\":8,\"line\":1}}},{\"children\":[{\"children\":[],\"kind\":13,\"name\":\"x\",\"range\":{\"end\":{\"character\":25,\"line\":2},\"start\":{\"character\":24,\"line\":2}},\"selectionRange\":{\"end\":{\"character\":25,\"line\":2},\"start\":{\"character\":24,\"line\":2}}}],\"kind\":12,\"name\":\"b\",\"range\":{\"end\":{\"character\":38,\"line\":2},\"start\":{\"character\":0,\"line\":2}},\"selectionRange\":{\"end\":{\"character\":9,\"line\":2},\"start\":{\"character\":8,\"line\":2}}}]}",
+            "{\"id\":8,\"jsonrpc\":\"2.0\",\"result\":[{\"kind\":21,\"label\":\"r\"},{\"kind\":6,\"label\":\"x\"},{\"kind\":14,\"label\":\"and\"},{\"kind\":14,\"label\":\"begin\"},{\"kind\":14,\"label\":\"div\"},{\"kind\":14,\"label\":\"do\"},{\"kind\":14,\"label\":\"else\"},{\"kind\":14,\"label\":\"end\"},{\"kind\":14,\"label\":\"fi\"},{\"kind\":14,\"label\":\"hold\"},{\"kind\":14,\"label\":\"if\"},{\"kind\":14,\"label\":\"integer\"},{\"kind\":14,\"label\":\"mod\"},{\"kind\":14,\"label\":\"not\"},{\"kind\":14,\"label\":\"od\"},{\"kind\":14,\"label\":\"of\"},{\"kind\":14,\"label\":\"or\"},{\"kind\":14,\"label\":\"parbegin\"},{\"kind\":14,\"label\":\"parend\"},{\"kind\":14,\"label\":\"print\"},{\"kind\":14,\"label\":\"process\"},{\"kind\":14,\"label\":\"resource\"},{\"kind\":14,\"label\":\"skip\"},{\"kind\":14,\"label\":\"then\"},{\"kind\":14,\"label\":\"while\"}]}",
+            "{\"id\":9,\"jsonrpc\":\"2.0\",\"result\":[]}",
         ],
         status: Status::Refused,
     },
@@ -94,7 +122,7 @@ const CASES: [Case; 3] = [
             "{\"jsonrpc\":\"2.0\",\"method\":\"textDocument/didChange\",\"params\":{\"textDocument\":{\"uri\":\"file:///b.pb\",\"version\":2},\"contentChanges\":[{\"text\":\"\"}]}}",
         ],
         said: &[
-            "{\"id\":1,\"jsonrpc\":\"2.0\",\"result\":{\"capabilities\":{\"positionEncoding\":\"utf-16\",\"textDocumentSync\":{\"change\":1,\"openClose\":true}},\"serverInfo\":{\"name\":\"parbegin\"}}}",
+            "{\"id\":1,\"jsonrpc\":\"2.0\",\"result\":{\"capabilities\":{\"codeActionProvider\":true,\"completionProvider\":{},\"definitionProvider\":true,\"documentSymbolProvider\":true,\"hoverProvider\":true,\"inlayHintProvider\":true,\"positionEncoding\":\"utf-16\",\"referencesProvider\":true,\"renameProvider\":true,\"textDocumentSync\":{\"change\":1,\"openClose\":true}},\"serverInfo\":{\"name\":\"parbegin\"}}}",
             "{\"jsonrpc\":\"2.0\",\"method\":\"textDocument/publishDiagnostics\",\"params\":{\"diagnostics\":[{\"code\":\"N3\",\"message\":\"integer y is not declared in process a\\nhint: add it to the integers that the process declares\",\"range\":{\"end\":{\"character\":8,\"line\":3},\"start\":{\"character\":7,\"line\":3}},\"relatedInformation\":[],\"severity\":1,\"source\":\"parbegin\"}],\"uri\":\"file:///a.pb\",\"version\":1}}",
             "{\"jsonrpc\":\"2.0\",\"method\":\"textDocument/publishDiagnostics\",\"params\":{\"diagnostics\":[],\"uri\":\"file:///b.pb\",\"version\":1}}",
             "{\"jsonrpc\":\"2.0\",\"method\":\"textDocument/publishDiagnostics\",\"params\":{\"diagnostics\":[],\"uri\":\"file:///a.pb\"}}",

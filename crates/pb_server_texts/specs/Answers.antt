@@ -1,5 +1,5 @@
 -- What is answered to a request over the text of a document.
-use Rattle.std.specs.Prelude.{ℕ, [], List, Option, Some, None}
+use Rattle.std.specs.Prelude.{◌≡◌, ℕ, [], List, Option, Some, None}
 use Rattle.serde_json.specs.Data.{Data, null}
 use Rattle.pb_lexer.specs.Tokens.{Token}
 use Rattle.pb_tree.specs.Syntax.{ProgramSyntax}
@@ -29,23 +29,22 @@ AnswersReferences uri text params =
     null text
 
 -- what a new name changes; nothing if none is given
-abbrev pub rename_to : (uri text : List ℕ) → List Place → Option (List ℕ) → Option Place → Data
-rename_to uri text places None one = null
-rename_to uri text places (Some name) one = rename_data uri text name places one
+abbrev pub RenamesTo : (uri text : List ℕ) → Option Data → Option (List ℕ) → Data → Type 0
+RenamesTo uri text params None d = d ≡ null
+RenamesTo uri text params (Some name) d =
+    Answers (λ tokens places. rename_data uri text name places (asked_place text places params)) null text d
 
 abbrev pub AnswersRename : (uri text : List ℕ) → Option Data → Data → Type 0
-AnswersRename uri text params =
-    Answers (λ tokens places. rename_to uri text places (asked_name params) (asked_place text places params)) null text
+AnswersRename uri text params d = RenamesTo uri text params (asked_name params) d
 
 -- the symbols
 abbrev pub AnswersSymbols : (text : List ℕ) → Data → Type 0
 AnswersSymbols text = Answers (λ tokens places. symbols_data text tokens places) null text
 
 -- what may be written at a position; only the reserved words if no offset has it, or if the text is not read
-abbrev pub completions_if : List Place → Option ℕ → Data
-completions_if places None = items_data []
-completions_if places (Some at) = completions_data places at
+abbrev pub CompletesAt : (text : List ℕ) → Option ℕ → Data → Type 0
+CompletesAt text None d = d ≡ items_data []
+CompletesAt text (Some at) d = Answers (λ tokens places. completions_data places at) (items_data []) text d
 
 abbrev pub AnswersCompletion : (text : List ℕ) → Option Data → Data → Type 0
-AnswersCompletion text params =
-    Answers (λ tokens places. completions_if places (asked_offset text params)) (items_data []) text
+AnswersCompletion text params d = CompletesAt text (asked_offset text params) d

@@ -16,7 +16,7 @@ use Rattle.pb_command_line.specs.CommandLine.{bank_command, dap_command, lsp_com
 use Rattle.clap.specs.declared.parser.matches.Found.{Found}
 use Rattle.clap.proofs.WalkLemmas.{one_text-rows}
 use Rattle.pb_words.specs.Read.{BlamesWords, HasCheckNumbers, HasCode, HasEmitNumber, HasFlag, HasNumber, HasNumberIn}
-use Rattle.pb_words.specs.Read.{HasDebugOptions, HasDrawLend, HasLend, HasOptionalNumber, HasOptionalNumberIn, HasReplayLend, HasSearchOptions, HasStatesOptions}
+use Rattle.pb_words.specs.Read.{HasDebugOptions, HasDrawOptions, HasLend, HasOptionalNumber, HasOptionalNumberIn, HasReplayLend, HasSearchOptions, HasStatesOptions}
 use Rattle.pb_words.specs.Read.{HasRecordNumbers, HasRunNumbers}
 use Rattle.pb_words.specs.Read.{IsReadFrom, IsReadFromMatches}
 use Rattle.pb_words.specs.declared.words.Options.{Options}
@@ -473,7 +473,7 @@ no_replay rows none (States o) says =
     let m : 114 ≡ 115 = ap (λ (l : Text). get_or l 0 0) says.0 in omega (arith, m)
 
 -- if its options cannot be read, the rows of `draw` say nothing
-pub no_draw : (rows : List Row) → ((o : DrawOptions) → HasDrawLend rows o → ⊥) → (o : Options)
+pub no_draw : (rows : List Row) → ((o : DrawOptions) → HasDrawOptions rows o → ⊥) → (o : Options)
     → IsReadFrom (codes "draw") rows o → ⊥
 no_draw rows none Bank says =
     let m : 100 ≡ 98 = ap (λ (l : Text). get_or l 0 0) says in omega (arith, m)

@@ -13,6 +13,7 @@ use Rattle.pb_words.specs.declared.words.Options.TheVariants as option
 use Rattle.pb_options.specs.declared.options.DebugOptions.{DebugOptions}
 use Rattle.pb_options.specs.declared.options.CheckOptions.{CheckOptions}
 use Rattle.pb_options.specs.declared.options.DrawOptions.{DrawOptions}
+use Rattle.pb_options.specs.declared.options.TheConstants.{MAX_SCALE, MAX_WIDTH, MIN_SCALE, MIN_WIDTH}
 use Rattle.pb_options.specs.declared.options.EmitOptions.{EmitOptions}
 use Rattle.pb_options.specs.Lends.{lend_word}
 use Rattle.pb_options.specs.declared.options.Lend.{Lend}
@@ -86,8 +87,9 @@ HasSearchOptions rows o = HasNumber rows (codes "states") o.states × HasLend ro
 abbrev pub HasDebugOptions : List Row → DebugOptions → Type 0
 HasDebugOptions rows o = HasFlag rows (codes "live") o.live × HasLend rows o.lend
 
-abbrev pub HasDrawLend : List Row → DrawOptions → Type 0
-HasDrawLend rows o = HasLend rows o.lend
+abbrev pub HasDrawOptions : List Row → DrawOptions → Type 0
+HasDrawOptions rows o = HasLend rows o.lend × HasOptionalNumberIn rows (codes "width") MIN_WIDTH MAX_WIDTH o.width
+    × HasNumberIn rows (codes "scale") MIN_SCALE MAX_SCALE o.scale
 
 abbrev pub HasReplayLend : List Row → ReplayOptions → Type 0
 HasReplayLend rows o = HasLend rows o.lend
@@ -102,7 +104,7 @@ IsReadFrom name rows (option.Check o) = (name ≡ codes "check") × HasCheckNumb
 IsReadFrom name rows option.Claims = name ≡ codes "claims"
 IsReadFrom name rows option.Dap = name ≡ codes "dap"
 IsReadFrom name rows (option.Debug o) = (name ≡ codes "debug") × HasDebugOptions rows o
-IsReadFrom name rows (option.Draw o) = (name ≡ codes "draw") × HasDrawLend rows o
+IsReadFrom name rows (option.Draw o) = (name ≡ codes "draw") × HasDrawOptions rows o
 IsReadFrom name rows (option.Emit o) = (name ≡ codes "emit") × HasEmitNumber rows o
 IsReadFrom name rows (option.Exec o) = (name ≡ codes "exec") × HasRunNumbers rows o
 IsReadFrom name rows (option.Explain code) = (name ≡ codes "explain") × HasCode rows code

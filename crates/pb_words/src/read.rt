@@ -1,7 +1,7 @@
 //! Reads the words of a call.
 ghost use Rattle.std.specs.Prelude.{◌≡◌, ◌↔◌, IfErr, IfNone, IfOk, IfSome, IsTrue, None, Option, ℕ};
 ghost use Rattle.clap.specs.Words.{found_of, kind_of, one_of, rows_of, subcommand_rows_of};
-ghost use Rattle.pb_words.specs.Read.{BlamesWords, HasCheckNumbers, HasCode, HasDebugOptions, HasDrawLend, HasEmitNumber};
+ghost use Rattle.pb_words.specs.Read.{BlamesWords, HasCheckNumbers, HasCode, HasDebugOptions, HasDrawOptions, HasEmitNumber};
 ghost use Rattle.pb_words.specs.Read.{HasFlag, HasNumberIn, HasOptionalNumberIn, HasRecordNumbers, HasRunNumbers, HasLend, HasReplayLend, HasSearchOptions};
 ghost use Rattle.pb_words.specs.Read.{HasStatesOptions, IsReadFromMatches, WordsSay};
 ghost use Rattle.pb_words.specs.declared.words.Options.{Options as AnyOptions};
@@ -24,8 +24,9 @@ use pb_base::limits::{MAX_PICKS, MAX_QUANTUM, MAX_STATES, MAX_WORKERS};
 use pb_command_line::command_line::command_line;
 use pb_object::Format;
 use pb_options::{
-    CheckOptions, Code, DebugOptions, DrawOptions, EmitOptions, Lend, MAX_HEAP, MAX_ROWS, MIN_HEAP,
-    OutcomesOptions, RecordOptions, ReplayOptions, RunOptions, StatesOptions,
+    CheckOptions, Code, DebugOptions, DrawOptions, EmitOptions, Lend, MAX_HEAP, MAX_ROWS,
+    MAX_SCALE, MAX_WIDTH, MIN_HEAP, MIN_SCALE, MIN_WIDTH, OutcomesOptions, RecordOptions,
+    ReplayOptions, RunOptions, StatesOptions,
 };
 use std::alloc::{AllocError, Global};
 
@@ -106,11 +107,17 @@ fn debug_options(matches: &ArgMatches<'_>) -> Option<DebugOptions>
 }
 
 fn draw_options(matches: &ArgMatches<'_>) -> Option<DrawOptions>
-    ensures some { IfSome result (HasDrawLend (rows_of (found_of matches.now))) }
-    ensures none { IfNone result ((o : AnyDrawOptions) → HasDrawLend (rows_of (found_of matches.now)) o → ⊥) }
+    ensures some { IfSome result (HasDrawOptions (rows_of (found_of matches.now))) }
+    ensures none { IfNone result ((o : AnyDrawOptions) → HasDrawOptions (rows_of (found_of matches.now)) o → ⊥) }
 {
     let lend = lend(matches)?;
-    Some(DrawOptions { lend })
+    let width = number_if_given(matches, "width", MIN_WIDTH, MAX_WIDTH)?;
+    let scale = number(matches, "scale", MIN_SCALE, MAX_SCALE)?;
+    Some(DrawOptions {
+        lend,
+        width,
+        scale: scale as u16,
+    })
 }
 
 fn emit_options(matches: &ArgMatches<'_>) -> Option<EmitOptions>

@@ -19,6 +19,7 @@ unsafe extern "C" {
     ) -> u8;
     fn pb_check(text: *const u8, length: usize, output: *mut u8, room: usize, needed: *mut usize) -> u8;
     fn pb_claims(text: *const u8, length: usize, output: *mut u8, room: usize, needed: *mut usize) -> u8;
+    fn pb_plan(texts: *const u8, length: usize, output: *mut u8, room: usize, needed: *mut usize) -> u8;
 }
 
 /// Calls with more and more room, until there is enough for the reply.
@@ -59,4 +60,26 @@ pub fn check(text: &[u8]) -> (u8, Vec<u8>) {
 pub fn claims(text: &[u8]) -> (u8, Vec<u8>) {
     // SAFETY: references to whole values, for the call.
     reply(|output, room, needed| unsafe { pb_claims(text.as_ptr(), text.len(), output, room, needed) })
+}
+
+/// Returns what `parbegin plan` writes of these texts, whose processes run beside one another, and its exit status.
+#[must_use]
+pub fn plan(texts: &[&[u8]]) -> (u8, Vec<u8>) {
+    let joined = join(texts);
+    // SAFETY: references to whole values, for the call.
+    reply(|output, room, needed| unsafe { pb_plan(joined.as_ptr(), joined.len(), output, room, needed) })
+}
+
+/// Returns texts with lines `%%` between them.
+fn join(texts: &[&[u8]]) -> Vec<u8> {
+    let mut joined = Vec::new();
+    for (number, text) in texts.iter().enumerate() {
+        if number > 0 {
+            let ends = joined.is_empty() || joined.ends_with(b"\n");
+            let mark: &[u8] = if ends { b"%%\n" } else { b"\n%%\n" };
+            joined.extend_from_slice(mark);
+        }
+        joined.extend_from_slice(text);
+    }
+    joined
 }

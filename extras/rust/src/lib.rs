@@ -9,4 +9,4 @@ mod bank;
 mod commands;
 
 pub use bank::{Answer, Bank, Fault, MAX_JOBS, MAX_RESOURCES, Reason};
-pub use commands::{call, check, claims};
+pub use commands::{call, check, claims, plan};

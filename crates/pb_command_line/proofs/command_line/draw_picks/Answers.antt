@@ -3,4 +3,5 @@ use Rattle.pb_command_line.proofs.command_line.draw_picks.Goals as goal
 
 pub returns : goal.returns
 unfolding draw_command
-returns c = c.with_lend.ensures _ c.plain.ensures
+returns c =
+    c.with_number.ensures _ (c.with_given_number-draw-2.ensures _ (c.with_lend-draw.ensures _ c.plain.ensures))

@@ -7,6 +7,7 @@ use Rattle.pb_draw.proofs.ArmOrder.{arms_apart, arms_few}
 use Rattle.std.specs.Prelude.{All}
 use Rattle.std.proofs.lemmas.List.{length-map}
 use Rattle.pb_base.specs.Lines.{HasNames}
+use Rattle.pb_code.specs.View.{labels_view}
 use Rattle.pb_history.specs.Entries.{Entry, picks_of}
 use Rattle.pb_draw.specs.Bars.{bars_of}
 use Rattle.pb_draw.specs.Marks.{AreInOrder, marks_before}
@@ -22,7 +23,7 @@ returns-clause-drawing c =
     let many : length entries ≡ length picks = sym (length-map entries (λ (e : Entry). e.pick)) in
     record {
       many = c.len-picks.ensures ∙ many;
-      marks = c.in_ok-marks.ensures ∙ ap (marks_before c.args.verified.now.code picks) many;
+      marks = c.in_ok-marks.ensures ∙ ap (marks_before c.args.verified.now.code (labels_view c.args.labels.now) picks) many;
       bars = c.in_ok-bars.ensures ∙ ap bars_of c.as_slice.ensures.value;
       arms = c.in_ok-lanes.ensures.arms;
       lanes = c.in_ok-lanes.ensures.lanes;
@@ -34,12 +35,12 @@ returns-clause-named c =
     let v = c.args.verified.now in
     let entries = c.args.trace.now.entries in
     subst (λ (ms : List Mark). All (λ (m : Mark). HasNames v.code.names m.event) ms) (sym c.in_ok-marks.ensures)
-    (marks_named c.args.lending v (picks_of entries) c.code.ensures.verified c.requires.enabled (length entries))
+    (marks_named c.args.lending v (picks_of entries) c.code.ensures.verified c.requires.enabled (labels_view c.args.labels.now) (length entries))
 
 pub returns-clause-ordered : goal.returns-clause-ordered
 returns-clause-ordered c =
     let entries = c.args.trace.now.entries in
-    subst AreInOrder (sym c.in_ok-marks.ensures) (marks_in_order c.args.verified.now.code (picks_of entries) (length entries))
+    subst AreInOrder (sym c.in_ok-marks.ensures) (marks_in_order c.args.verified.now.code (labels_view c.args.labels.now) (picks_of entries) (length entries))
 
 pub returns-clause-different : goal.returns-clause-different
 returns-clause-different c =

@@ -1,33 +1,34 @@
 use Rattle.std.proofs.Common.{List, length, ap, arith}
 use Rattle.std.proofs.lemmas.List.{length-map}
 use Rattle.pb_base.specs.declared.pick.Pick.{Pick}
+use Rattle.pb_code.specs.View.{labels_view}
 use Rattle.pb_history.specs.Entries.{Entry}
 use Rattle.pb_history.proofs.Positions.{leads_enabled}
 use Rattle.pb_machine.specs.Views.{machine_view}
 use Rattle.pb_draw_engine.proofs.DrawLemmas.{no_picks_told, picture_told}
 use Rattle.pb_draw_engine.proofs.draw.draw_lines.Goals as goal
 
-pub drawn-reply-requires-clause-enabled : goal.drawn-reply-requires-clause-enabled
-drawn-reply-requires-clause-enabled g c =
+pub shown-reply-requires-clause-enabled : goal.shown-reply-requires-clause-enabled
+shown-reply-requires-clause-enabled g c =
     leads_enabled c.args.verified.now.code c.in-Ok.trace.entries (machine_view c.in-Ok.machine) c.in-Ok.ensures.made.replay.leads
 
-pub drawn-reply-requires-clause-few : goal.drawn-reply-requires-clause-few
-drawn-reply-requires-clause-few g c =
+pub shown-reply-requires-clause-few : goal.shown-reply-requires-clause-few
+shown-reply-requires-clause-few g c =
     let are = c.in-Ok.ensures.made in
     let made = ap (λ (ps : List Pick). length ps) are.replay.made in
     let many = length-map c.in-Ok.trace.entries (λ (e : Entry). e.pick) in
     let few = are.spelled.few in
     omega (arith, made, many, few)
 
-pub drawn-reply-requires-clause-machine : goal.drawn-reply-requires-clause-machine
-drawn-reply-requires-clause-machine g c = c.in-Ok.ensures.machine
+pub shown-reply-requires-clause-machine : goal.shown-reply-requires-clause-machine
+shown-reply-requires-clause-machine g c = c.in-Ok.ensures.machine
 
 pub returns-in-Ok-clause-text : goal.returns-in-Ok-clause-text
 returns-in-Ok-clause-text g c =
-    picture_told c.args.lending c.args.verified.now.code c.args.lines.now c.in-Ok.trace.entries (machine_view c.in-Ok.machine) c.drawn-reply.result _ _
-    c.tell.result c.in-Ok.ensures.made c.drawn-reply.ensures c.tell.ensures.said c.tell.ensures.memory
+    picture_told c.args.lending c.args.size c.args.verified.now.code (labels_view c.args.labels.now) c.args.lines.now c.in-Ok.trace.entries (machine_view c.in-Ok.machine) c.shown-reply.result _ _
+    c.tell.result c.in-Ok.ensures.made c.shown-reply.ensures c.tell.ensures.said c.tell.ensures.memory
 
 pub returns-in-Err-clause-text : goal.returns-in-Err-clause-text
 returns-in-Err-clause-text g c =
-    no_picks_told c.args.lending c.args.verified.now.code c.args.lines.now c.lines_refusal.result _ _ c.tell-in-Err.result
+    no_picks_told c.args.lending c.args.size c.args.verified.now.code (labels_view c.args.labels.now) c.args.lines.now c.lines_refusal.result _ _ c.tell-in-Err.result
     (c.lines_refusal.ensures c.args.lending c.args.verified.now.code c.args.lines.now c.in-Err.ensures.fault) c.tell-in-Err.ensures.said c.tell-in-Err.ensures.memory

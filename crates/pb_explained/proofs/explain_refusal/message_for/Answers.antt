@@ -3,7 +3,7 @@ use Rattle.std.specs.Prelude.{IfOk}
 use Rattle.pb_base.specs.declared.lending.Lending.{Lending}
 use Rattle.pb_explained.specs.Explained.{TellsDebugged, TellsRefused}
 use Rattle.pb_messages.specs.Said.{SaysToPerson}
-use Rattle.pb_messages.specs.declared.message.Reading.TheVariants.{Debugged, Replayed}
+use Rattle.pb_messages.specs.declared.message.Reading.TheVariants.{Debugged, Replayed, Shown}
 use Rattle.pb_options.specs.Lends.{lending_for}
 use Rattle.pb_options.specs.declared.options.DebugOptions.{DebugOptions}
 use Rattle.pb_words.specs.declared.words.Options.{Options}
@@ -44,7 +44,7 @@ pub returns-in-States : goal.returns-in-States
 returns-in-States c =
     let bytes = c.args.bytes.now in
     subst (λ (o : Options). IfOk c.message_of-in-States.result (λ message. TellsRefused o bytes message.items)) (sym c.in-States.is)
-    (subst (λ (l : Lending). IfOk c.message_of-in-States.result (λ message. SaysToPerson (Replayed l) bytes message.items))
+    (subst (λ (l : Lending). IfOk c.message_of-in-States.result (λ message. SaysToPerson (Shown l) bytes message.items))
     c.lending-in-States.ensures c.message_of-in-States.ensures)
 
 pub returns-in-Replay : goal.returns-in-Replay

@@ -1,5 +1,9 @@
 use Rattle.std.proofs.Common.{List, ℕ, subst}
 use Rattle.std.proofs.lemmas.Result.{MatchResult-weaker}
+use Rattle.pb_code.specs.View.{labels_view}
+use Rattle.pb_code.specs.Whole.{ProcessLabels}
+use Rattle.pb_object.specs.Answers.{SpellsCode}
+use Rattle.pb_object.specs.declared.format.Format.TheVariants.{Two}
 use Rattle.pb_page_engine.specs.Schedules.{AreSchedules}
 use Rattle.pb_verifier.specs.Verified.{VerifiedCode}
 use Rattle.pb_page_engine.proofs.schedules.reply.Goals as goal
@@ -9,13 +13,16 @@ returns c =
     let lending = c.args.lending in
     let states = c.args.states in
     let source = c.args.source.now in
+    let code = c.args.compiled.now.verified.code in
+    let object = c.in_ok-object.object.items in
     MatchResult-weaker c.schedules.result c.schedules.ensures
     (λ r are. record {
-      object = c.in_ok-object.object.items;
-      spelled = c.in_ok-object.ensures;
-      are = subst (λ (o : List ℕ). AreSchedules lending states source o c.args.compiled.now.verified.code r.text.items r.status)
-          c.deref.ensures.value
+      object = object;
+      spelled = subst (λ (labels : List ProcessLabels). SpellsCode Two code labels object) c.labels.ensures.labels
+          (subst (λ (v : VerifiedCode). SpellsCode Two v.code (labels_view c.labels.result.now) object) c.verified-verified.ensures
+          c.in_ok-object.ensures);
+      are = subst (λ (o : List ℕ). AreSchedules lending states source o code r.text.items r.status) c.deref.ensures.value
           (subst (λ (v : VerifiedCode). AreSchedules lending states source c.deref.result.now v.code r.text.items r.status)
-          c.verified.ensures are);
+          c.verified-verified.ensures are);
     })
     (λ e h. h)

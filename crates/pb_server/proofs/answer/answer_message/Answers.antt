@@ -1,5 +1,4 @@
 use Rattle.std.proofs.Common.{sym, ap, ◌∙◌}
-use Rattle.serde_json.specs.Data.{Data}
 use Rattle.serde_json.specs.View.{view}
 use Rattle.pb_server.specs.Messages.{call_view, message_view}
 use Rattle.pb_server.proofs.FloatFree.{heard_id, id_free}

@@ -1,4 +1,4 @@
-use Rattle.std.proofs.Common.{◌≡◌, ℕ, ◌+◌, List, Option, Some, None, option_map, IfSome, Vec, Global, sym, ◌∙◌, subst, arith, refl}
+use Rattle.std.proofs.Common.{ℕ, List, Option, Some, None, option_map, IfSome, Vec, Global, ◌∙◌, subst, arith, refl}
 use Rattle.pb_base.proofs.DeviceLemmas.{if_known}
 use Rattle.pb_frames.specs.Frames.{IsRead}
 use Rattle.pb_server.proofs.ConversationLemmas.{so_far_nothing, so_far_all, so_far_end, so_far_memory}

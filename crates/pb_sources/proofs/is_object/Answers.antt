@@ -1,5 +1,5 @@
 use Rattle.std.proofs.Common.{rules}
-use Rattle.pb_debug_engine.proofs.parts.is_object.Goals as goal
+use Rattle.pb_sources.proofs.is_object.Goals as goal
 
 pub returns : goal.returns
 returns c = search rules fits 100

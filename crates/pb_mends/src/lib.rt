@@ -1,0 +1,11 @@
+//! Edits that mend a text: a semicolon that is missing, an integer that is not declared, a capital that is too small. What
+//! is proposed was tried: with the edit the text is accepted, or refused further on.
+#![tactic(auto)]
+
+mod candidates;
+mod further;
+mod mend;
+mod propose;
+
+pub use mend::Mend;
+pub use propose::propose_mends;

@@ -1,0 +1,87 @@
+//! The edits that mend a text.
+
+ghost use Rattle.std.specs.Prelude.{◌≡◌, All, IfOk, true};
+ghost use Rattle.pb_codegen.specs.Compiled.{IsRefused};
+ghost use Rattle.pb_mends.specs.Mends.{HasCause, Mends, edit_of};
+
+use crate::candidates::{add_capital, add_declaration, add_missing};
+use crate::further::gets_further;
+use crate::mend::{Mend, edited};
+use bumpalo::Bump;
+use pb_accept::text_cause;
+use pb_base::NoMemory;
+use pb_codegen::{CompileFault, compile};
+use pb_lexer::{LexFault, lex};
+use pb_names::NameFault;
+use pb_parser::ParseFault;
+use std::alloc::Global;
+
+/// Returns whether an edit is one of the text and the text gets further with it.
+fn mends_it(alloc: Global, text: &[u8], fault: &CompileFault, mend: &Mend) -> Result<bool, NoMemory>
+    requires refused { IsRefused text.now fault.now }
+    requires told { HasCause fault.now }
+    ensures { IfOk result (λ is. is ≡ true → Mends text.now (edit_of mend.now)) }
+{
+    if mend.end < mend.start || text.len() < mend.end {
+        return Ok(false);
+    }
+    let after = edited(alloc, text, mend)?;
+    gets_further(alloc, text, fault, &after)
+}
+
+/// Returns the edits that may mend a text with this fault.
+fn candidates(alloc: Global, text: &[u8], fault: &CompileFault) -> Result<Vec<Mend>, NoMemory> {
+    let mut out = Vec::new(alloc);
+    let tokens = match lex(alloc, text) {
+        Ok(tokens) => tokens,
+        Err(LexFault::NoMemory) => return Err(NoMemory),
+        Err(_) => return Ok(out),
+    };
+    match fault {
+        CompileFault::Parse(ParseFault::Syntax(at)) => add_missing(alloc, &mut out, &tokens, *at)?,
+        CompileFault::Names(NameFault::Unknown(at)) => {
+            add_declaration(alloc, &mut out, &tokens, *at)?
+        }
+        CompileFault::Claims(over) => add_capital(alloc, &mut out, &tokens, over)?,
+        _ => {}
+    }
+    Ok(out)
+}
+
+/// Returns those of some edits with which a text gets further.
+fn tried(
+    alloc: Global,
+    text: &[u8],
+    fault: &CompileFault,
+    candidates: Vec<Mend>,
+) -> Result<Vec<Mend>, NoMemory>
+    requires refused { IsRefused text.now fault.now }
+    requires told { HasCause fault.now }
+    ensures { IfOk result (λ list. All (λ mend. Mends text.now (edit_of mend)) list.items) }
+{
+    let mut out = Vec::new(alloc);
+    for mend in candidates {
+        if mends_it(alloc, text, fault, &mend)? {
+            out.push(mend)?;
+        }
+    }
+    Ok(out)
+}
+
+/// Returns edits with which a text that is refused gets further; none if it is accepted, or if none is known. The error
+/// comes only if out of memory.
+pub fn propose_mends(alloc: Global, text: &[u8]) -> Result<Vec<Mend>, NoMemory>
+    ensures { IfOk result (λ list. All (λ mend. Mends text.now (edit_of mend)) list.items) }
+{
+    let arena = Bump::new(alloc);
+    match compile(alloc, &arena, text) {
+        Ok(_) => Ok(Vec::new(alloc)),
+        Err(fault) => match text_cause(&fault) {
+            Some(_) => {
+                let candidates = candidates(alloc, text, &fault)?;
+                tried(alloc, text, &fault, candidates)
+            }
+            None => Err(NoMemory),
+        },
+    }
+}

@@ -1,0 +1,54 @@
+//! Edits that mend a text, as actions.
+
+use pb_base::NoMemory;
+use pb_diagnostics::actions;
+use std::alloc::Global;
+
+/// Texts, and the actions that mend them.
+const CASES: [(&str, &str); 9] = [
+    (
+        "process a\nbegin\n  integer x;\n  x := y\nend\n",
+        "[{\"edit\":{\"changes\":{\"file:///a.pb\":[{\"newText\":\", y\",\"range\":{\"end\":{\"character\":11,\"line\":2},\"start\":{\"character\":11,\"line\":2}}}]}},\"kind\":\"quickfix\",\"title\":\"declare integer y\"}]",
+    ),
+    (
+        "process a begin x := 1 end\n",
+        "[{\"edit\":{\"changes\":{\"file:///a.pb\":[{\"newText\":\" integer x;\",\"range\":{\"end\":{\"character\":15,\"line\":0},\"start\":{\"character\":15,\"line\":0}}}]}},\"kind\":\"quickfix\",\"title\":\"declare integer x\"}]",
+    ),
+    (
+        "process a begin print 1 print 2 end\n",
+        "[{\"edit\":{\"changes\":{\"file:///a.pb\":[{\"newText\":\";\",\"range\":{\"end\":{\"character\":23,\"line\":0},\"start\":{\"character\":23,\"line\":0}}}]}},\"kind\":\"quickfix\",\"title\":\"insert `;`\"}]",
+    ),
+    (
+        "process a begin end\n",
+        "[{\"edit\":{\"changes\":{\"file:///a.pb\":[{\"newText\":\" skip\",\"range\":{\"end\":{\"character\":15,\"line\":0},\"start\":{\"character\":15,\"line\":0}}}]}},\"kind\":\"quickfix\",\"title\":\"insert `skip`\"}]",
+    ),
+    (
+        "process a begin while 1 print 1 od end\n",
+        "[{\"edit\":{\"changes\":{\"file:///a.pb\":[{\"newText\":\" do\",\"range\":{\"end\":{\"character\":23,\"line\":0},\"start\":{\"character\":23,\"line\":0}}}]}},\"kind\":\"quickfix\",\"title\":\"insert `do`\"}]",
+    ),
+    (
+        "process a begin print 1\n",
+        "[{\"edit\":{\"changes\":{\"file:///a.pb\":[{\"newText\":\" end\",\"range\":{\"end\":{\"character\":23,\"line\":0},\"start\":{\"character\":23,\"line\":0}}}]}},\"kind\":\"quickfix\",\"title\":\"insert `end`\"}]",
+    ),
+    (
+        "resource tape = 1;\nprocess p\nbegin\n  hold 1 of tape do\n    hold 1 of tape do skip od\n  od\nend\n",
+        "[{\"edit\":{\"changes\":{\"file:///a.pb\":[{\"newText\":\"2\",\"range\":{\"end\":{\"character\":17,\"line\":0},\"start\":{\"character\":16,\"line\":0}}}]}},\"kind\":\"quickfix\",\"title\":\"make the capital of tape 2\"}]",
+    ),
+    (
+        "process a begin skip end\n",
+        "[]",
+    ),
+    (
+        "process a ? begin skip end\n",
+        "[]",
+    ),
+];
+
+#[test]
+fn texts_are_mended(rt: HostRuntime) -> Result<(), NoMemory> {
+    for (text, wanted) in CASES {
+        let answer = actions(rt.alloc(), "file:///a.pb", text.as_bytes())?;
+        assert!(rt; answer.to_vec(rt.alloc())?.as_slice() == wanted.as_bytes());
+    }
+    Ok(())
+}
