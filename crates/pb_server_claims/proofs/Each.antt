@@ -9,8 +9,3 @@ pub each_next : {X : Type 0} (f : ℕ → List X) (n : ℕ) (old so_far new made
 each_next {X} f n old so_far new made before now is =
     rw add-one (now ∙ ap (λ (t : List X). t ++ made) before ∙ append_assoc old (each_below f n) made
     ∙ ap (λ (t : List X). old ++ (each_below f n ++ t)) is)
-
--- that of all numbers
-pub each_last : {X : Type 0} (f : ℕ → List X) (n m : ℕ) (old new : List X) → n ≡ m → new ≡ old ++ each_below f n
-    → new ≡ old ++ each_below f m
-each_last {X} f n m old new same is = is ∙ ap (λ (k : ℕ). old ++ each_below f k) same

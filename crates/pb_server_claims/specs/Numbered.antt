@@ -2,12 +2,10 @@
 use Rattle.std.specs.Prelude.{ℕ, List, [], Option, MatchOption, length, map, slice_index, slice_index_or}
 use Rattle.pb_base.specs.Banker.{cell}
 use Rattle.pb_base.specs.Steppers.{Table}
-use Rattle.pb_names.specs.Faults.{IsFault}
 use Rattle.pb_names.specs.Meaning.{AreClaims}
 use Rattle.pb_names.specs.Program.{Block, Name, Program, Skip, capital_of}
 use Rattle.pb_names.specs.Resolves.{Resolves, process_names, resource_names}
 use Rattle.pb_names.specs.View.{resolved_view}
-use Rattle.pb_names.specs.declared.fault.NameFault.{NameFault}
 use Rattle.pb_plan.specs.Parts.{parts}
 use Rattle.pb_plan.specs.declared.part.Part.{Part}
 use Rattle.pb_server_claims.specs.declared.numbered.Numbered.{Numbered as Given}
@@ -27,9 +25,9 @@ pub record IsOf (tree : ProgramSyntax) (n : Numbered) : Type 0 where
   pub numbers : Resolves tree n.program
   pub claimed : AreClaims n.program n.claims
 
--- the program of the tree is there; or its names have a fault, and there is none
+-- the program of the tree is there; or there is none, since its names have a fault
 abbrev pub IsFound : ProgramSyntax → Option Numbered → Type 0
-IsFound tree found = MatchOption found ((fault : NameFault) × IsFault tree fault) (IsOf tree)
+IsFound tree found = MatchOption found ((program : Program) → ¬ Resolves tree program) (IsOf tree)
 
 -- the name of process p, of resource r, and how much there is of it; nothing, and 0, of a number that is not there
 abbrev pub process_name : Numbered → ℕ → Name

@@ -48,8 +48,10 @@ pub(crate) fn number_tree(
             let claims = claims_of(alloc, &program)?;
             Ok(Some(Numbered { program, claims }))
         }
-        Err(NameFault::NoMemory) => Err(NoMemory),
-        Err(_) => Ok(None),
+        Err(fault) => match fault {
+            NameFault::NoMemory => Err(NoMemory),
+            _ => Ok(None),
+        },
     }
 }
 
