@@ -228,7 +228,7 @@ const LARGE: &[u8] = b"process p begin while 1 do print 1 od end\n%%\np.0 200000
 fn is_too_large(alloc: Global) -> Option<bool> {
     let mut output = MemoryOutput::new(alloc, 64).ok()?;
     let status = draw_engine(alloc, BY_BANKER, &mut MemoryInput::new(LARGE), &mut output);
-    Some(status == Status::Limit && output.as_slice() == b"limit 8388608\n")
+    Some(status == Status::Limit && output.as_slice() == b"limit 8388608\n".as_slice())
 }
 
 #[test]
