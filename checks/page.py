@@ -288,6 +288,8 @@ def look_at_dead_run(tally: Tally, it: Any, folder: Path) -> None:
     tally.expect(it.js("$('ending').textContent") == "", path.name, "a deadlock is told before it is there")
     said = set(it.js("document.querySelector('#map svg').getAttribute('aria-label')").split("; "))
     tally.expect(said == {"a holds 1 tape", "a.0 asks for 1 disk", "b.0 asks for 1 disk"}, path.name, f"before the deadlock is drawn {said}")
+    said = it.js("$('processes').textContent")
+    tally.expect("there is enough" in said and "banker" not in said, path.name, f"by the cash alone is told: {said}")
     it.key("ArrowRight")
     said = it.js("$('ending').textContent")
     tally.expect(said.startswith("Deadlock.") and "b holds 1 disk and asks for 1 tape" in said, path.name, f"the deadlock is not told: {said}")

@@ -27,6 +27,7 @@ def prove(crates: Crates) -> None:
     take_libraries(TOP, [MAIN])
     work = Build(crates)
     say(f"building the program, which proves it first: up to {work.slots} jobs; an interrupt keeps what is built")
+    say("(./parbegin --unproved COMMAND FILE needs no such build: it compiles the sources with no proof, and runs them once)")
     try:
         work.run()
     except Failed as failure:

@@ -60,6 +60,13 @@
   (backward-char 1)
   (let ((found (xref-backend-definitions 'eglot "LSP identifier at point.")))
     (check "where y is declared" (mapcar (lambda (one) (xref-location-line (xref-item-location one))) found) '(4)))
+  (let ((shown (save-excursion
+                 (goto-char (point-min))
+                 (search-forward "process ")
+                 (jsonrpc-request (eglot--current-server-or-lose) :textDocument/hover
+                                  (eglot--TextDocumentPositionParams)))))
+    (check "what process a may hold" (plist-get (plist-get shown :contents) :value)
+           "process a\nmay hold 1 of tape at once (line 4)"))
   (eglot-rename "total")
   (check "y is total now" (line-of 3)
          "begin integer x, total; x := 1; x := total + 1; hold 1 of tape do skip od end"))

@@ -65,6 +65,8 @@ local function ask_names()
   check("where y is declared", (found.range or {}).start, { line = 3, character = 17 })
   local places = ask("textDocument/references", 3, 33, { context = { includeDeclaration = true } }) or {}
   check("where y stands", vim.tbl_map(function(l) return l.range.start.character end, places), { 17, 33 })
+  local shown = ask("textDocument/hover", 2, 8) or {}
+  check("what process a may hold", (shown.contents or {}).value, "process a\nmay hold 1 of tape at once (line 4)")
   check("what is declared", labels(ask("textDocument/documentSymbol", 0, 0)), { "tape", "a", "b" })
   local offered = labels(ask("textDocument/completion", 3, 33))
   check("names that may be written", { offered[1], offered[2], offered[3] }, { "tape", "x", "y" })

@@ -211,7 +211,8 @@ fn draw_picks<'a>(alloc: Global) -> Result<Command<'a>, AllocError>
     ensures { IfOk result (IsCommand draw_command) }
 {
     let about = "Draw the picks that follow a program and a line %% on standard input";
-    let draw = with_lend(alloc, plain(alloc, "draw", about), LEND);
+    let draw = plain(alloc, "draw", about);
+    let draw = with_lend(alloc, draw, LEND);
     let help =
         "Make the picture so many pixels wide, in place of as wide as its picks are: 200 to 20000";
     let draw = with_given_number(alloc, draw, "width", 200, 20_000, help);

@@ -1,6 +1,6 @@
 -- What is said of an input, from the message that was made.
-use Rattle.std.proofs.Common.{◌≡◌, ◌⊎◌, ℕ, List, [], codes, Option, Some, Result, Ok, Err, IfOk}
-use Rattle.std.proofs.Common.{◌+◌, ◌-◌, ◌<◌, Bool, true, false, not, IsTrue, arith, length, drop, refl, subst, sym, inl, inr}
+use Rattle.std.proofs.Common.{◌≡◌, ℕ, List, [], codes, Some, Result, Ok, Err, IfOk}
+use Rattle.std.proofs.Common.{◌+◌, ◌<◌, Bool, true, false, not, IsTrue, arith, length, drop, refl, subst, sym, inl, inr}
 use Rattle.std.proofs.lemmas.List.{length-drop}
 use Rattle.pb_base.specs.declared.lending.Lending.{Lending}
 use Rattle.pb_code.specs.Whole.{Code, ProcessLabels}

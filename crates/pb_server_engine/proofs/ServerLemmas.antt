@@ -1,5 +1,5 @@
 -- From what a conversation says to what is said of an input.
-use Rattle.std.proofs.Common.{◌≡◌, ℕ, List, [], ◌∷◌, ◌++◌, Option, refl, subst, inl}
+use Rattle.std.proofs.Common.{◌≡◌, ℕ, List, Option, refl, subst, inl}
 use Rattle.serde_json.specs.Data.{Data}
 use Rattle.pb_base.specs.Device.{appended}
 use Rattle.pb_command_io.specs.Answers.{Tells}
@@ -14,9 +14,9 @@ use Rattle.pb_server_engine.specs.Servers.{Diagnoses, Finds, SaysOfServer, Write
 -- what is written, if a conversation breaks off
 text_of_stop : (why : Stop) (rest : List ℕ) (messages : List Data) (old new : Option (List ℕ))
     → WritesBefore why rest messages old new → (text : List ℕ) × WritesText why rest messages text × (new ≡ appended old text)
-text_of_stop stop.Broken rest messages old new (why, (of, (is, wrote))) = (_, (why, (of, (is, refl))), wrote)
+text_of_stop stop.Broken rest messages old new (why, of, is, wrote) = (_, (why, of, is, refl), wrote)
 text_of_stop stop.Memory rest messages old new is = (texts messages, refl, is)
-text_of_stop stop.Device rest messages old new (why, (done, (left, (is, wrote)))) = (done, (why, (left, is)), wrote)
+text_of_stop stop.Device rest messages old new (why, (done, left, is, wrote)) = (done, (why, left, is), wrote)
 
 -- all messages are answered
 pub all_served : (s : Serving) (bytes : List ℕ) (old new : Option (List ℕ)) (after : Serving) (given : Status) → s ≡ fresh

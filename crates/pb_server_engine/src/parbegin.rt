@@ -10,7 +10,9 @@ use pb_base::NoMemory;
 use pb_diagnostics::{actions, diagnostics};
 use pb_server::{Found, Language, Query};
 use pb_server_claims::{answer_hints, answer_hover};
-use pb_server_texts::{answer_completion, answer_definition, answer_references, answer_rename, answer_symbols};
+use pb_server_texts::{
+    answer_completion, answer_definition, answer_references, answer_rename, answer_symbols,
+};
 use serde_json::{Value, json};
 use std::alloc::{AllocError, Global};
 

@@ -34,14 +34,8 @@ const CASES: [(&str, &str); 9] = [
         "resource tape = 1;\nprocess p\nbegin\n  hold 1 of tape do\n    hold 1 of tape do skip od\n  od\nend\n",
         "[{\"edit\":{\"changes\":{\"file:///a.pb\":[{\"newText\":\"2\",\"range\":{\"end\":{\"character\":17,\"line\":0},\"start\":{\"character\":16,\"line\":0}}}]}},\"kind\":\"quickfix\",\"title\":\"make the capital of tape 2\"}]",
     ),
-    (
-        "process a begin skip end\n",
-        "[]",
-    ),
-    (
-        "process a ? begin skip end\n",
-        "[]",
-    ),
+    ("process a begin skip end\n", "[]"),
+    ("process a ? begin skip end\n", "[]"),
 ];
 
 #[test]

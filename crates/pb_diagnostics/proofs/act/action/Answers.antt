@@ -16,7 +16,7 @@ returns-clause-action c =
       of = c.in_ok-range.ensures.range;
       title = c.deref-2.result.now;
       is = is ∙ ap (action_data c.deref-2.result.now)
-        (c.in_ok-edit-2.ensures ∙ ap (workspace_edit c.args.uri.now)
-        (c.in_ok-edit.ensures ∙ ap (text_edit (view c.in_ok-range.range)) c.deref.ensures));
+          (c.in_ok-edit-2.ensures ∙ ap (workspace_edit c.args.uri.now)
+          (c.in_ok-edit.ensures ∙ ap (text_edit (view c.in_ok-range.range)) c.deref.ensures));
     })
     c.titled.ensures

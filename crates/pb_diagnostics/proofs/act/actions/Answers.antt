@@ -13,8 +13,9 @@ loop-mend-preserved c =
     let text = c.args.text.now in
     let before = c.loop-mend.list.items in
     let one = c.in_ok-action.field-0 in
-    let more = sym c.in_ok-push.ensures.items in
-    (subst (λ (vs : List Value). All (IsAction uri text) (map view vs)) more
-    (one_more_action uri text before one c.loop-mend.invariant.0 c.in_ok-action.ensures.action),
-    subst (λ (vs : List Value). items_have_float (items_view vs) ≡ false) more
-    (one_more_free before one c.loop-mend.invariant.1 c.in_ok-action.ensures.float_free))
+    let more = sym c.in_ok-push.ensures.items in (
+      subst (λ (vs : List Value). All (IsAction uri text) (map view vs)) more
+          (one_more_action uri text before one c.loop-mend.invariant.0 c.in_ok-action.ensures.action),
+      subst (λ (vs : List Value). items_have_float (items_view vs) ≡ false) more
+          (one_more_free before one c.loop-mend.invariant.1 c.in_ok-action.ensures.float_free),
+    )

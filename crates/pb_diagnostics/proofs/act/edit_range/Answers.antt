@@ -8,7 +8,12 @@ use Rattle.pb_diagnostics.proofs.act.edit_range.Goals as goal
 pub returns-clause-range : goal.returns-clause-range
 returns-clause-range c =
     IfOk-weaker c.between.result _ _
-    (λ v is. (c.place_of.result, c.place_of-2.result, c.place_of.ensures, c.place_of-2.ensures,
-    is ∙ (ap (λ (d : Data). range_with d (view c.in_ok-end.end)) c.in_ok-start.ensures
-    ∙ ap (range_with (position_data c.place_of.result)) c.in_ok-end.ensures)))
+    (λ v is. (
+      c.place_of.result,
+      c.place_of-2.result,
+      c.place_of.ensures,
+      c.place_of-2.ensures,
+      is ∙ (ap (λ (d : Data). range_with d (view c.in_ok-end.end)) c.in_ok-start.ensures
+          ∙ ap (range_with (position_data c.place_of.result)) c.in_ok-end.ensures),
+    ))
     c.between.ensures

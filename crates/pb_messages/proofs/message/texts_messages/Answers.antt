@@ -1,4 +1,4 @@
-use Rattle.std.proofs.Common.{◌≡◌, ◌+◌, ◌≤◌, length, List, ℕ, arith, subst, sym}
+use Rattle.std.proofs.Common.{◌≡◌, ◌+◌, List, ℕ, arith, subst, sym}
 use Rattle.pb_messages.proofs.SaidLemmas.{cut_shorter, none_told, said_all, some_told}
 use Rattle.pb_messages.specs.Said.{AreSaid, IsLastLabel, SaysMore, first, more, none, text_label}
 use Rattle.pb_messages.proofs.message.texts_messages.Goals as goal

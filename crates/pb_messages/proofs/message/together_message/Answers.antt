@@ -1,4 +1,4 @@
-use Rattle.std.proofs.Common.{List, ℕ, map, sym, ap, subst}
+use Rattle.std.proofs.Common.{List, ℕ, map, sym, subst}
 use Rattle.std.specs.Borrow.{Bor}
 use Rattle.pb_command_io.specs.Parts.{AreParts}
 use Rattle.pb_messages.proofs.SaidLemmas.{fault_together, texts_together}

@@ -1,13 +1,16 @@
+use Rattle.std.proofs.Common.{ap, ◌∙◌}
 use Rattle.std.proofs.lemmas.Option.{IfSome_then}
+use Rattle.pb_server_engine.specs.Servers.{end_status}
 use Rattle.pb_server_engine.proofs.ServerLemmas.{all_served, some_served}
 use Rattle.pb_server_engine.proofs.server.server_engine.Goals as goal
 
 pub returns-in-Ok-clause-text : goal.returns-in-Ok-clause-text
 returns-in-Ok-clause-text g c =
     IfSome_then (g.I.Input.rest c.args.input.now) c.in-Ok.ensures.all
-    (λ bytes. all_served c.new-session.result bytes _ _ c.converse.new.session c.status_at.result c.new-session.ensures _)
+    (λ bytes. all_served c.new-session.result bytes _ _ c.converse.new.session c.status_at.result c.new-session.ensures
+    (c.status_at.ensures ∙ ap end_status c.phase.ensures))
 
-pub returns-in-Err-clause-text : goal.returns-in-Err-clause-text
-returns-in-Err-clause-text g c =
+pub returns-clause-text : goal.returns-clause-text
+returns-clause-text g c =
     IfSome_then (g.I.Input.rest c.args.input.now) c.in-Err.ensures.some
     (λ bytes. some_served c.new-session.result bytes _ _ c.in-Err.stop c.status_of.result c.new-session.ensures c.status_of.ensures)
