@@ -222,7 +222,7 @@ fn a_wide_picture_has_names_again(rt: HostRuntime) {
 }
 
 /// A run whose picture would have more than 8 MB.
-const LARGE: &[u8] = b"process p begin while 1 do print 1 od end\n%%\np.0 200000\n";
+const LARGE: &[u8] = b"process p begin while 1 do print 1 od end\n%%\np.0 250000\n";
 
 /// Returns whether it is told that a picture is too large, and nothing else.
 fn is_too_large(alloc: Global) -> Option<bool> {
