@@ -133,6 +133,8 @@ def inputs():
         yield f"draw --lend cash {name}", ["draw", "--lend", "cash"], recorded(text)
         yield f"states {name}", ["states"], recorded(text)
         yield f"states --lend cash {name}", ["states", "--lend", "cash"], recorded(text)
+        picks = recorded(text).rpartition(b"\n%%\n")[2]
+        yield f"states of an object {name}", ["states"], object_of(text) + b"%%\n" + picks
         yield f"debug {name}", ["debug"], debugged(text)
         yield f"debug --live {name}", ["debug", "--live"], debugged(text)
         yield f"debug --lend cash {name}", ["debug", "--lend", "cash"], debugged(text)

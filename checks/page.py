@@ -26,7 +26,7 @@ from typing import Any
 from browser import Browser
 from calls import TOP, Tally, call, program
 from firefox import Firefox
-from page_asks import ALL_DRAWN, CONTRAST, DRAWN, ENDS, LATER, SAYS, STOPS
+from page_asks import ALL_DRAWN, CONTRAST, DRAWN, ENDS, LATER, SAYS, STOPS, UNLIKE
 
 sys.path.insert(0, str(TOP / "extras/page"))
 import make_page  # noqa: E402
@@ -80,6 +80,8 @@ def look_at_positions(tally: Tally, it: Any, path: Path, text: str) -> None:
     for at in sorted({*range(0, rows, max(1, rows // 24)), rows}):
         same = it.js(f"({SAYS})({at})") == debugger_says(text, picks, at, names, lend)
         tally.expect(same, path.name, f"position {at} is not what `debug` says")
+        unlike = it.js(f"(view.go({at}), {UNLIKE})")
+        tally.expect(unlike == [], path.name, f"position {at} says two things of {unlike}")
     tally.expect(it.faults() == [], path.name, f"{it.faults()}")
 
 

@@ -25,6 +25,16 @@ SAYS = """(at) => {
   return out;
 }"""
 
+# The arms of the position that is shown of which the page says two things: one that cannot go on has a mark, and the
+# drawing has one that asks for something, and no other.
+UNLIKE = """(() => {
+  const arms = [...document.querySelectorAll("#processes .arm")], map = document.querySelector("#map svg");
+  const has = (it, kinds) => it.querySelector(kinds) !== null;
+  const said = map && new Set([...map.getAttribute("aria-label").matchAll(/(\\S+) asks for/g)].map((it) => it[1]));
+  return arms.filter((it) => has(it, ".chip.waits") !== has(it, ".why.no, .why.idle") ||
+    (said && said.has(it.querySelector(".chip").textContent) !== has(it, ".why.yes, .why.no, .why.risk"))).map((it) => it.textContent);
+})()"""
+
 # The outcomes and the deadlocks of the graph that is shown, in the form of the lines of `outcomes`.
 ENDS = """(() => {
   const out = {outcome: [], deadlock: []}, {program, graph} = view;

@@ -26,6 +26,7 @@ fn a_name_that_is_not_declared(rt: HostRuntime) {
         Reading::FirstFormat,
         Reading::Texts,
         Reading::Replayed(Lending::ByBanker),
+        Reading::Shown(Lending::ByBanker),
         Reading::Debugged(Lending::ByBanker),
     ] {
         assert!(rt; says(rt.alloc(), reading, text, said) == Some(true));
@@ -41,6 +42,7 @@ fn nothing_of_what_is_accepted(rt: HostRuntime) {
         Reading::FirstFormat,
         Reading::Texts,
         Reading::Replayed(Lending::ByBanker),
+        Reading::Shown(Lending::ByBanker),
         Reading::Debugged(Lending::ByBanker),
     ] {
         assert!(rt; says(rt.alloc(), reading, text, b"") == Some(true));
@@ -120,6 +122,14 @@ fn an_object(rt: HostRuntime) {
   = hint: emit writes objects; docs/FORMATS.md, \"Object text\", lists their lines
 ";
     assert!(rt; says(rt.alloc(), Reading::Object, b"PBO 3\n", said) == Some(true));
+    assert!(rt;
+        says(
+            rt.alloc(),
+            Reading::Shown(Lending::ByBanker),
+            b"PBO 3\n",
+            said
+        ) == Some(true)
+    );
     assert!(rt;
         says(
             rt.alloc(),
