@@ -126,7 +126,7 @@ const CASES: [Case; 4] = [
             "{\"jsonrpc\":\"2.0\",\"method\":\"textDocument/publishDiagnostics\",\"params\":{\"diagnostics\":[{\"code\":\"N3\",\"message\":\"integer y is not declared in process a\\nhint: add it to the integers that the process declares\",\"range\":{\"end\":{\"character\":8,\"line\":3},\"start\":{\"character\":7,\"line\":3}},\"relatedInformation\":[],\"severity\":1,\"source\":\"parbegin\"}],\"uri\":\"file:///a.pb\",\"version\":1}}",
             "{\"jsonrpc\":\"2.0\",\"method\":\"textDocument/publishDiagnostics\",\"params\":{\"diagnostics\":[],\"uri\":\"file:///b.pb\",\"version\":1}}",
             "{\"jsonrpc\":\"2.0\",\"method\":\"textDocument/publishDiagnostics\",\"params\":{\"diagnostics\":[],\"uri\":\"file:///a.pb\"}}",
-            "{\"jsonrpc\":\"2.0\",\"method\":\"textDocument/publishDiagnostics\",\"params\":{\"diagnostics\":[{\"code\":\"P1\",\"message\":\"the text ends before a program begins\",\"range\":{\"end\":{\"character\":0,\"line\":0},\"start\":{\"character\":0,\"line\":0}},\"relatedInformation\":[],\"severity\":1,\"source\":\"parbegin\"}],\"uri\":\"file:///b.pb\",\"version\":2}}",
+            "{\"jsonrpc\":\"2.0\",\"method\":\"textDocument/publishDiagnostics\",\"params\":{\"diagnostics\":[{\"code\":\"P1\",\"message\":\"the text has no process\\nhint: a program has at least one: process p begin print 1 end\",\"range\":{\"end\":{\"character\":0,\"line\":0},\"start\":{\"character\":0,\"line\":0}},\"relatedInformation\":[],\"severity\":1,\"source\":\"parbegin\"}],\"uri\":\"file:///b.pb\",\"version\":2}}",
         ],
         status: Status::Refused,
     },
