@@ -1,2 +1,3 @@
 pub mod Offsets
 pub mod Walks
+pub mod Declarings

@@ -7,6 +7,7 @@ mod lookups;
 mod outline;
 mod place;
 mod position;
+mod reading;
 mod rename;
 mod scopes;
 mod walk;

@@ -2,11 +2,15 @@
 
 ghost use Rattle.std.specs.Prelude.{◌≡◌, IfOk, map};
 ghost use Rattle.pb_tree.specs.View.{program_view};
+ghost use Rattle.pb_lexer.specs.Tokens.{tokens as tokens_view};
+ghost use Rattle.pb_outline.specs.Declares.{declared_by as declared_by_tokens};
 ghost use Rattle.pb_outline.specs.Places as spec;
 
 use crate::place::Place;
+use crate::reading::declared_by;
 use crate::walk::{add_processes, add_resources};
 use pb_base::NoMemory;
+use pb_lexer::Token;
 use pb_tree::Program;
 use std::alloc::{Allocator, Global};
 
@@ -24,6 +28,15 @@ impl<'t> Outline<'t> {
         let mut places = Vec::new(alloc);
         add_resources(&mut places, &program.resources)?;
         add_processes(&mut places, &program.processes)?;
+        Ok(Outline { places })
+    }
+
+    /// Returns the names that the tokens of a text declare, whether or not they are a program. The error comes only if
+    /// `alloc` is out of memory.
+    pub fn of_tokens(alloc: Global, tokens: &[Token<'t>]) -> Result<Outline<'t>, NoMemory>
+        ensures { IfOk result (λ outline. spec.places outline ≡ declared_by_tokens (tokens_view tokens.now)) }
+    {
+        let places = declared_by(alloc, tokens)?;
         Ok(Outline { places })
     }
 
