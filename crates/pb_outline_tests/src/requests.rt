@@ -162,3 +162,15 @@ fn texts_that_are_not_read_have_no_names(rt: HostRuntime) -> Result<(), NoMemory
     }
     Ok(())
 }
+
+#[test]
+fn names_are_completed_in_an_unfinished_text(rt: HostRuntime) -> Result<(), NoMemory> {
+    let asked = params(rt, "{\"position\":{\"line\":1,\"character\":36}}");
+    let text =
+        "resource r = 2;\nprocess a begin integer x, y; x := y\nprocess b begin integer z; z := ";
+    let items = answer_completion(rt.alloc(), text, Some(&asked))?;
+    let wanted =
+        "[{\"kind\":21,\"label\":\"r\"},{\"kind\":6,\"label\":\"x\"},{\"kind\":6,\"label\":\"y\"},{\"kind\":14,\"label\":\"and\"},{\"kind\":14,\"label\":\"begin\"},{\"kind\":14,\"label\":\"div\"},{\"kind\":14,\"label\":\"do\"},{\"kind\":14,\"label\":\"else\"},{\"kind\":14,\"label\":\"end\"},{\"kind\":14,\"label\":\"fi\"},{\"kind\":14,\"label\":\"hold\"},{\"kind\":14,\"label\":\"if\"},{\"kind\":14,\"label\":\"integer\"},{\"kind\":14,\"label\":\"mod\"},{\"kind\":14,\"label\":\"not\"},{\"kind\":14,\"label\":\"od\"},{\"kind\":14,\"label\":\"of\"},{\"kind\":14,\"label\":\"or\"},{\"kind\":14,\"label\":\"parbegin\"},{\"kind\":14,\"label\":\"parend\"},{\"kind\":14,\"label\":\"print\"},{\"kind\":14,\"label\":\"process\"},{\"kind\":14,\"label\":\"resource\"},{\"kind\":14,\"label\":\"skip\"},{\"kind\":14,\"label\":\"then\"},{\"kind\":14,\"label\":\"while\"}]";
+    assert!(rt; reads(rt, &items, wanted));
+    Ok(())
+}

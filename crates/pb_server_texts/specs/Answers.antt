@@ -1,8 +1,10 @@
 -- What is answered to a request over the text of a document.
 use Rattle.std.specs.Prelude.{◌≡◌, ℕ, [], List, Option, Some, None}
 use Rattle.serde_json.specs.Data.{Data, null}
+use Rattle.pb_lexer.specs.Cutting.{AreTokensOf}
 use Rattle.pb_lexer.specs.Tokens.{Token}
 use Rattle.pb_tree.specs.Syntax.{ProgramSyntax}
+use Rattle.pb_outline.specs.Declares.{declared_by}
 use Rattle.pb_outline.specs.Places.{Place, program_places}
 use Rattle.pb_server_names.specs.Answers.{definition_data, references_data, rename_data}
 use Rattle.pb_server_names.specs.Asked.{asked_name, asked_offset, asked_place, asks_declaration}
@@ -41,10 +43,16 @@ AnswersRename uri text params d = RenamesTo uri text params (asked_name params) 
 abbrev pub AnswersSymbols : (text : List ℕ) → Data → Type 0
 AnswersSymbols text = Answers (λ tokens places. symbols_data text tokens places) null text
 
--- what may be written at a position; only the reserved words if no offset has it, or if the text is not read
+-- what may be written at an offset: names that the tokens of the text declare, whether or not they are a program, and the
+-- reserved words; these alone if the text has no tokens
+pub data CompletesIn (text : List ℕ) (at : ℕ) : Data → Type 0 where
+  by_tokens : (tokens : List Token) → AreTokensOf text tokens → CompletesIn text at (completions_data (declared_by tokens) at)
+  by_words : ((tokens : List Token) → AreTokensOf text tokens → ⊥) → CompletesIn text at (items_data [])
+
+-- what may be written at a position; only the reserved words if no offset has it
 abbrev pub CompletesAt : (text : List ℕ) → Option ℕ → Data → Type 0
 CompletesAt text None d = d ≡ items_data []
-CompletesAt text (Some at) d = Answers (λ tokens places. completions_data places at) (items_data []) text d
+CompletesAt text (Some at) d = CompletesIn text at d
 
 abbrev pub AnswersCompletion : (text : List ℕ) → Option Data → Data → Type 0
 AnswersCompletion text params d = CompletesAt text (asked_offset text params) d

@@ -5,7 +5,7 @@ ghost use Rattle.serde_json.specs.View.{view};
 ghost use Rattle.serde_json.specs.Written.{has_float};
 ghost use Rattle.pb_server_texts.specs.Answers as spec;
 
-use crate::reading::read_text;
+use crate::reading::{read_text, tokens_of};
 use pb_base::NoMemory;
 use pb_outline::Outline;
 use pb_server_names::{
@@ -110,21 +110,21 @@ pub fn answer_symbols(alloc: Global, text: &str) -> Result<Value, NoMemory>
 }
 
 /// Returns what may be written at an offset: a list of names and of reserved words; of reserved words alone if the text
-/// is not read.
-#[tactic(auto, using(crate::proofs::ReadTexts::answers, pb_server_names::proofs::FloatFree::completions_free, pb_server_names::proofs::FloatFree::items_free))]
+/// has no tokens.
+#[tactic(auto, using(pb_server_names::proofs::FloatFree::completions_free, pb_server_names::proofs::FloatFree::items_free))]
 fn complete_at(alloc: Global, text: &[u8], at: usize) -> Result<Value, NoMemory>
     ensures answers { IfOk result (λ v. spec.CompletesAt text.now (Some at) (view v)) }
     ensures float_free { IfOk result (λ v. has_float (view v) ≡ false) }
 {
-    let Some(read) = read_text(alloc, text)? else {
+    let Some(tokens) = tokens_of(alloc, text)? else {
         return items_value(alloc, &[]);
     };
-    let outline = Outline::of(alloc, &read.tree)?;
+    let outline = Outline::of_tokens(alloc, &tokens)?;
     completions_value(alloc, &outline, at)
 }
 
-/// Returns what may be written at a position: a list of names and of reserved words; of reserved words alone if no offset
-/// has the position, or if the text is not read.
+/// Returns what may be written at a position: a list of names, whether or not the text is a program, and of reserved words;
+/// of reserved words alone if no offset has the position, or if the text has no tokens.
 #[tactic(auto, using(pb_server_names::proofs::FloatFree::items_free))]
 pub fn answer_completion(
     alloc: Global,
