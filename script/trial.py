@@ -14,7 +14,7 @@ from script.places import MAIN, TOP, is_installed, say, stop
 # How the lines begin that a trial run writes to standard error behind those of the program, before its last one.
 LINES_OF_A_TRIAL = ("checked: ", "races: ")
 UNPROVED = (
-    "this is not the proved program: its sources are compiled with no proof, which takes a minute or two, and run once"
+    "this is not the proved program: its sources are compiled with no proof, which takes some three minutes, and run once"
 )
 
 
