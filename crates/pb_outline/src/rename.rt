@@ -15,7 +15,7 @@ use std::alloc::Global;
 /// Why a name cannot get a new one.
 #[derive(Clone, Copy, Debug, PartialEq, Eq, thiserror::Error)]
 pub enum RenameFault {
-    /// The new name is none of the language, or a reserved word.
+    /// The new name is not a name of the language, or it is a reserved word.
     #[error("not a name: a letter, then letters, digits or _, at most 32, and no reserved word")]
     NotAName,
     /// Something else of the same kind has the new name.
@@ -55,7 +55,7 @@ impl<'t> Outline<'t> {
     }
 
     /// Returns the places at which to write another name, so that the name of this place becomes that one: all places
-    /// of the name. It is refused if the other name is no name of the language, or if something else of the same kind
+    /// of the name. It is refused if the other name is not a name of the language, or if something else of the same kind
     /// has it, of the same process for an integer. `NoMemory` comes only if `alloc` is out of memory.
     pub fn rename(
         &self,

@@ -42,7 +42,7 @@ prefix_behind old mid new one more first (done, left, is, wrote) = (
 )
 
 module _ (Diagnoses : Diagnosing) (Finds : Finding) (s : Serving) where
-  -- the first messages are answered, and so many were heard
+  -- the first messages are answered, and `heard` is how many they are
   pub record SaysSoFar (bytes : List ℕ) (heard : ℕ) (left old new : Option (List ℕ)) (here : Serving) : Type 0 where
     pub rest : List ℕ
     pub messages : List Data

@@ -57,8 +57,8 @@ publishing_with params = object (member (codes "jsonrpc") (string (codes "2.0"))
 abbrev pub publishing_data : (uri : List ℕ) → (version : Option ℕ) → (items : Data) → Data
 publishing_data uri version items = publishing_with (published_data uri version items)
 
--- what the server can do: it hears of documents that are opened and closed, of each change the whole text, and answers
--- what is asked of a text
+-- what the server can do: it is told of documents that are opened and closed, and of each change by the whole text, and
+-- it answers requests about a text
 abbrev pub able_data : Data
 able_data = object (member (codes "codeActionProvider") (boolean true)
     (member (codes "completionProvider") (object no_members)

@@ -70,7 +70,7 @@ fn find_in<L: Language>(
     }
 }
 
-/// Answers a request, once the server is initialized.
+/// Answers a request to a server that is initialized and not shut down.
 fn answer_open<L: Language>(
     alloc: Global,
     language: &L,
@@ -101,7 +101,7 @@ fn answer_open<L: Language>(
     }
 }
 
-/// Answers a request before that.
+/// Answers a request to a server that is not initialized yet.
 fn answer_new(
     alloc: Global,
     session: &mut Session,
