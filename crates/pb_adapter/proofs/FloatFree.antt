@@ -1,15 +1,15 @@
 -- No message has a number that is no integer.
-use Rattle.std.proofs.Common.{◌≡◌, ℕ, ℤ, inl, inr, zero, suc, ◌+◌, ◌-◌, List, [], ◌∷◌, ◌++◌, length, Bool, true, false, ◌||◌, cond, Option, Some, None, codes, refl, sym, subst}
+use Rattle.std.proofs.Common.{◌≡◌, ℕ, ℤ, inl, inr, zero, suc, ◌+◌, ◌-◌, List, [], ◌∷◌, length, Bool, true, false, ◌||◌, cond, Option, Some, None, codes, refl, sym, subst}
 use Rattle.std.specs.Prelude.{nat_eq, nat_lt, slice_get}
-use Rattle.std.proofs.lemmas.Bool.{or_from, or_parts}
+use Rattle.std.proofs.lemmas.Bool.{or_from}
 use Rattle.serde_json.specs.Data.{Data, null}
-use Rattle.serde_json.specs.View.{items_of}
-use Rattle.serde_json.specs.Written.{has_float, items_have_float}
+use Rattle.serde_json.specs.Written.{has_float}
 use Rattle.pb_base.specs.Banker.{processes, resources}
 use Rattle.pb_base.specs.Lines.{name_of}
 use Rattle.pb_code.specs.Code.{CodeProcess, Thread, thread}
 use Rattle.pb_conversations.specs.Conversations.{AreFloatFree}
 use Rattle.pb_debug.specs.Value.{Debugging, bank_state, state_of}
+use Rattle.pb_adapter_requests.proofs.FreeItems.{AreFree, append_free, cond_free, one_free}
 use Rattle.pb_adapter_requests.specs.Breakpoints.{asked_lines}
 use Rattle.pb_adapter_requests.specs.Requests.{Asked, Place, number_of, place_of, text_of}
 use Rattle.pb_adapter_requests.specs.Responses.{done_data, list_below, refused_data}
@@ -21,24 +21,7 @@ use Rattle.pb_adapter.specs.Moves.{end_data, is_event_first, saying_data, stoppe
 use Rattle.pb_adapter.specs.Values.{frames_if, integers_at, stack_data, threads_below, threads_data, variables_data, variables_list, vars_of}
 use Rattle.pb_adapter.specs.Values.{has_arm, operands_in, reference_or_none, scopes_at}
 
--- no item of a list has one
-abbrev pub AreFree : List Data → Type 0
-AreFree items = items_have_float (items_of items) ≡ false
-
 -- ---- lists
-
-append_free : (first more : List Data) → AreFree first → AreFree more → AreFree (first ++ more)
-append_free [] more one two = two
-append_free (d ∷ first) more one two =
-    let parts = or_parts (has_float d) (items_have_float (items_of first)) one in
-    or_from (has_float d) (items_have_float (items_of (first ++ more))) parts.0 (append_free first more parts.1 two)
-
-one_free : (d : Data) → has_float d ≡ false → AreFree (d ∷ [])
-one_free d free = or_from (has_float d) false free refl
-
-cond_free : (b : Bool) (first other : List Data) → AreFree first → AreFree other → AreFree (cond b first other)
-cond_free true first other one two = one
-cond_free false first other one two = two
 
 below_free : (told : ℕ → Data) → ((i : ℕ) → has_float (told i) ≡ false) → (n : ℕ) → AreFree (list_below told n)
 below_free told each zero = refl

@@ -1,1 +1,2 @@
 pub mod BreakpointLemmas
+pub mod FreeItems

@@ -122,8 +122,8 @@ TellsBankFaults rest left old new status =
     bank.TellsAnyFault old new status
     × (new.reads ≢ old.reads → IfSome rest (λ bytes. bank.SaysBefore bank.AnswersLines bytes left old.written new.written))
 
--- a device that fails is reported, and nothing is written if a read fails; `debug --live`, `bank`, `dap` and `lsp`
--- alone have carried out the commands before that read then, and written their answers
+-- a device that fails is reported, and nothing is written if a read fails, but by `debug --live`, `bank`, `dap` and
+-- `lsp`: these have carried out the commands before the read that failed, and written their answers
 abbrev pub CallTellsFaults : List (Bor Text) → (rest left : Option (List ℕ)) → Devices → Devices → Status → Type 0
 CallTellsFaults words rest left old new status =
     TellsFaults old new status

@@ -1,2 +1,3 @@
 pub mod ConversationLemmas
 pub mod Replies
+pub mod WrittenTexts

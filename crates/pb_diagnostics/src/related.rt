@@ -26,11 +26,11 @@ fn labelled(alloc: Global, location: Value, label: &str) -> Result<Value, AllocE
     json!(in alloc; {"location": location, "message": label})
 }
 
-/// Returns what a label says, without what parts it from the number of a line.
+/// Returns what a label says, without what stands between it and the number of a line.
 fn label_of(label: &str) -> &str {
     match label.strip_suffix(": ") {
         Some(words) => words,
-        None => label,
+        None => label.strip_suffix(" at ").unwrap_or(label),
     }
 }
 

@@ -1,10 +1,11 @@
 -- A conversation, message by message.
 use Rattle.std.proofs.Common.{◌≡◌, ◌⊎◌, ◌<◌, ℕ, ◌+◌, List, [], ◌∷◌, ◌++◌, length, true, false, Option, Some, None, IfSome, refl, sym, ap, ◌∙◌}
-use Rattle.std.proofs.Common.{subst, inl, inr, arith, append-nil, append_assoc, length-append}
+use Rattle.std.proofs.Common.{subst, inl, inr, arith, append_assoc, length-append}
 use Rattle.std.proofs.lemmas.List.Concat.{flat_map-append}
 use Rattle.serde_json.specs.Data.{Data}
 use Rattle.pb_base.specs.Device.{appended, AddsPrefix}
 use Rattle.pb_base.proofs.DeviceLemmas.{appended-appended}
+use Rattle.pb_conversations.proofs.WrittenTexts.{known, none_appended, prefix_behind, texts_more}
 use Rattle.pb_conversations.specs.Conversations.{WritesReply, message_text, none_read, one_read, texts}
 use Rattle.pb_conversations.specs.declared.conversation.Stop.{Stop}
 use Rattle.pb_conversations.specs.declared.conversation.Stop.TheVariants as stop
@@ -13,33 +14,6 @@ use Rattle.pb_frames.specs.declared.fault.FrameFault.{FrameFault}
 use Rattle.pb_frames.specs.declared.fault.FrameFault.TheVariants as frame
 use Rattle.pb_server.specs.Answers.{AnswersContent, Diagnosing, Finding, Serving}
 use Rattle.pb_server.specs.Conversations.{Talks, TalksOut, TalksSome, WritesBroken, broken_data, none_heard, one_heard}
-
-none_appended : (old : Option (List ℕ)) → old ≡ appended old []
-none_appended None = refl
-none_appended (Some held) = ap Some (sym (append-nil held))
-
--- what is said of an input that is known
-known : (o : Option (List ℕ)) (bytes : List ℕ) (P : List ℕ → Type 0) → o ≡ Some bytes → IfSome o P → P bytes
-known o bytes P is says = subst (λ (o : Option (List ℕ)). IfSome o P) is says
-
--- texts behind others
-texts_more : (messages told : List Data) (old mid new : Option (List ℕ)) → mid ≡ appended old (texts messages)
-    → new ≡ appended mid (texts told) → new ≡ appended old (texts (messages ++ told))
-texts_more messages told old mid new first wrote =
-    wrote
-    ∙ (ap (λ o. appended o (texts told)) first
-    ∙ (appended-appended old (texts messages) (texts told)
-    ∙ ap (λ (t : List ℕ). appended old t) (sym (flat_map-append message_text messages told))))
-
--- if a text was written whole, and then a prefix of another one, a prefix of both together was written
-prefix_behind : (old mid new : Option (List ℕ)) (one more : List ℕ) → mid ≡ appended old one → AddsPrefix mid new more
-    → AddsPrefix old new (one ++ more)
-prefix_behind old mid new one more first (done, left, is, wrote) = (
-  one ++ done,
-  left,
-  ap (λ (t : List ℕ). one ++ t) is ∙ sym (append_assoc one done left),
-  wrote ∙ (ap (λ o. appended o done) first ∙ appended-appended old one done),
-)
 
 module _ (Diagnoses : Diagnosing) (Finds : Finding) (s : Serving) where
   -- the first messages are answered, and `heard` is how many they are

@@ -33,7 +33,7 @@ fn refuse(alloc: Global, id: &Value, fault: Fault, message: &str) -> Result<Valu
     Ok(failed(alloc, id, fault, message)?)
 }
 
-/// Answers a request about the text of an open document.
+/// Returns the response to a request about the text of an open document.
 fn find_in<L: Language>(
     alloc: Global,
     language: &L,

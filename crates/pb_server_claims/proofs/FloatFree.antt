@@ -1,13 +1,11 @@
 -- No claim that is shown behind a name has a number that is no integer.
-use Rattle.std.proofs.Common.{◌≡◌, ℕ, zero, suc, Bool, true, false, List, [], ◌∷◌, ◌++◌, ◌==◌, Option, Some, None, cond, length, refl}
+use Rattle.std.proofs.Common.{◌≡◌, ℕ, zero, suc, false, List, [], ◌∷◌, ◌==◌, Option, Some, None, cond, length, refl}
 use Rattle.std.specs.Prelude.{slice_index_or}
-use Rattle.std.proofs.lemmas.Bool.{or_from, or_parts}
-use Rattle.std.specs.List.{flat_map}
 use Rattle.std.specs.Str.{bytes_eq}
 use Rattle.std.specs.Str.Lossy.{utf8_lossy}
 use Rattle.serde_json.specs.Data.{Data}
-use Rattle.serde_json.specs.View.{items_of}
-use Rattle.serde_json.specs.Written.{has_float, items_have_float}
+use Rattle.serde_json.specs.Written.{has_float}
+use Rattle.pb_adapter_requests.proofs.FreeItems.{AreFree, append_free, cond_free, flat_free}
 use Rattle.pb_names.specs.Resolves.{process_names}
 use Rattle.pb_outline.specs.Places.{Place, program_places, same_kind}
 use Rattle.pb_outline.specs.declared.place.Kind.TheVariants.{Process}
@@ -17,36 +15,13 @@ use Rattle.pb_server_claims.specs.Known.{Known}
 use Rattle.pb_server_claims.specs.Numbered.{Numbered, claim, resource_name}
 use Rattle.pb_server_names.specs.Values.{end_of_name}
 
--- no item of a list has one
-abbrev AreFree : List Data → Type 0
-AreFree items = items_have_float (items_of items) ≡ false
-
-append_free : (first more : List Data) → AreFree first → AreFree more → AreFree (first ++ more)
-append_free [] more one two = two
-append_free (d ∷ first) more one two =
-    let parts = or_parts (has_float d) (items_have_float (items_of first)) one in
-    or_from (has_float d) (items_have_float (items_of (first ++ more))) parts.0 (append_free first more parts.1 two)
-
-flat_free : {X : Type 0} (f : X → List Data) → ((x : X) → AreFree (f x)) → (xs : List X) → AreFree (flat_map f xs)
-flat_free f free [] = refl
-flat_free f free (x ∷ xs) = append_free (f x) (flat_map f xs) (free x) (flat_free f free xs)
-
 each_free : (f : ℕ → List Data) → ((n : ℕ) → AreFree (f n)) → (n : ℕ) → AreFree (each_below f n)
 each_free f free zero = refl
 each_free f free (suc n) = append_free (each_below f n) (f n) (each_free f free n) (free n)
 
--- a list, or none
-unless_free : (b : Bool) (ds : List Data) → AreFree ds → AreFree (cond b [] ds)
-unless_free true ds free = refl
-unless_free false ds free = free
-
-list_if_free : (b : Bool) (ds : List Data) → AreFree ds → AreFree (cond b ds [])
-list_if_free true ds free = free
-list_if_free false ds free = refl
-
 hint_free : (text : List ℕ) (place : Place) (amount : ℕ) (resource : List ℕ) → AreFree (hint_if text place amount resource)
 hint_free text place amount resource =
-    unless_free (amount == 0) (label_data (end_of_name text place) (utf8_lossy (amount_words amount resource)) ∷ []) refl
+    cond_free (amount == 0) [] (label_data (end_of_name text place) (utf8_lossy (amount_words amount resource)) ∷ []) refl refl
 
 of_free : (text : List ℕ) (n : Numbered) (place : Place) (p : ℕ) → AreFree (hints_of text n place p)
 of_free text n place p =
@@ -57,13 +32,13 @@ named_free : (text : List ℕ) (n : Numbered) (place : Place) (names : List (Lis
     → AreFree (made_of names place.text (hints_of text n place))
 named_free text n place names =
     each_free (λ p. cond (bytes_eq (slice_index_or names p []) place.text) (hints_of text n place p) [])
-    (λ p. list_if_free (bytes_eq (slice_index_or names p []) place.text) (hints_of text n place p) (of_free text n place p))
+    (λ p. cond_free (bytes_eq (slice_index_or names p []) place.text) (hints_of text n place p) [] (of_free text n place p) refl)
     (length names)
 
 place_free : (text : List ℕ) (n : Numbered) (place : Place) → AreFree (hints_at text n place)
 place_free text n place =
-    list_if_free (same_kind place.kind Process) (made_of (process_names n.program) place.text (hints_of text n place))
-    (named_free text n place (process_names n.program))
+    cond_free (same_kind place.kind Process) (made_of (process_names n.program) place.text (hints_of text n place)) []
+    (named_free text n place (process_names n.program)) refl
 
 by_free : (text : List ℕ) (found : Option Numbered) (places : List Place) → AreFree (hints_by text found places)
 by_free text None places = refl

@@ -11,12 +11,12 @@ ghost use Rattle.pb_server_claims.specs.Said as said;
 ghost use Rattle.pb_server_names.specs.Values as values;
 
 use crate::named::name_words;
-use crate::ranges::range_value;
 use crate::reading::Reading;
 use crate::words::meaning;
 use pb_base::NoMemory;
 use pb_lexer::{Kind, Token};
 use pb_outline::{Outline, Place};
+use pb_server_names::range_value;
 use serde_json::{Value, json};
 use std::alloc::{AllocError, Global};
 

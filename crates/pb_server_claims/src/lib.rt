@@ -6,7 +6,6 @@ mod hints;
 mod hover;
 mod named;
 mod numbered;
-mod ranges;
 mod reading;
 mod requests;
 mod said;

@@ -42,7 +42,7 @@ AnswersDiagnostic uri text d = (items : Data) × Diagnoses uri text items × (d 
 
 -- the edits of a new name, or why there are none
 abbrev pub renamed : Data → FoundData
-renamed null = refused (codes "no name stands here, or the new name is none of the language, or it is taken")
+renamed null = refused (codes "no name stands here, or the new name is not a valid one, or it is declared already")
 renamed d = result d
 
 -- what is found in a text

@@ -42,7 +42,7 @@ fn renamed(edits: Value) -> Found
 {
     match edits {
         Value::Null => Found::Refused(
-            "no name stands here, or the new name is none of the language, or it is taken",
+            "no name stands here, or the new name is not a valid one, or it is declared already",
         ),
         edits => Found::Result(edits),
     }

@@ -1,10 +1,11 @@
 -- No value that is answered has a number that is no integer.
-use Rattle.std.proofs.Common.{◌≡◌, ℕ, Bool, true, false, not, ◌&&◌, ◌||◌, List, [], ◌∷◌, ◌++◌, map, Option, Some, None, cond, filter, refl}
-use Rattle.std.proofs.lemmas.Bool.{or_from, or_parts}
-use Rattle.std.specs.List.{find, flat_map}
+use Rattle.std.proofs.Common.{◌≡◌, ℕ, Bool, true, false, not, ◌&&◌, ◌||◌, List, [], map, Option, Some, None, cond, filter, refl}
+use Rattle.std.proofs.lemmas.Bool.{or_from}
+use Rattle.std.specs.List.{find}
 use Rattle.serde_json.specs.Data.{Data, null}
 use Rattle.serde_json.specs.View.{items_of}
 use Rattle.serde_json.specs.Written.{has_float, items_have_float}
+use Rattle.pb_adapter_requests.proofs.FreeItems.{AreFree, append_free, cond_free, flat_free, map_free, one_free}
 use Rattle.pb_code.specs.Names.{is_name, reserved_words}
 use Rattle.pb_lexer.specs.Tokens.{Token}
 use Rattle.pb_outline.specs.Extents.{extent_of}
@@ -17,24 +18,6 @@ use Rattle.pb_server_names.specs.Answers.{changes_data, definition_data, is_want
 use Rattle.pb_server_names.specs.Completions.{completions_data, items_data, name_item, word_item}
 use Rattle.pb_server_names.specs.Symbols.{integer_data, integers_at, is_integer_of, symbol_data, symbols_by, symbols_data, symbols_of}
 use Rattle.pb_server_names.specs.Values.{edit_data, location_data}
-
--- no item of a list has one
-abbrev AreFree : List Data → Type 0
-AreFree items = items_have_float (items_of items) ≡ false
-
-map_free : {X : Type 0} (f : X → Data) → ((x : X) → has_float (f x) ≡ false) → (xs : List X) → AreFree (map f xs)
-map_free f free [] = refl
-map_free f free (x ∷ xs) = or_from (has_float (f x)) (items_have_float (items_of (map f xs))) (free x) (map_free f free xs)
-
-append_free : (first more : List Data) → AreFree first → AreFree more → AreFree (first ++ more)
-append_free [] more one two = two
-append_free (d ∷ first) more one two =
-    let parts = or_parts (has_float d) (items_have_float (items_of first)) one in
-    or_from (has_float d) (items_have_float (items_of (first ++ more))) parts.0 (append_free first more parts.1 two)
-
-flat_free : {X : Type 0} (f : X → List Data) → ((x : X) → AreFree (f x)) → (xs : List X) → AreFree (flat_map f xs)
-flat_free f free [] = refl
-flat_free f free (x ∷ xs) = append_free (f x) (flat_map f xs) (free x) (flat_free f free xs)
 
 -- ---- where names are
 
@@ -76,9 +59,6 @@ symbol_free : (text : List ℕ) (place : Place) (extent : Extent) (inside : List
     → has_float (symbol_data text place extent inside) ≡ false
 symbol_free text place extent inside free = or_from (items_have_float (items_of inside)) false free refl
 
-one_free : (d : Data) → has_float d ≡ false → AreFree (d ∷ [])
-one_free d free = or_from (has_float d) false free refl
-
 integers_free : (text : List ℕ) (places : List Place) (at : ℕ) → AreFree (integers_at text places at)
 integers_free text places at =
     map_free (integer_data text) (λ place. refl) (filter (is_integer_of (process_at at places)) places)
@@ -94,16 +74,12 @@ by_kind_free Process text tokens places place =
     (symbol_free text place (extent_of tokens place.at) inside (integers_free text places place.at))
 by_kind_free (Integer p) text tokens places place = refl
 
-list_if_free : (b : Bool) (ds : List Data) → AreFree ds → AreFree (cond b ds [])
-list_if_free true ds free = free
-list_if_free false ds free = refl
-
 pub symbols_free : (text : List ℕ) (tokens : List Token) (places : List Place)
     → has_float (symbols_data text tokens places) ≡ false
 symbols_free text tokens places =
     flat_free (symbols_of text tokens places)
-    (λ place. list_if_free place.declares (symbols_by place.kind text tokens places place)
-    (by_kind_free place.kind text tokens places place)) places
+    (λ place. cond_free place.declares (symbols_by place.kind text tokens places place) []
+    (by_kind_free place.kind text tokens places place) refl) places
 
 -- ---- completions
 

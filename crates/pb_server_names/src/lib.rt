@@ -12,4 +12,4 @@ pub use asked::{asked_name, asked_offset, asked_place, asks_declaration};
 pub use completions::{completions_value, items_value};
 pub use places::{definition_value, references_value, rename_value};
 pub use symbols::symbols_value;
-pub use values::end_of_name;
+pub use values::{end_of_name, range_value};

@@ -133,7 +133,7 @@ fn changes_value(alloc: Global, uri: &str, edits: Vec<Value>) -> Result<Value, A
 }
 
 /// Returns the edits by which the name of a place of a text becomes another one; null without a place, or if the new
-/// name is none of the language, or taken.
+/// name is not a valid one, or declared already.
 #[tactic(auto, using(crate::proofs::Renames::renames))]
 pub fn rename_value(
     alloc: Global,

@@ -18,8 +18,9 @@ pub(crate) fn position_value(alloc: Global, position: Position) -> Result<Value,
     json!(in alloc; {"line": line, "character": character})
 }
 
-/// Returns the part of a text from one offset up to another.
-pub(crate) fn range_value(
+/// Returns the part of a text from one offset up to another, both counted in bytes, as the protocol writes it: with the
+/// lines and characters of its two ends.
+pub fn range_value(
     alloc: Global,
     text: &[u8],
     start: usize,
