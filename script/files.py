@@ -17,6 +17,9 @@ NO_FILES = ("explain", "help")
 OF_TEXTS = ("run", "claims", "plan", "emit", "record", "outcomes")
 OF_OBJECTS = ("exec", "migrate")
 OF_PICKS = ("replay", "draw")
+# Commands that an editor starts, and what its messages begin with.
+OF_MESSAGES = ("dap", "lsp")
+MESSAGE = b"Content-Length:"
 PICK = re.compile(rb"[A-Za-z]\w*\.\d+ \d+$")
 # A file of which the kind is looked for is read up to here: the longest input of the program.
 MOST_READ = 4_194_304
@@ -123,6 +126,8 @@ def advice(command: str, name: str, given: bytes) -> str | None:
         return f"{name} has picks behind a line %%: replay makes them, and debug and draw read them"
     if command in OF_TEXTS and command != "plan" and len(parts) > 1:
         return f"{name} has several texts, between lines %%: check reads these, and {command} one text"
+    if command in OF_MESSAGES and given.strip() and not given.startswith(MESSAGE):
+        return f"{name} holds no messages: an editor starts {command} and writes them; extras/README.md says how"
     if command in OF_OBJECTS and not is_object(given) and given.strip():
         return f"{name} is no object, which begins with PBO: run runs a text, and emit writes its object"
     return None

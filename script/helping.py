@@ -24,6 +24,10 @@ At a terminal `parbegin debug FILE` is a session with a prompt, where `help` say
 These are the program's commands:
 
 """
+EDITORS = """
+An editor starts this and writes its messages to standard input; no FILE is named. extras/README.md says how each
+editor is set up.
+"""
 HELPFUL = ("--help", "-h")
 VERSION = ("--version", "-V")
 # A text on which a session of the program lists its commands.
@@ -72,7 +76,7 @@ def more_help(start: list[str], command: str | None) -> str:
     """Returns what the script adds to the program's help."""
     if command == "debug":
         return DEBUG + ran_on(start, ["debug"], SESSION)[1].decode(errors="replace")
-    return {"check": CHECK, None: FILES}.get(command, "")
+    return {"check": CHECK, "dap": EDITORS, "lsp": EDITORS, None: FILES}.get(command, "")
 
 
 def write(text: str) -> int:

@@ -81,7 +81,7 @@ TellsRefused (option.States options) = SaysToPerson (reading.Shown (lending_for 
 
 -- what a person is told of a run that was stopped by its steps
 abbrev pub stopped_run : List ℕ
-stopped_run = codes "limit steps: the run was stopped before its end\n  = hint: --steps N allows N steps, at most 10000000; a run that never ends comes to any limit\n"
+stopped_run = codes "limit steps: the run was stopped before its end; a process with no line `end` or `fault` had not ended\n  = hint: --steps N allows N steps, at most 10000000; a run that never ends comes to any limit\n"
 
 -- what a person is told of a search that was stopped
 abbrev pub stopped_search : List ℕ

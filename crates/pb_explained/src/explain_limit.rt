@@ -10,7 +10,7 @@ use std::alloc::Global;
 
 /// What is said of a run that was stopped by its steps.
 const STOPPED_RUN: &[u8] =
-    b"limit steps: the run was stopped before its end\n  = hint: --steps N allows N steps, at most 10000000; a run that never ends comes to any limit\n";
+    b"limit steps: the run was stopped before its end; a process with no line `end` or `fault` had not ended\n  = hint: --steps N allows N steps, at most 10000000; a run that never ends comes to any limit\n";
 
 /// What is said of a search that was stopped.
 const STOPPED_SEARCH: &[u8] =
