@@ -33,7 +33,7 @@ NAMES = (
     "pb_claims",
     "pb_plan",
 )
-VERSION = "0.1.0"
+VERSION = "1.0.0"
 
 
 class Unbuilt(Exception):

@@ -14,7 +14,7 @@ use clap::{Arg, ArgAction, Command};
 use std::alloc::{AllocError, Global};
 
 /// The version, and the line of `rt version` of the kit that it was proved with.
-const VERSION: &str = "0.1\nproved with rattle-kit-13f logic dac8208d650f15bf";
+const VERSION: &str = "1.0\nproved with rattle-kit-13f logic dac8208d650f15bf";
 
 /// What is above the help. `--quiet` is taken off before these words are read.
 const ABOUT: &str =
