@@ -16,7 +16,7 @@ import subprocess
 import sys
 import tempfile
 
-from calls import DONE, EXAMPLES, REFUSED, TOP, WATCHDOG, Tally, call, installed, program, recorded
+from calls import DONE, EXAMPLES, FAULT, LIMIT, REFUSED, TOP, WATCHDOG, Tally, call, installed, program, recorded
 
 sys.path.insert(0, str(TOP))
 sys.dont_write_bytecode = True
@@ -56,6 +56,8 @@ LOST_PICKS = """1/15 p.0 line 6: starts p.1 and p.2
 13/15 p.0 line 10: reads x (1)
 14/15 p.0 line 10: prints 1
 15/15 p.0: ends the process""".splitlines()
+# What is said of examples/1-arms/fault.pb.
+FAULTED = "parbegin: broken.2 faulted in line 9: 1 div 0\r\n"
 # Commands at the end of that run, with a part of what each shows.
 ASKED = [
     ("", "the picks end here"), ("vars", "p: x = 1"), ("vars q", "no process q; there is p"),
@@ -235,6 +237,22 @@ def try_others(tally: Tally, script: str, folder: str) -> None:
     tally.expect(it.end() == DONE and "p.0 print 7" in it.it.before, "a text that is typed", it.it.before)
 
 
+def try_ends(tally: Tally, script: str, folder: str) -> None:
+    """Runs what a fault or a limit ends: where it was, and which processes had not ended, is said at a terminal alone."""
+    loop = "process p begin print 1 end\nprocess q begin integer x; while 1 do x := x + 1 od end\n"
+    pathlib.Path(folder, "loop.pb").write_text(loop)
+    fault = TOP / "examples/1-arms/fault.pb"
+    pathlib.Path(folder, "fault.run").write_bytes(recorded(fault.read_bytes()))
+    for words, wanted, status in [
+        (["run", str(fault)], FAULTED, FAULT), (["replay", "fault.run"], FAULTED, FAULT),
+        (["run", "--steps", "500", "loop.pb"], "parbegin: not ended: q\r\n", LIMIT), (["run", str(LOST.with_suffix(".pb"))], "", DONE),
+    ]:
+        told, ended = pexpect.run(f"{script} {' '.join(words)}", withexitstatus=True, cwd=folder, encoding="utf-8")
+        tally.expect(wanted in told and ended == status, words, "say", told)
+        ran = subprocess.run([script, *words], cwd=folder, capture_output=True, check=False)
+        tally.expect(ran.returncode == status and b"parbegin: " not in ran.stderr, words, "say on pipes", ran.stderr)
+
+
 def try_pipes(tally: Tally, script: str, folder: str) -> None:
     """On pipes the program answers, and commands in the file are its first."""
     given = LOST.read_bytes() + b"%%\nto 3\nvars p\n"
@@ -254,7 +272,7 @@ def main() -> None:
     with tempfile.TemporaryDirectory(prefix="parbegin-terminal-") as folder:
         script = installed(f"{folder}/installed")
         try_pipes(tally, script, folder)
-        for play in (try_lost, try_devices, try_circle, try_long, try_others) if pexpect else ():
+        for play in (try_lost, try_devices, try_circle, try_long, try_others, try_ends) if pexpect else ():
             play(tally, script, folder)
     if not pexpect:
         print("no session was played, since Python has no module pexpect")

@@ -77,6 +77,10 @@ def run_on_file(start: list[str], command: str, words: files.Words) -> int:
         return debug(start, words.others, name)
     if "--quiet" not in start:
         files.advise(command, name)
+    if name and command in ("run", "replay") and len(start) == 1 and os.isatty(2):
+        from script.afterwards import run_at_terminal
+
+        return run_at_terminal(start, command, words.others, name)
     if name:
         files.give_file(name)
     else:

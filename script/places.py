@@ -10,8 +10,9 @@ TOP = os.path.dirname(os.path.dirname(os.path.realpath(__file__)))
 MAIN = "pb_cli"
 PROGRAM = f"{TOP}/crates/{MAIN}/out/{MAIN}"
 INSTALLED = f"{TOP}/{MAIN}"
-# The program's statuses of a refused input, of refused words, and of a failed read or write; the script's of no program.
-REFUSED, WORDS, DEVICE, NO_PROGRAM = 1, 2, 6, 8
+# The program's statuses of a refused input, of refused words, of a limit, of a fault, and of a failed read or write; the
+# script's of no program.
+REFUSED, WORDS, LIMIT, FAULT, DEVICE, NO_PROGRAM = 1, 2, 3, 4, 6, 8
 
 
 def say(text: object) -> None:
