@@ -30,7 +30,7 @@ put 755 "$top/parbegin" "$prefix/bin" parbegin
 for module in "$top"/script/*.py; do
     put 644 "$module" "$prefix/libexec/parbegin/script" "${module##*/}"
 done
-for file in "$top"/extras/page/page.* "$top/extras/page/make_page.py"; do
+for file in "$top"/extras/page/*.js "$top"/extras/page/page.css "$top"/extras/page/page.html "$top"/extras/page/make_page.py; do
     put 644 "$file" "$prefix/share/parbegin/page" "${file##*/}"
 done
 put 644 "$top/docs/parbegin.1" "$prefix/share/man/man1" parbegin.1

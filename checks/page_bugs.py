@@ -21,7 +21,7 @@ from browser import Browser
 from calls import TOP, Tally
 from page import make_page
 
-# Faults of page.js: what stands there, and what is put in its place.
+# Faults of the scripts: what stands there, and what is put in its place.
 PLANTED = (
     ("changed.add(row[i]);", ""),
     ("this.integers + process.firstInteger + i", "this.integers + i"),
@@ -93,13 +93,14 @@ def looks(it: Browser, folder: Path) -> Iterator[Callable[[Tally], None]]:
 
 
 def finds(it: Browser, folder: Path, mark: str, fault: str) -> bool:
-    """Returns whether a look finds a fault that is planted in page.js."""
+    """Returns whether a look finds a fault that is planted in a script."""
     template = folder / "template"
     shutil.copytree(TOP / "extras/page", template, dirs_exist_ok=True)
-    script = (template / "page.js").read_text(encoding="utf-8")
-    if script.count(mark) != 1:
-        sys.exit(f"page.js has not once: {mark}")
-    (template / "page.js").write_text(script.replace(mark, fault), encoding="utf-8")
+    scripts = {path: path.read_text(encoding="utf-8") for path in template.glob("*.js")}
+    if sum(script.count(mark) for script in scripts.values()) != 1:
+        sys.exit(f"the scripts have not once: {mark}")
+    for path, script in scripts.items():
+        path.write_text(script.replace(mark, fault), encoding="utf-8")
     kept, make_page.TEMPLATE = make_page.TEMPLATE, str(template)
     try:
         for look in looks(it, folder):

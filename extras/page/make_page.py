@@ -18,6 +18,7 @@ from __future__ import annotations
 import html
 import json
 import os
+import re
 import subprocess
 import sys
 from collections.abc import Iterator
@@ -27,6 +28,9 @@ TEMPLATE = os.path.dirname(os.path.realpath(__file__))
 # The program's statuses of a run in which no process faulted, of one in which a process did, of one that ends in a
 # deadlock, and if a limit is reached.
 DONE, FAULT, DEADLOCK, LIMIT = 0, 4, 9, 3
+
+# How each script begins.
+STRICT = '"use strict";\n'
 
 OPTIONS = {"--seed": "seed", "--lend": "lend", "--from": "first", "--rows": "rows", "--states": "states"}
 
@@ -88,21 +92,28 @@ def has_resources(document: str) -> bool:
     return "\nresources 0\n" not in json.loads(document)["object"]
 
 
+def read(name: str) -> str:
+    """Returns a file of the template, without what a page has no need of: the spaces at the beginning of lines."""
+    with open(f"{TEMPLATE}/{name}", encoding="utf-8") as file:
+        return "".join(line.lstrip(" ") for line in file)
+
+
+def read_scripts(tags: str) -> str:
+    """Returns the scripts that tags name, as one, without the lines that are comments."""
+    texts = [read(name).removeprefix(STRICT) for name in re.findall(r'src="(.*)"', tags)]
+    return STRICT + "".join(line for text in texts for line in text.splitlines(keepends=True) if not line.startswith("//"))
+
+
 def fill_template(title: str, data: str) -> str:
-    """Returns the page, with its style, its script and its data in it."""
-
-    def read(name: str) -> str:
-        # (a page has no need of the spaces at the beginning of lines)
-        with open(f"{TEMPLATE}/{name}", encoding="utf-8") as file:
-            return "".join(line.lstrip(" ") for line in file)
-
+    """Returns the page, with its style, its scripts and its data in it."""
+    page = read("page.html")
+    tags = "".join(re.findall(r'<script src=.*\n', page))
     parts = {
         "<title>parbegin</title>": f"<title>{html.escape(title)} - parbegin</title>",
         '<link rel="stylesheet" href="page.css">': f"<style>\n{read('page.css')}</style>",
         '<script type="application/json" id="data">{}': f'<script type="application/json" id="data">{data}',
-        '<script src="page.js"></script>': f"<script>\n{read('page.js')}</script>",
+        tags: f"<script>\n{read_scripts(tags)}</script>\n",
     }
-    page = read("page.html")
     for mark, part in parts.items():
         before, found, after = page.partition(mark)
         if not found:
