@@ -51,7 +51,7 @@ CALLS = [
     (["run", "lost.run"], REFUSED, "refused L2 at 335", "parbegin: lost.run has picks behind a line %%: replay makes them"),
     (["claims", "two.pb"], REFUSED, "refused L2", "parbegin: two.pb has several texts, between lines %%: check reads these"),
     (["exec", "hello.pb"], REFUSED, "refused O1 at 0", "parbegin: hello.pb is no object"),
-    (["lsp", "hello.pb"], DEVICE, None, "parbegin: hello.pb holds no messages: an editor starts lsp"),
+    (["lsp", "hello.pb"], REFUSED, "this is not the header of a message", "parbegin: hello.pb holds no messages: an editor starts lsp"),
     (["help", "lsp"], DONE, "An editor starts this", None),
     (["dap", "--help"], DONE, "An editor starts this", None),
     (["--quiet", "exec", "hello.pb"], REFUSED, "refused O1 at 0", None),
