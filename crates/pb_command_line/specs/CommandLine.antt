@@ -87,7 +87,7 @@ outcomes_command =
     (number_rule (codes "deadlock") 1 4000000)
 
 unfoldable pub plan_command : App
-plan_command = new_app (codes "plan")
+plan_command = with_rule (new_app (codes "plan")) (word_rule_or (codes "lend") (codes "banker"))
 
 unfoldable pub record_command : App
 record_command =

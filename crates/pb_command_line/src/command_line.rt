@@ -4,7 +4,7 @@ ghost use Rattle.clap.specs.Words.{App, app_of, new_app, rule_of, with_rule};
 ghost use Rattle.clap.specs.declared.builder.command.Command.TheViews.{out-Command};
 ghost use Rattle.pb_command_line.specs.CommandLine.{IsCommand, check_command, debug_command, draw_command, emit_command};
 ghost use Rattle.pb_command_line.specs.CommandLine.{exec_command, explain_command, flag_rule, number_rule, number_rule_or};
-ghost use Rattle.pb_command_line.specs.CommandLine.{outcomes_command, record_command, replay_command, run_command, states_command};
+ghost use Rattle.pb_command_line.specs.CommandLine.{outcomes_command, plan_command, record_command, replay_command, run_command, states_command};
 ghost use Rattle.pb_command_line.specs.CommandLine.{that_wants_command, word_rule_or, command_line as whole, with_bank_commands, with_code_commands, with_command};
 ghost use Rattle.pb_command_line.specs.CommandLine.{with_object_commands, with_other_commands, with_pick_commands};
 ghost use Rattle.pb_command_line.specs.CommandLine.{with_run_rules, with_text_commands};
@@ -22,6 +22,10 @@ const ABOUT: &str =
 
 /// The help of the option that says who decides on a request.
 const LEND: &str = "Who decides on a request: banker or cash";
+
+/// The same of `plan`, which makes no run.
+const LEND_OF_PLAN: &str =
+    "Who decides on a request when the texts run: banker or cash; with cash the status is 9 after the line no order";
 
 /// The same of `record`, whose workers ask the banker.
 const LEND_OF_SEED: &str = "Who decides on a request: banker, or with --seed also cash";
@@ -293,6 +297,14 @@ fn states_of_run<'a>(alloc: Global) -> Result<Command<'a>, AllocError>
     with_lend(alloc, states, LEND)
 }
 
+fn plan_of_texts<'a>(alloc: Global) -> Result<Command<'a>, AllocError>
+    ensures { IfOk result (IsCommand plan_command) }
+{
+    let about =
+        "Print where the claims of the program read from standard input come from, and how much of each resource they need";
+    with_lend(alloc, plain(alloc, "plan", about), LEND_OF_PLAN)
+}
+
 fn record_text<'a>(alloc: Global) -> Result<Command<'a>, AllocError>
     ensures { IfOk result (IsCommand record_command) }
 {
@@ -358,9 +370,7 @@ fn with_texts<'a>(
         "Print the claims of the program read from standard input",
     );
     let command = with_made(command, claims);
-    let about =
-        "Print where the claims of the program read from standard input come from, and how much of each resource they need";
-    with_made(command, plain(alloc, "plan", about))
+    with_made(command, plan_of_texts(alloc))
 }
 
 fn with_codes<'a>(

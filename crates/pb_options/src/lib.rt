@@ -9,6 +9,6 @@ mod options;
 pub use code::{Code, UnknownCode};
 pub use options::{
     CheckOptions, DebugOptions, DrawOptions, EmitOptions, Lend, MAX_HEAP, MAX_ROWS, MAX_SCALE,
-    MAX_WIDTH, MIN_HEAP, MIN_SCALE, MIN_WIDTH, OutcomesOptions, RecordOptions, ReplayOptions,
-    RunOptions, StatesOptions, UnknownLend,
+    MAX_WIDTH, MIN_HEAP, MIN_SCALE, MIN_WIDTH, OutcomesOptions, PlanOptions, RecordOptions,
+    ReplayOptions, RunOptions, StatesOptions, UnknownLend,
 };

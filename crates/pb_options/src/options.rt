@@ -68,6 +68,13 @@ pub struct RecordOptions {
     pub ghost workers_ask_the_banker: { seed ≡ None → lend ≡ Banker },
 }
 
+/// The options of `plan`.
+#[derive(Clone, Copy, Debug, PartialEq, Eq)]
+pub struct PlanOptions {
+    /// Who decides on a request when the texts run.
+    pub lend: Lend,
+}
+
 /// The options of `draw_engine`.
 #[derive(Clone, Copy, Debug, PartialEq, Eq)]
 pub struct DrawOptions {

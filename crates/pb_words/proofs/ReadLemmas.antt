@@ -16,7 +16,8 @@ use Rattle.pb_command_line.specs.CommandLine.{bank_command, dap_command, lsp_com
 use Rattle.clap.specs.declared.parser.matches.Found.{Found}
 use Rattle.clap.proofs.WalkLemmas.{one_text-rows}
 use Rattle.pb_words.specs.Read.{BlamesWords, HasCheckNumbers, HasCode, HasEmitNumber, HasFlag, HasNumber, HasNumberIn}
-use Rattle.pb_words.specs.Read.{HasDebugOptions, HasDrawOptions, HasLend, HasOptionalNumber, HasOptionalNumberIn, HasReplayLend, HasSearchOptions, HasStatesOptions}
+use Rattle.pb_words.specs.Read.{HasDebugOptions, HasDrawOptions, HasLend, HasOptionalNumber, HasOptionalNumberIn, HasPlanLend, HasReplayLend}
+use Rattle.pb_words.specs.Read.{HasSearchOptions, HasStatesOptions}
 use Rattle.pb_words.specs.Read.{HasRecordNumbers, HasRunNumbers}
 use Rattle.pb_words.specs.Read.{IsReadFrom, IsReadFromMatches}
 use Rattle.pb_words.specs.declared.words.Options.{Options}
@@ -29,6 +30,7 @@ use Rattle.pb_options.specs.declared.options.EmitOptions.{EmitOptions}
 use Rattle.pb_options.specs.Lends.{IsLendOf, lend_word}
 use Rattle.pb_options.specs.declared.options.Lend.{Lend}
 use Rattle.pb_options.specs.declared.options.OutcomesOptions.{OutcomesOptions}
+use Rattle.pb_options.specs.declared.options.PlanOptions.{PlanOptions}
 use Rattle.pb_options.specs.declared.options.RecordOptions.{RecordOptions}
 use Rattle.pb_options.specs.declared.options.ReplayOptions.{ReplayOptions}
 use Rattle.pb_options.specs.declared.options.RunOptions.{RunOptions}
@@ -128,8 +130,8 @@ no_check rows none Migrate says =
     let m : 99 ≡ 109 = ap (λ (l : Text). get_or l 0 0) says in omega (arith, m)
 no_check rows none (Outcomes o) says =
     let m : 99 ≡ 111 = ap (λ (l : Text). get_or l 0 0) says.0 in omega (arith, m)
-no_check rows none Plan says =
-    let m : 99 ≡ 112 = ap (λ (l : Text). get_or l 0 0) says in omega (arith, m)
+no_check rows none (Plan o) says =
+    let m : 99 ≡ 112 = ap (λ (l : Text). get_or l 0 0) says.0 in omega (arith, m)
 no_check rows none (Record o) says =
     let m : 99 ≡ 114 = ap (λ (l : Text). get_or l 0 0) says.0 in omega (arith, m)
 no_check rows none (Replay o) says =
@@ -165,8 +167,8 @@ no_debug rows none Migrate says =
     let m : 100 ≡ 109 = ap (λ (l : Text). get_or l 0 0) says in omega (arith, m)
 no_debug rows none (Outcomes o) says =
     let m : 100 ≡ 111 = ap (λ (l : Text). get_or l 0 0) says.0 in omega (arith, m)
-no_debug rows none Plan says =
-    let m : 100 ≡ 112 = ap (λ (l : Text). get_or l 0 0) says in omega (arith, m)
+no_debug rows none (Plan o) says =
+    let m : 100 ≡ 112 = ap (λ (l : Text). get_or l 0 0) says.0 in omega (arith, m)
 no_debug rows none (Record o) says =
     let m : 100 ≡ 114 = ap (λ (l : Text). get_or l 0 0) says.0 in omega (arith, m)
 no_debug rows none (Replay o) says =
@@ -202,8 +204,8 @@ no_emit rows none Migrate says =
     let m : 101 ≡ 109 = ap (λ (l : Text). get_or l 0 0) says in omega (arith, m)
 no_emit rows none (Outcomes o) says =
     let m : 101 ≡ 111 = ap (λ (l : Text). get_or l 0 0) says.0 in omega (arith, m)
-no_emit rows none Plan says =
-    let m : 101 ≡ 112 = ap (λ (l : Text). get_or l 0 0) says in omega (arith, m)
+no_emit rows none (Plan o) says =
+    let m : 101 ≡ 112 = ap (λ (l : Text). get_or l 0 0) says.0 in omega (arith, m)
 no_emit rows none (Record o) says =
     let m : 101 ≡ 114 = ap (λ (l : Text). get_or l 0 0) says.0 in omega (arith, m)
 no_emit rows none (Replay o) says =
@@ -240,8 +242,8 @@ no_run rows none Migrate says =
     let m : 114 ≡ 109 = ap (λ (l : Text). get_or l 0 0) says in omega (arith, m)
 no_run rows none (Outcomes o) says =
     let m : 114 ≡ 111 = ap (λ (l : Text). get_or l 0 0) says.0 in omega (arith, m)
-no_run rows none Plan says =
-    let m : 114 ≡ 112 = ap (λ (l : Text). get_or l 0 0) says in omega (arith, m)
+no_run rows none (Plan o) says =
+    let m : 114 ≡ 112 = ap (λ (l : Text). get_or l 0 0) says.0 in omega (arith, m)
 no_run rows none (Record o) says =
     let m : 117 ≡ 101 = ap (λ (l : Text). get_or l 1 0) says.0 in omega (arith, m)
 no_run rows none (Replay o) says =
@@ -277,8 +279,8 @@ no_record rows none Migrate says =
     let m : 114 ≡ 109 = ap (λ (l : Text). get_or l 0 0) says in omega (arith, m)
 no_record rows none (Outcomes o) says =
     let m : 114 ≡ 111 = ap (λ (l : Text). get_or l 0 0) says.0 in omega (arith, m)
-no_record rows none Plan says =
-    let m : 114 ≡ 112 = ap (λ (l : Text). get_or l 0 0) says in omega (arith, m)
+no_record rows none (Plan o) says =
+    let m : 114 ≡ 112 = ap (λ (l : Text). get_or l 0 0) says.0 in omega (arith, m)
 no_record rows none (Record o) says = none o says.1
 no_record rows none (Replay o) says =
     let m : 99 ≡ 112 = ap (λ (l : Text). get_or l 2 0) says.0 in omega (arith, m)
@@ -313,8 +315,8 @@ no_exec rows none Migrate says =
     let m : 101 ≡ 109 = ap (λ (l : Text). get_or l 0 0) says in omega (arith, m)
 no_exec rows none (Outcomes o) says =
     let m : 101 ≡ 111 = ap (λ (l : Text). get_or l 0 0) says.0 in omega (arith, m)
-no_exec rows none Plan says =
-    let m : 101 ≡ 112 = ap (λ (l : Text). get_or l 0 0) says in omega (arith, m)
+no_exec rows none (Plan o) says =
+    let m : 101 ≡ 112 = ap (λ (l : Text). get_or l 0 0) says.0 in omega (arith, m)
 no_exec rows none (Record o) says =
     let m : 101 ≡ 114 = ap (λ (l : Text). get_or l 0 0) says.0 in omega (arith, m)
 no_exec rows none (Replay o) says =
@@ -350,8 +352,8 @@ no_explain rows none Migrate says =
     let m : 101 ≡ 109 = ap (λ (l : Text). get_or l 0 0) says in omega (arith, m)
 no_explain rows none (Outcomes o) says =
     let m : 101 ≡ 111 = ap (λ (l : Text). get_or l 0 0) says.0 in omega (arith, m)
-no_explain rows none Plan says =
-    let m : 101 ≡ 112 = ap (λ (l : Text). get_or l 0 0) says in omega (arith, m)
+no_explain rows none (Plan o) says =
+    let m : 101 ≡ 112 = ap (λ (l : Text). get_or l 0 0) says.0 in omega (arith, m)
 no_explain rows none (Record o) says =
     let m : 101 ≡ 114 = ap (λ (l : Text). get_or l 0 0) says.0 in omega (arith, m)
 no_explain rows none (Replay o) says =
@@ -387,8 +389,8 @@ no_outcomes rows none Lsp says =
 no_outcomes rows none Migrate says =
     let m : 111 ≡ 109 = ap (λ (l : Text). get_or l 0 0) says in omega (arith, m)
 no_outcomes rows none (Outcomes o) says = none o says.1
-no_outcomes rows none Plan says =
-    let m : 111 ≡ 112 = ap (λ (l : Text). get_or l 0 0) says in omega (arith, m)
+no_outcomes rows none (Plan o) says =
+    let m : 111 ≡ 112 = ap (λ (l : Text). get_or l 0 0) says.0 in omega (arith, m)
 no_outcomes rows none (Record o) says =
     let m : 111 ≡ 114 = ap (λ (l : Text). get_or l 0 0) says.0 in omega (arith, m)
 no_outcomes rows none (Replay o) says =
@@ -425,8 +427,8 @@ no_states rows none Migrate says =
     let m : 115 ≡ 109 = ap (λ (l : Text). get_or l 0 0) says in omega (arith, m)
 no_states rows none (Outcomes o) says =
     let m : 115 ≡ 111 = ap (λ (l : Text). get_or l 0 0) says.0 in omega (arith, m)
-no_states rows none Plan says =
-    let m : 115 ≡ 112 = ap (λ (l : Text). get_or l 0 0) says in omega (arith, m)
+no_states rows none (Plan o) says =
+    let m : 115 ≡ 112 = ap (λ (l : Text). get_or l 0 0) says.0 in omega (arith, m)
 no_states rows none (Record o) says =
     let m : 115 ≡ 114 = ap (λ (l : Text). get_or l 0 0) says.0 in omega (arith, m)
 no_states rows none (Replay o) says =
@@ -434,6 +436,43 @@ no_states rows none (Replay o) says =
 no_states rows none (Run o) says =
     let m : 115 ≡ 114 = ap (λ (l : Text). get_or l 0 0) says.0 in omega (arith, m)
 no_states rows none (States o) says = none o says.1
+
+-- if its options cannot be read, the rows of `plan` say nothing
+pub no_plan : (rows : List Row) → ((o : PlanOptions) → HasPlanLend rows o → ⊥) → (o : Options)
+    → IsReadFrom (codes "plan") rows o → ⊥
+no_plan rows none Bank says =
+    let m : 112 ≡ 98 = ap (λ (l : Text). get_or l 0 0) says in omega (arith, m)
+no_plan rows none (Check o) says =
+    let m : 112 ≡ 99 = ap (λ (l : Text). get_or l 0 0) says.0 in omega (arith, m)
+no_plan rows none Claims says =
+    let m : 112 ≡ 99 = ap (λ (l : Text). get_or l 0 0) says in omega (arith, m)
+no_plan rows none Dap says =
+    let m : 112 ≡ 100 = ap (λ (l : Text). get_or l 0 0) says in omega (arith, m)
+no_plan rows none (Debug o) says =
+    let m : 112 ≡ 100 = ap (λ (l : Text). get_or l 0 0) says.0 in omega (arith, m)
+no_plan rows none (Draw o) says =
+    let m : 112 ≡ 100 = ap (λ (l : Text). get_or l 0 0) says.0 in omega (arith, m)
+no_plan rows none (Emit o) says =
+    let m : 112 ≡ 101 = ap (λ (l : Text). get_or l 0 0) says.0 in omega (arith, m)
+no_plan rows none (Exec o) says =
+    let m : 112 ≡ 101 = ap (λ (l : Text). get_or l 0 0) says.0 in omega (arith, m)
+no_plan rows none (Explain o) says =
+    let m : 112 ≡ 101 = ap (λ (l : Text). get_or l 0 0) says.0 in omega (arith, m)
+no_plan rows none Lsp says =
+    let m : 112 ≡ 108 = ap (λ (l : Text). get_or l 0 0) says in omega (arith, m)
+no_plan rows none Migrate says =
+    let m : 112 ≡ 109 = ap (λ (l : Text). get_or l 0 0) says in omega (arith, m)
+no_plan rows none (Outcomes o) says =
+    let m : 112 ≡ 111 = ap (λ (l : Text). get_or l 0 0) says.0 in omega (arith, m)
+no_plan rows none (Plan o) says = none o says.1
+no_plan rows none (Record o) says =
+    let m : 112 ≡ 114 = ap (λ (l : Text). get_or l 0 0) says.0 in omega (arith, m)
+no_plan rows none (Replay o) says =
+    let m : 112 ≡ 114 = ap (λ (l : Text). get_or l 0 0) says.0 in omega (arith, m)
+no_plan rows none (Run o) says =
+    let m : 112 ≡ 114 = ap (λ (l : Text). get_or l 0 0) says.0 in omega (arith, m)
+no_plan rows none (States o) says =
+    let m : 112 ≡ 115 = ap (λ (l : Text). get_or l 0 0) says.0 in omega (arith, m)
 
 -- if its options cannot be read, the rows of `replay` say nothing
 pub no_replay : (rows : List Row) → ((o : ReplayOptions) → HasReplayLend rows o → ⊥) → (o : Options)
@@ -462,8 +501,8 @@ no_replay rows none Migrate says =
     let m : 114 ≡ 109 = ap (λ (l : Text). get_or l 0 0) says in omega (arith, m)
 no_replay rows none (Outcomes o) says =
     let m : 114 ≡ 111 = ap (λ (l : Text). get_or l 0 0) says.0 in omega (arith, m)
-no_replay rows none Plan says =
-    let m : 114 ≡ 112 = ap (λ (l : Text). get_or l 0 0) says in omega (arith, m)
+no_replay rows none (Plan o) says =
+    let m : 114 ≡ 112 = ap (λ (l : Text). get_or l 0 0) says.0 in omega (arith, m)
 no_replay rows none (Record o) says =
     let m : 112 ≡ 99 = ap (λ (l : Text). get_or l 2 0) says.0 in omega (arith, m)
 no_replay rows none (Replay o) says = none o says.1
@@ -498,8 +537,8 @@ no_draw rows none Migrate says =
     let m : 100 ≡ 109 = ap (λ (l : Text). get_or l 0 0) says in omega (arith, m)
 no_draw rows none (Outcomes o) says =
     let m : 100 ≡ 111 = ap (λ (l : Text). get_or l 0 0) says.0 in omega (arith, m)
-no_draw rows none Plan says =
-    let m : 100 ≡ 112 = ap (λ (l : Text). get_or l 0 0) says in omega (arith, m)
+no_draw rows none (Plan o) says =
+    let m : 100 ≡ 112 = ap (λ (l : Text). get_or l 0 0) says.0 in omega (arith, m)
 no_draw rows none (Record o) says =
     let m : 100 ≡ 114 = ap (λ (l : Text). get_or l 0 0) says.0 in omega (arith, m)
 no_draw rows none (Replay o) says =

@@ -18,6 +18,7 @@ use Rattle.pb_options.specs.declared.options.EmitOptions.{EmitOptions}
 use Rattle.pb_options.specs.Lends.{lend_word}
 use Rattle.pb_options.specs.declared.options.Lend.{Lend}
 use Rattle.pb_options.specs.declared.options.OutcomesOptions.{OutcomesOptions}
+use Rattle.pb_options.specs.declared.options.PlanOptions.{PlanOptions}
 use Rattle.pb_options.specs.declared.options.RecordOptions.{RecordOptions}
 use Rattle.pb_options.specs.declared.options.ReplayOptions.{ReplayOptions}
 use Rattle.pb_options.specs.declared.options.RunOptions.{RunOptions}
@@ -91,6 +92,9 @@ abbrev pub HasDrawOptions : List Row → DrawOptions → Type 0
 HasDrawOptions rows o = HasLend rows o.lend × HasOptionalNumberIn rows (codes "width") MIN_WIDTH MAX_WIDTH o.width
     × HasNumberIn rows (codes "scale") MIN_SCALE MAX_SCALE o.scale
 
+abbrev pub HasPlanLend : List Row → PlanOptions → Type 0
+HasPlanLend rows o = HasLend rows o.lend
+
 abbrev pub HasReplayLend : List Row → ReplayOptions → Type 0
 HasReplayLend rows o = HasLend rows o.lend
 
@@ -111,7 +115,7 @@ IsReadFrom name rows (option.Explain code) = (name ≡ codes "explain") × HasCo
 IsReadFrom name rows option.Lsp = name ≡ codes "lsp"
 IsReadFrom name rows option.Migrate = name ≡ codes "migrate"
 IsReadFrom name rows (option.Outcomes o) = (name ≡ codes "outcomes") × HasSearchOptions rows o
-IsReadFrom name rows option.Plan = name ≡ codes "plan"
+IsReadFrom name rows (option.Plan o) = (name ≡ codes "plan") × HasPlanLend rows o
 IsReadFrom name rows (option.Record o) = (name ≡ codes "record") × HasRecordNumbers rows o
 IsReadFrom name rows (option.Replay o) = (name ≡ codes "replay") × HasReplayLend rows o
 IsReadFrom name rows (option.Run o) = (name ≡ codes "run") × HasRunNumbers rows o

@@ -2,7 +2,7 @@
 ghost use Rattle.std.specs.Prelude.{◌≡◌, ◌↔◌, IfErr, IfNone, IfOk, IfSome, IsTrue, None, Option, ℕ};
 ghost use Rattle.clap.specs.Words.{found_of, kind_of, one_of, rows_of, subcommand_rows_of};
 ghost use Rattle.pb_words.specs.Read.{BlamesWords, HasCheckNumbers, HasCode, HasDebugOptions, HasDrawOptions, HasEmitNumber};
-ghost use Rattle.pb_words.specs.Read.{HasFlag, HasNumberIn, HasOptionalNumberIn, HasRecordNumbers, HasRunNumbers, HasLend, HasReplayLend, HasSearchOptions};
+ghost use Rattle.pb_words.specs.Read.{HasFlag, HasNumberIn, HasOptionalNumberIn, HasRecordNumbers, HasRunNumbers, HasLend, HasPlanLend, HasReplayLend, HasSearchOptions};
 ghost use Rattle.pb_words.specs.Read.{HasStatesOptions, IsReadFromMatches, WordsSay};
 ghost use Rattle.pb_words.specs.declared.words.Options.{Options as AnyOptions};
 ghost use Rattle.pb_options.specs.declared.options.CheckOptions.{CheckOptions as AnyCheckOptions};
@@ -12,6 +12,7 @@ ghost use Rattle.pb_options.specs.declared.options.EmitOptions.{EmitOptions as A
 ghost use Rattle.pb_options.specs.declared.code.Code.{Code as AnyCode};
 ghost use Rattle.pb_options.specs.declared.options.Lend.{Lend as AnyLend};
 ghost use Rattle.pb_options.specs.declared.options.OutcomesOptions.{OutcomesOptions as AnyOutcomesOptions};
+ghost use Rattle.pb_options.specs.declared.options.PlanOptions.{PlanOptions as AnyPlanOptions};
 ghost use Rattle.pb_options.specs.declared.options.RecordOptions.{RecordOptions as AnyRecordOptions};
 ghost use Rattle.pb_options.specs.declared.options.ReplayOptions.{ReplayOptions as AnyReplayOptions};
 ghost use Rattle.pb_options.specs.declared.options.RunOptions.{RunOptions as AnyRunOptions};
@@ -25,8 +26,8 @@ use pb_command_line::command_line::command_line;
 use pb_object::Format;
 use pb_options::{
     CheckOptions, Code, DebugOptions, DrawOptions, EmitOptions, Lend, MAX_HEAP, MAX_ROWS,
-    MAX_SCALE, MAX_WIDTH, MIN_HEAP, MIN_SCALE, MIN_WIDTH, OutcomesOptions, RecordOptions,
-    ReplayOptions, RunOptions, StatesOptions,
+    MAX_SCALE, MAX_WIDTH, MIN_HEAP, MIN_SCALE, MIN_WIDTH, OutcomesOptions, PlanOptions,
+    RecordOptions, ReplayOptions, RunOptions, StatesOptions,
 };
 use std::alloc::{AllocError, Global};
 
@@ -175,6 +176,14 @@ fn outcomes_options(matches: &ArgMatches<'_>) -> Option<OutcomesOptions>
     })
 }
 
+fn plan_options(matches: &ArgMatches<'_>) -> Option<PlanOptions>
+    ensures some { IfSome result (HasPlanLend (rows_of (found_of matches.now))) }
+    ensures none { IfNone result ((o : AnyPlanOptions) → HasPlanLend (rows_of (found_of matches.now)) o → ⊥) }
+{
+    let lend = lend(matches)?;
+    Some(PlanOptions { lend })
+}
+
 fn replay_options(matches: &ArgMatches<'_>) -> Option<ReplayOptions>
     ensures some { IfSome result (HasReplayLend (rows_of (found_of matches.now))) }
     ensures none { IfNone result ((o : AnyReplayOptions) → HasReplayLend (rows_of (found_of matches.now)) o → ⊥) }
@@ -262,7 +271,7 @@ fn read_matches(matches: &ArgMatches<'_>) -> Option<Options>
         "lsp" => Some(Options::Lsp),
         "migrate" => Some(Options::Migrate),
         "outcomes" => Some(Options::Outcomes(outcomes_options(inner)?)),
-        "plan" => Some(Options::Plan),
+        "plan" => Some(Options::Plan(plan_options(inner)?)),
         "record" => Some(Options::Record(record_options(inner)?)),
         "replay" => Some(Options::Replay(replay_options(inner)?)),
         "run" => Some(Options::Run(run_options(inner)?)),
@@ -300,9 +309,9 @@ pub fn options(alloc: Global, words: &[&str]) -> Result<Options, WordsFault>
 fn unread_text(alloc: Global, matches: &ArgMatches<'_>) -> Result<String, AllocError> {
     match matches.subcommand() {
         Some(("record", inner)) if is_cash(inner) => String::from_str(alloc, NO_SEED),
-        Some(("debug" | "draw" | "outcomes" | "record" | "replay", _)) => String::from_str(
-            alloc, NO_LEND,
-        ),
+        Some(("debug" | "draw" | "outcomes" | "plan" | "record" | "replay" | "states", _)) => {
+            String::from_str(alloc, NO_LEND)
+        }
         _ => codes_text(alloc),
     }
 }

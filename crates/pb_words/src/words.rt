@@ -1,8 +1,8 @@
 //! The words of a call, read.
 
 use pb_options::{
-    CheckOptions, Code, DebugOptions, DrawOptions, EmitOptions, OutcomesOptions, RecordOptions,
-    ReplayOptions, RunOptions, StatesOptions,
+    CheckOptions, Code, DebugOptions, DrawOptions, EmitOptions, OutcomesOptions, PlanOptions,
+    RecordOptions, ReplayOptions, RunOptions, StatesOptions,
 };
 
 /// A command with its options.
@@ -21,7 +21,7 @@ pub enum Options {
     Lsp,
     Migrate,
     Outcomes(OutcomesOptions),
-    Plan,
+    Plan(PlanOptions),
     Record(RecordOptions),
     Replay(ReplayOptions),
     Run(RunOptions),

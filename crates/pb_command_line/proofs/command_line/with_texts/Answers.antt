@@ -3,8 +3,8 @@ use Rattle.pb_command_line.proofs.AddedCommands.{has_rules}
 use Rattle.pb_command_line.proofs.command_line.with_texts.Goals as goal
 
 pub returns : goal.returns
-unfolding with_text_commands claims_command plan_command
+unfolding with_text_commands claims_command
 returns c app is =
     let is1 = c.with_made-command.ensures app check_command is (has_rules check_command c.check_texts.result c.check_texts.ensures) in
     let is2 = c.with_made-command-2.ensures _ claims_command is1 (has_rules claims_command c.plain-claims.result c.plain-claims.ensures) in
-    c.with_made.ensures _ plan_command is2 (has_rules plan_command c.plain.result c.plain.ensures)
+    c.with_made.ensures _ plan_command is2 (has_rules plan_command c.plan_of_texts.result c.plan_of_texts.ensures)

@@ -1,7 +1,7 @@
 use Rattle.std.proofs.Common.{rules}
 use Rattle.clap.specs.Words.{found_of, rows_of, subcommand_rows_of}
-use Rattle.pb_words.proofs.ReadLemmas.{IfNone-of, no_check, no_debug, no_draw, no_emit, no_exec, no_explain, no_outcomes, no_record}
-use Rattle.pb_words.proofs.ReadLemmas.{no_replay, no_run, no_states, nothing_read}
+use Rattle.pb_words.proofs.ReadLemmas.{IfNone-of, no_check, no_debug, no_draw, no_emit, no_exec, no_explain, no_outcomes, no_plan}
+use Rattle.pb_words.proofs.ReadLemmas.{no_record, no_replay, no_run, no_states, nothing_read}
 use Rattle.pb_words.proofs.read.read_matches.Goals as goal
 
 pub returns-in_err-check_options-in-check-clause-none : goal.returns-in_err-check_options-in-check-clause-none
@@ -72,3 +72,9 @@ returns-in_err-debug_options-in-debug-clause-none c =
     IfNone-of c.from_residual-in_err-debug_options-in-debug.result
     (nothing_read (subcommand_rows_of c.args.matches.now) _ (rows_of (found_of c.in_ok-name.inner.now)) (search rules) c.in_ok-name.ensures.rows
     (no_debug (rows_of (found_of c.in_ok-name.inner.now)) c.in_err-debug_options-in-debug.ensures.none))
+
+pub returns-in_err-plan_options-in-plan-clause-none : goal.returns-in_err-plan_options-in-plan-clause-none
+returns-in_err-plan_options-in-plan-clause-none c =
+    IfNone-of c.from_residual-in_err-plan_options-in-plan.result
+    (nothing_read (subcommand_rows_of c.args.matches.now) _ (rows_of (found_of c.in_ok-name.inner.now)) (search rules) c.in_ok-name.ensures.rows
+    (no_plan (rows_of (found_of c.in_ok-name.inner.now)) c.in_err-plan_options-in-plan.ensures.none))
