@@ -81,8 +81,8 @@ def command(words):
     if word == "record":
         lender = "ByCash" if options.get("--lend") == "cash" else ""
         return f"Command::Record{lender} {{ seed: {number(options['--seed'])} }}"
-    if word == "replay" and options.get("--lend") == "cash":
-        return "Command::ReplayByCash"
+    if word in ("plan", "replay") and options.get("--lend") == "cash":
+        return f"Command::{word.title()}ByCash"
     return f"Command::{word.title()}"
 
 

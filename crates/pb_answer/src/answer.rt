@@ -7,6 +7,7 @@ ghost use Rattle.pb_options.specs.Lends.{lending_for};
 ghost use Rattle.pb_command_io.specs.Faults.{TellsFaults, TellsWriteFaults};
 ghost use Rattle.pb_command_io.specs.Inputs.{SaysOfInput};
 ghost use Rattle.pb_page_engine.specs.States.{SaysOfStates};
+ghost use Rattle.pb_plan_engine.specs.PlanLines.{SaysOfPlan};
 
 use pb_adapter_engine::adapter_engine;
 use pb_bank_engine::bank_engine;
@@ -19,7 +20,7 @@ use pb_engines::{
     replay_engine, run_engine,
 };
 use pb_explain::explain_engine;
-use pb_options::{DebugOptions, StatesOptions};
+use pb_options::{DebugOptions, PlanOptions, StatesOptions};
 use pb_page::Shown;
 use pb_page_engine::states_engine;
 use pb_plan_engine::plan_engine;
@@ -57,7 +58,7 @@ pub fn answer<I: Input, O: Output, R: Threads + Wait + Sync>(
         Ok(Options::Lsp) => server_engine(alloc, input, output),
         Ok(Options::Migrate) => migrate_engine(alloc, input, output),
         Ok(Options::Outcomes(numbers)) => outcomes_engine(alloc, numbers, input, output),
-        Ok(Options::Plan) => plan_engine(alloc, input, output),
+        Ok(Options::Plan(options)) => plan(alloc, options, input, output),
         Ok(Options::Record(numbers)) => record_engine(rt, alloc, numbers, input, output),
         Ok(Options::Replay(options)) => replay_engine(alloc, options, input, output),
         Ok(Options::Run(numbers)) => run_engine(rt, alloc, numbers, input, output),
@@ -91,6 +92,23 @@ pub fn states<I: Input, O: Output>(
         result }
 {
     states_engine(alloc, options.lend.lending(), shown(options), input, output)
+}
+
+/// Writes the plan of texts, with the status for who lends when they run.
+pub fn plan<I: Input, O: Output>(
+    alloc: Global,
+    options: PlanOptions,
+    input: &mut I,
+    output: &mut O,
+) -> Status
+    ensures text { IfSome (I.rest input.old) (λ bytes. Tells (SaysOfInput (SaysOfPlan (lending_for options.lend)) bytes)
+        (O.written output.old) (O.written output.new) result) }
+    ensures faults { TellsFaults
+        (record { reads = I.failures input.old; writes = O.failures output.old; written = O.written output.old })
+        (record { reads = I.failures input.new; writes = O.failures output.new; written = O.written output.new })
+        result }
+{
+    plan_engine(alloc, options.lend.lending(), input, output)
 }
 
 /// Debugs by the engine that reads the commands as they come, or by the one that reads its input whole.

@@ -11,14 +11,13 @@ ghost use Rattle.pb_c_call.specs.Replies.{RefusesThreads};
 use crate::drawn::record_drawn_engine;
 use pb_accept::{check_engine, claims_engine, emit_engine, migrate_engine, replay_engine};
 use pb_adapter_engine::adapter_engine;
-use pb_answer::answer::{debug, refuse, states};
+use pb_answer::answer::{debug, plan, refuse, states};
 use pb_bank_engine::bank_engine;
 use pb_base::{Input, Output};
 use pb_command_io::Status;
 use pb_draw_engine::draw_engine;
 use pb_explain::explain_engine;
 use pb_options::RecordOptions;
-use pb_plan_engine::plan_engine;
 use pb_search_engine::outcomes_engine;
 use pb_server_engine::server_engine;
 use pb_words::{Options, options};
@@ -48,7 +47,7 @@ pub fn answer_alone<I: Input, O: Output>(
         Ok(Options::Lsp) => server_engine(alloc, input, output),
         Ok(Options::Migrate) => migrate_engine(alloc, input, output),
         Ok(Options::Outcomes(numbers)) => outcomes_engine(alloc, numbers, input, output),
-        Ok(Options::Plan) => plan_engine(alloc, input, output),
+        Ok(Options::Plan(options)) => plan(alloc, options, input, output),
         Ok(Options::Replay(options)) => replay_engine(alloc, options, input, output),
         Ok(Options::Exec(numbers)) => {
             let _ = numbers;

@@ -11,7 +11,7 @@ use crate::alone::answer_alone;
 use crate::reply::{Kept, put_front};
 use crate::word::{NoWords, Word, texts_of};
 use pb_accept::{check_engine, claims_engine};
-use pb_base::MemoryInput;
+use pb_base::{Lending, MemoryInput};
 use pb_command_io::Status;
 use pb_options::CheckOptions;
 use pb_plan_engine::plan_engine;
@@ -76,15 +76,15 @@ pub extern "C" fn pb_claims(alloc: Global, text: &[u8], output: &mut [u8], neede
     status.number()
 }
 
-/// Plans the texts that the input holds, which lines `%%` part, as one program, as the command `plan` does, and gives
-/// the reply as `pb_call` does.
+/// Plans the texts that the input holds, which lines `%%` part, as one program, as the command `plan` does under the
+/// banker, and gives the reply as `pb_call` does.
 #[unsafe(no_mangle)]
 pub extern "C" fn pb_plan(alloc: Global, texts: &[u8], output: &mut [u8], needed: &mut usize) -> u8
-    ensures { IsGiven (Tellings SaysOfPlan texts.now) output.new result needed.new }
+    ensures { IsGiven (Tellings (SaysOfPlan Lending.ByBanker) texts.now) output.new result needed.new }
 {
     let mut source = MemoryInput::new(texts);
     let mut reply = Kept::new(alloc);
-    let status = plan_engine(alloc, &mut source, &mut reply);
+    let status = plan_engine(alloc, Lending::ByBanker, &mut source, &mut reply);
     let bytes = reply.as_slice();
     put_front(output, bytes);
     *needed = bytes.len();

@@ -30,8 +30,12 @@ const SESSION: &[u8] = b"process p begin print 1 end\n%%\np.0 2\n%%\nto 2\nstep 
 const BESIDE: &[u8] =
     b"resource r = 1; process p begin hold 1 of r do skip od end\n%%\nresource r = 1; process q begin skip end";
 
+/// Two processes that each ask for a second one of the resource that they hold.
+const ONE_MORE: &[u8] =
+    b"resource r = 2;\nprocess p begin hold 1 of r do\nhold 1 of r do skip od od end\nprocess q begin hold 1 of r do\nhold 1 of r do skip od od end";
+
 /// At least one call of each crate with an engine but pb_explain, and one of words that say no command.
-const CALLS: [Call; 10] = [
+const CALLS: [Call; 13] = [
     Call {
         words: "run --steps 1",
         input: b"process p begin print 1 end",
@@ -87,6 +91,30 @@ const CALLS: [Call; 10] = [
         last: b"no request waits\norder r\n",
         length: Some(104),
         status: Status::Done,
+    },
+    Call {
+        words: "plan --lend cash",
+        input: BESIDE,
+        first: b"p of text 1 claim 1 r lines 1\nq of text 2 claim 0 r\nr capital 1 least 1 free 1\n",
+        last: b"no request waits\norder r\n",
+        length: Some(104),
+        status: Status::Done,
+    },
+    Call {
+        words: "plan --lend banker",
+        input: ONE_MORE,
+        first: b"p claim 2 r lines 2 3\nq claim 2 r lines 4 5\nr capital 2 least 2 free 4\nbottleneck r\n",
+        last: b"no order\np holds r line 2 around r line 3\n",
+        length: Some(126),
+        status: Status::Done,
+    },
+    Call {
+        words: "plan --lend cash",
+        input: ONE_MORE,
+        first: b"p claim 2 r lines 2 3\nq claim 2 r lines 4 5\nr capital 2 least 2 free 4\nbottleneck r\n",
+        last: b"no order\np holds r line 2 around r line 3\n",
+        length: Some(126),
+        status: Status::Deadlock,
     },
     Call {
         words: "plan",

@@ -2,7 +2,7 @@
 
 use pb_object::Format;
 use pb_options::{
-    CheckOptions, Code, DebugOptions, DrawOptions, EmitOptions, Lend, OutcomesOptions,
+    CheckOptions, Code, DebugOptions, DrawOptions, EmitOptions, Lend, OutcomesOptions, PlanOptions,
     RecordOptions, ReplayOptions, RunOptions, StatesOptions,
 };
 use pb_words::{Options, WordsFault, options};
@@ -82,7 +82,7 @@ fn commands_have_their_defaults(rt: HostRuntime) {
                 lend: Lend::Banker,
             }),
         ),
-        ("plan", Options::Plan),
+        ("plan", Options::Plan(PlanOptions { lend: Lend::Banker })),
         (
             "replay",
             Options::Replay(ReplayOptions { lend: Lend::Banker }),
@@ -267,6 +267,16 @@ fn options_with_one_word_are_read(rt: HostRuntime) {
                 width: None,
                 scale: 400,
             }),
+        ),
+        (
+            "plan",
+            "--lend=banker",
+            Options::Plan(PlanOptions { lend: Lend::Banker }),
+        ),
+        (
+            "plan",
+            "--lend=cash",
+            Options::Plan(PlanOptions { lend: Lend::Cash }),
         ),
         (
             "replay",
@@ -474,6 +484,9 @@ fn other_words_are_refused(rt: HostRuntime) {
         ("record", "--seed=18446744073709551616"),
         ("record", "--seed=seven"),
         ("plan", "text"),
+        ("plan", "--lend=till"),
+        ("plan", "--lend=banker=cash"),
+        ("plan", "--states=3"),
         ("replay", "--steps=3"),
         ("states", "--from=10000001"),
         ("states", "--rows=0"),
@@ -511,7 +524,9 @@ fn refusals_tell_what_there_is(rt: HostRuntime) {
     assert!(rt; is_told(rt.alloc(), &unknown, "error: no refusal has this code"));
     assert!(rt; is_told(rt.alloc(), &unknown, " N1 N2 N3 N4 N6 C1 "));
     let nobody = "error: the value of '--lend' is banker or cash";
-    for command in ["draw", "outcomes", "record", "replay"] {
+    for command in [
+        "debug", "draw", "outcomes", "plan", "record", "replay", "states",
+    ] {
         assert!(rt;
             is_told(rt.alloc(), &["parbegin", command, "--lend", "till"], nobody),
             "{command}"

@@ -45,7 +45,7 @@ fn message_for(alloc: Global, options: &Options, bytes: &[u8]) -> Option<Result<
         )),
         Options::Emit(numbers) => Some(message_of(alloc, reading_of(numbers.object), bytes)),
         Options::Outcomes(numbers) => Some(message_of(alloc, reading_for(numbers.expect), bytes)),
-        Options::Plan => Some(message_of(alloc, Reading::Together, bytes)),
+        Options::Plan(_) => Some(message_of(alloc, Reading::Together, bytes)),
         Options::Run(_) => Some(message_of(alloc, Reading::Text, bytes)),
         Options::Record(_) => Some(message_of(alloc, Reading::Recorded, bytes)),
         Options::Exec(_) | Options::Migrate => Some(message_of(alloc, Reading::Object, bytes)),

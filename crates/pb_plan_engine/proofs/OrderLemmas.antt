@@ -1,6 +1,6 @@
 -- The holds of a program ask for its own resources.
 use Rattle.std.proofs.Common.{◌≡◌, ℕ, ◌<◌, List, [], ◌++◌, Option, Some, None, length, get_or, subst, sym, arith}
-use Rattle.std.specs.Prelude.{All, IfNone, IfSome, MatchOption, option_map}
+use Rattle.std.specs.Prelude.{All, IfNone, IfOk, IfSome, MatchOption, Result, Ok, Err, option_map}
 use Rattle.std.specs.List.{range_with_len}
 use Rattle.std.proofs.lemmas.List.{length-map}
 use Rattle.std.proofs.lemmas.List.Sorted.{All-permutation}
@@ -14,7 +14,7 @@ use Rattle.pb_names.specs.Resolves.{arm_then, assign, hold, if_else, no_arm, no_
 use Rattle.pb_tree.specs.Syntax.{ArmsSyntax, ProgramSyntax, StmtSyntax, StmtsSyntax}
 use Rattle.pb_plan.specs.Nests.{AskBelow, IsOrder}
 use Rattle.pb_plan.specs.Orders.{EachHold, EachHoldAmong, EachHoldOf, IsFollowed}
-use Rattle.pb_plan_engine.specs.PlanLines.{IsOrderOf}
+use Rattle.pb_plan_engine.specs.PlanLines.{HasNoOrder, IsOrderIfAny, IsOrderOf}
 
 module _ (integers resources : List Name) where
   abbrev Below : (around asked : Bundle) → Type 0
@@ -58,23 +58,39 @@ order_below n order is =
     All-permutation (λ r. r < n) (range_with_len 0 n) order is
     (λ k d within. let b = range_below 0 n k d within in omega (arith, b))
 
--- an order that was found, if there is one, by what it has
-pub is_ordered : {X : Type 0} (items : X → List ℕ) (found : Option X) (n : ℕ) (processes : List Process) (program : Program)
-    → n ≡ length program.resources → processes ≡ program.processes → IfSome found (λ x. IsOrder n (items x))
-    → IfSome found (λ x. IsFollowed (items x) processes) → IfNone found ((other : List ℕ) → IsFollowed other processes → ⊥)
-    → MatchOption (option_map items found) ((other : List ℕ) → ¬ IsFollowed other program.processes) (IsOrderOf program)
-is_ordered items (Some x) n processes program many same is followed none = record {
+-- an order that was looked for, by what is said of it
+pub is_ordered : {X E : Type 0} (items : X → List ℕ) (result : Result (Option X) E) (n : ℕ) (processes : List Process) (program : Program)
+    → n ≡ length program.resources → processes ≡ program.processes
+    → IfOk result (λ found. IfSome found (λ x. IsOrder n (items x)))
+    → IfOk result (λ found. IfSome found (λ x. IsFollowed (items x) processes))
+    → IfOk result (λ found. IfNone found ((other : List ℕ) → IsFollowed other processes → ⊥))
+    → IfOk result (λ found. IsOrderIfAny program (option_map items found))
+is_ordered items (Ok (Some x)) n processes program many same is followed none = record {
   all = subst (λ (k : ℕ). IsOrder k (items x)) many is;
   followed = subst (IsFollowed (items x)) same followed;
 }
-is_ordered items None n processes program many same is followed none =
+is_ordered items (Ok None) n processes program many same is followed none =
     λ other of. none other (subst (IsFollowed other) (sym same) of)
+is_ordered items (Err e) n processes program many same is followed none = tt
 
--- each resource of an order that was found is there
-pub found_below : {X : Type 0} (items : X → List ℕ) (found : Option X) (n m : ℕ) → n ≡ m → IfSome found (λ x. IsOrder n (items x))
-    → IfSome found (λ x. All (λ r. r < m) (items x))
-found_below items (Some x) n m same is = subst (λ (k : ℕ). All (λ r. r < k) (items x)) same (order_below n (items x) is)
-found_below items None n m same is = tt
+-- each resource of an order, if there is one, is there
+pub found_below : {X : Type 0} (items : X → List ℕ) (found : Option X) (program : Program) (n : ℕ) → length program.resources ≡ n
+    → IsOrderIfAny program (option_map items found) → IfSome found (λ x. All (λ r. r < n) (items x))
+found_below items (Some x) program n same is =
+    subst (λ (k : ℕ). All (λ r. r < k) (items x)) same (order_below (length program.resources) (items x) is.all)
+found_below items None program n same is = tt
+
+-- if nothing was found, there is no order
+pub no_order : {X : Type 0} (items : X → List ℕ) (found : Option X) (program : Program) → found ≡ None
+    → IsOrderIfAny program (option_map items found) → HasNoOrder program
+no_order items None program same none = none
+no_order items (Some x) program same is = absurd cc
+
+-- an order that was found is one
+pub an_order : {X : Type 0} (items : X → List ℕ) (found : Option X) (x : X) (program : Program) → found ≡ Some x
+    → IsOrderIfAny program (option_map items found) → IsOrderOf program (items x)
+an_order items (Some y) x program same is = let e : y ≡ x = cc in subst (λ (z : X). IsOrderOf program (items z)) e is
+an_order items None x program same is = absurd cc
 
 -- no order was found
 pub none_of : {X : Type 0} {P : Type 0} (found : Option X) → found ≡ None → IfNone found P → P

@@ -8,6 +8,7 @@ use Rattle.std.proofs.lemmas.List.Elements.{All-cons, All-map, All-nil}
 use Rattle.pb_accept.proofs.ClaimLemmas.{names_of_resources}
 use Rattle.pb_base.specs.declared.memory.NoMemory.{NoMemory}
 use Rattle.pb_base.specs.Steppers.{Table}
+use Rattle.pb_base.specs.declared.lending.Lending.{Lending}
 use Rattle.pb_base.specs.Tables.{width_of}
 use Rattle.pb_codegen.proofs.TextOutcomes.{claims_width}
 use Rattle.pb_command_io.specs.Parts.{AreParts}
@@ -20,9 +21,8 @@ use Rattle.pb_names.specs.declared.resolved.Resolved.{Resolved}
 use Rattle.pb_names.specs.declared.resolved.Resource.{Resource}
 use Rattle.pb_plan.specs.Circles.{IsCircle}
 use Rattle.pb_plan.specs.Needs.{AllFree, IsBottleneck}
-use Rattle.pb_plan.specs.Orders.{IsFollowed}
 use Rattle.pb_plan.specs.declared.edge.Edge.{Edge}
-use Rattle.pb_plan_engine.specs.PlanLines.{HasStatus, IsOfTree, IsOrderOf, IsPlan, SaysOfPlan, bodies_of, circle_lines, claims_lines, fault_line, last_line, order_line}
+use Rattle.pb_plan_engine.specs.PlanLines.{HasStatus, IsOfTree, IsOrderIfAny, IsPlan, SaysOfPlan, bodies_of, circle_lines, claims_lines, fault_line, last_line, order_line}
 use Rattle.pb_plan_engine.specs.PlanLines.{planned, refused, text_words}
 use Rattle.pb_plan_engine.specs.PlanLines.{resources_lines}
 use Rattle.pb_joint.specs.Texts.{AreReadAs, AreRefused, are_several, names_of}
@@ -52,7 +52,7 @@ bodies_of_processes {A} program = go program.processes.items
 pub is_plan : {A : Type 0} (called : List Name) (program : Resolved A) (claims : Table) (capital : List ℕ) (found : Option ℕ) (order : Option (List ℕ))
     (circle : List Edge) (first second third fourth fifth whole : List ℕ) (some others last : List (Resource A)) → capital ≡ capital_of (resolved_view program)
     → MatchOption found (AllFree claims capital) (IsBottleneck claims capital)
-    → MatchOption order ((other : List ℕ) → ¬ IsFollowed other (resolved_view program).processes) (IsOrderOf (resolved_view program))
+    → IsOrderIfAny (resolved_view program) order
     → MatchOption order (IsCircle (resolved_view program).processes circle) (λ some. circle ≡ [])
     → some ≡ program.resources.items → others ≡ program.resources.items → last ≡ program.resources.items → first ≡ []
     → second ≡ first ++ claims_lines called (resolved_view program) claims
@@ -112,25 +112,25 @@ capitals_are_small tree program is =
     (small_capitals tree.resources program.resources is.resources)
 
 -- what is said of texts whose program was planned
-pub says_plan : (reply : Result Reply NoMemory) (bytes : List ℕ) (texts : List (List ℕ)) (trees : List ProgramSyntax)
+pub says_plan : (reply : Result Reply NoMemory) (lending : Lending) (bytes : List ℕ) (texts : List (List ℕ)) (trees : List ProgramSyntax)
     (names : List Name) (program : Program) (claims : Table) → AreParts bytes texts → AreReadAs texts trees program claims
-    → names ≡ names_of trees → IfOk reply (λ r. IsPlan names program claims r.text.items × HasStatus program claims r.status)
-    → IfOk reply (λ r. SaysOfPlan bytes r.text.items r.status)
-says_plan (Ok r) bytes texts trees names program claims cut is same made =
+    → names ≡ names_of trees → IfOk reply (λ r. IsPlan names program claims r.text.items × HasStatus lending program claims r.status)
+    → IfOk reply (λ r. SaysOfPlan lending bytes r.text.items r.status)
+says_plan (Ok r) lending bytes texts trees names program claims cut is same made =
     planned texts trees program claims r.text.items r.status cut is
     (subst (λ (ns : List Name). IsPlan ns program claims r.text.items) same made.0) made.1
-says_plan (Err e) bytes texts trees names program claims cut is same made = tt
+says_plan (Err e) lending bytes texts trees names program claims cut is same made = tt
 
 -- what is said of texts that are refused
-pub says_refused : (reply : Result Reply NoMemory) (bytes : List ℕ) (texts : List (List ℕ)) (it : TextFault) (text refusal : List ℕ)
+pub says_refused : (reply : Result Reply NoMemory) (lending : Lending) (bytes : List ℕ) (texts : List (List ℕ)) (it : TextFault) (text refusal : List ℕ)
     (several : Bool) → AreParts bytes texts → AreRefused texts it → fault_line it.fault ≡ Some refusal → several ≡ are_several texts
     → text ≡ text_words several (it.index + 1) ++ refusal → IfOk reply (λ r. (r.text.items ≡ line text) × (r.status ≡ Refused))
-    → IfOk reply (λ r. SaysOfPlan bytes r.text.items r.status)
-says_refused reply bytes texts it text refusal several cut (inl memory) has same is said =
+    → IfOk reply (λ r. SaysOfPlan lending bytes r.text.items r.status)
+says_refused reply lending bytes texts it text refusal several cut (inl memory) has same is said =
     let e : None ≡ Some refusal = ap fault_line (sym memory) ∙ has in absurd cc
-says_refused reply bytes texts it text refusal several cut (inr first) has same is said =
-    of_refusal reply text (SaysOfPlan bytes)
-    (subst (λ (t : List ℕ). SaysOfPlan bytes (line t) Refused)
+says_refused reply lending bytes texts it text refusal several cut (inr first) has same is said =
+    of_refusal reply text (SaysOfPlan lending bytes)
+    (subst (λ (t : List ℕ). SaysOfPlan lending bytes (line t) Refused)
     (sym (is ∙ ap (λ (b : Bool). text_words b (it.index + 1) ++ refusal) same))
     (refused texts it.index it.fault refusal cut first has)) said
 

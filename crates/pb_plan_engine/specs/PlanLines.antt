@@ -1,10 +1,12 @@
 -- What `plan` says of an input, and with which status.
-use Rattle.std.specs.Prelude.{◌≡◌, ℕ, ◌+◌, Bool, List, [], ◌++◌, ◌==◌, codes, cond, length, slice_index, slice_index_or, map, MatchOption}
+use Rattle.std.specs.Prelude.{◌≡◌, ℕ, ◌+◌, Bool, List, [], ◌++◌, ◌==◌, ⊤, codes, cond, length, slice_index, slice_index_or, map, MatchOption}
 use Rattle.std.specs.Prelude.{Option, Some, None, option_map}
 use Rattle.std.specs.Fmt.{decimal}
 use Rattle.std.specs.List.{flat_map}
 use Rattle.pb_base.specs.Banker.{row_of}
 use Rattle.pb_base.specs.Lines.{each_below, line}
+use Rattle.pb_base.specs.declared.lending.Lending.{Lending}
+use Rattle.pb_base.specs.declared.lending.Lending.TheVariants.{ByBanker, ByCash}
 use Rattle.pb_base.specs.Steppers.{Table}
 use Rattle.pb_claims.specs.Fits.{FitCapital, IsFirstOver}
 use Rattle.pb_claims.specs.declared.over_capital.OverCapital.{OverCapital}
@@ -26,7 +28,7 @@ use Rattle.pb_accept.specs.Refusals.{lex_line, names_line, parse_line}
 use Rattle.pb_command_io.specs.Parts.{AreParts}
 use Rattle.pb_joint.specs.Texts.{AreReadAs, IsFirstFault, are_several, names_of}
 use Rattle.pb_command_io.specs.declared.status.Status.{Status}
-use Rattle.pb_command_io.specs.declared.status.Status.TheVariants.{Done, Refused}
+use Rattle.pb_command_io.specs.declared.status.Status.TheVariants.{Deadlock, Done, Refused}
 
 abbrev pub resource_name : List Name → ℕ → Name
 resource_name names r = slice_index_or names r []
@@ -106,10 +108,29 @@ pub record IsOrderOf (program : Program) (order : List ℕ) : Type 0 where
   pub all : IsOrder (length program.resources) order
   pub followed : IsFollowed order program.processes
 
--- the status tells whether the capital is enough for every claim
-pub data HasStatus (program : Program) (claims : Table) : Status → Type 0 where
-  enough : FitCapital claims (capital_of program) → HasStatus program claims Done
-  too_little : (over : OverCapital) → IsFirstOver claims (capital_of program) over → HasStatus program claims Refused
+-- no list is an order that each process follows
+abbrev pub HasNoOrder : Program → Type 0
+HasNoOrder program = (order : List ℕ) → ¬ IsFollowed order program.processes
+
+-- what is looked for: an order that each process follows, or nothing if there is none
+abbrev pub IsOrderIfAny : Program → Option (List ℕ) → Type 0
+IsOrderIfAny program order = MatchOption order (HasNoOrder program) (IsOrderOf program)
+
+-- no deadlock is possible: the banker lends, or each process follows an order
+abbrev pub RulesOutDeadlocks : Lending → Program → Type 0
+RulesOutDeadlocks ByBanker program = ⊤
+RulesOutDeadlocks ByCash program = (order : List ℕ) × IsOrderOf program order
+
+-- a deadlock may be possible: the cash alone decides, and there is no order
+abbrev pub AllowsDeadlocks : Lending → Program → Type 0
+AllowsDeadlocks ByBanker program = ⊥
+AllowsDeadlocks ByCash program = HasNoOrder program
+
+-- the status tells whether the capital is enough for every claim, and if it is, whether a deadlock may be possible
+pub data HasStatus (lending : Lending) (program : Program) (claims : Table) : Status → Type 0 where
+  too_little : (over : OverCapital) → IsFirstOver claims (capital_of program) over → HasStatus lending program claims Refused
+  no_deadlock : FitCapital claims (capital_of program) → RulesOutDeadlocks lending program → HasStatus lending program claims Done
+  may_deadlock : FitCapital claims (capital_of program) → AllowsDeadlocks lending program → HasStatus lending program claims Deadlock
 
 -- some tree is that of the program, with these claims
 pub record IsOfTree (program : Program) (claims : Table) : Type 0 where
@@ -123,7 +144,7 @@ pub record IsPlan (processes : List Name) (program : Program) (claims : Table) (
   pub found : Option ℕ
   pub bottleneck : MatchOption found (AllFree claims (capital_of program)) (IsBottleneck claims (capital_of program))
   pub order : Option (List ℕ)
-  pub ordered : MatchOption order ((other : List ℕ) → ¬ IsFollowed other program.processes) (IsOrderOf program)
+  pub ordered : IsOrderIfAny program order
   pub circle : List Edge
   pub closed : MatchOption order (IsCircle program.processes circle) (λ some. circle ≡ [])
   pub text : said ≡ plan_text processes program claims found order ++ circle_lines processes (resource_names program) circle
@@ -141,11 +162,11 @@ abbrev pub text_words : (several : Bool) → (number : ℕ) → List ℕ
 text_words several number = cond several (codes "text " ++ decimal number ++ codes " ") []
 
 -- what is said of an input, whose parts are texts: one of them is refused, by itself or together with those before it;
--- or they are one program, and that is planned, whatever its capital
-pub data SaysOfPlan (bytes : List ℕ) : List ℕ → Status → Type 0 where
+-- or they are one program, and that is planned, whatever its capital. Who lends changes the status alone
+pub data SaysOfPlan (lending : Lending) (bytes : List ℕ) : List ℕ → Status → Type 0 where
   refused : (texts : List (List ℕ)) (index : ℕ) (fault : CompileFault) (refusal : List ℕ) → AreParts bytes texts
       → IsFirstFault texts index fault → fault_line fault ≡ Some refusal
-      → SaysOfPlan bytes (line (text_words (are_several texts) (index + 1) ++ refusal)) Refused
+      → SaysOfPlan lending bytes (line (text_words (are_several texts) (index + 1) ++ refusal)) Refused
   planned : (texts : List (List ℕ)) (trees : List ProgramSyntax) (program : Program) (claims : Table) (said : List ℕ)
       (status : Status) → AreParts bytes texts → AreReadAs texts trees program claims
-      → IsPlan (names_of trees) program claims said → HasStatus program claims status → SaysOfPlan bytes said status
+      → IsPlan (names_of trees) program claims said → HasStatus lending program claims status → SaysOfPlan lending bytes said status

@@ -1,6 +1,6 @@
 //! The command `plan`, over any input and output.
 
-ghost use Rattle.std.specs.Prelude.{◌≡◌, ◌≢◌, ◌≤◌, ◌++◌, ℕ, IfOk, IfSome, List, OnOk, length, map};
+ghost use Rattle.std.specs.Prelude.{◌≡◌, ◌≤◌, ◌++◌, IfOk, IfSome, List, OnOk, length, map, option_map};
 ghost use Rattle.pb_command_io.specs.Answers.{Tells};
 ghost use Rattle.pb_command_io.specs.Faults.{TellsFaults, TellsWriteFaults};
 ghost use Rattle.pb_command_io.specs.Inputs.{SaysOfInput};
@@ -9,16 +9,16 @@ ghost use Rattle.pb_names.specs.View.{resolved_view};
 ghost use Rattle.pb_names.specs.Resolves.{resource_names};
 ghost use Rattle.pb_plan.specs.Circles.{IsCircle};
 ghost use Rattle.pb_plan.specs.Nests.{AskBelow};
-ghost use Rattle.pb_plan.specs.Orders.{IsFollowed};
 ghost use Rattle.pb_plan.specs.declared.edge.Edge.{Edge as EdgeValue};
-ghost use Rattle.pb_plan_engine.specs.PlanLines.{HasStatus, IsOfTree, IsPlan, SaysOfPlan, circle_lines, claims_lines};
+ghost use Rattle.pb_plan_engine.specs.PlanLines.{HasNoOrder, HasStatus, IsOfTree, IsOrderIfAny, IsPlan, SaysOfPlan};
+ghost use Rattle.pb_plan_engine.specs.PlanLines.{circle_lines, claims_lines};
 ghost use Rattle.pb_base.specs.Tables.{width_of};
 
 use crate::lines::{process_name, put_circle, put_last, put_order, put_process, put_resources};
 use crate::refusal::refusal_text;
 use crate::texts::texts_of;
 use pb_base::limits::MAX_INPUT;
-use pb_base::{Capital, Claims, Input, NoMemory, Output};
+use pb_base::{Capital, Claims, Input, Lending, NoMemory, Output};
 use pb_claims::fits;
 use pb_command_io::{Reply, Status, read_input, refused, tell};
 use pb_joint::read_texts;
@@ -55,15 +55,25 @@ fn put_processes<A: Allocator>(
     Ok(())
 }
 
-/// Returns the status of a plan: whether the capital is enough for every claim.
-fn status<A: Allocator>(program: &Resolved<A>, claims: &Claims, capital: &Capital) -> Status
+/// Returns the status of a plan: whether the capital is enough for every claim, and if it is, whether a deadlock may be
+/// possible when the texts run under this lending.
+fn status<A: Allocator>(
+    lending: Lending,
+    program: &Resolved<A>,
+    claims: &Claims,
+    capital: &Capital,
+    order: &Option<Vec<usize>>,
+) -> Status
     requires width { width_of claims.now ≡ length capital.now }
     requires capital { capital.now ≡ capital_of (resolved_view program.now) }
-    ensures said { HasStatus (resolved_view program.now) claims.now result }
-    ensures no_fault { result ≢ Status.Device }
+    requires ordered { IsOrderIfAny (resolved_view program.now) (option_map (λ order. order.items) order.now) }
+    ensures { HasStatus lending (resolved_view program.now) claims.now result }
 {
     match fits(claims, capital) {
-        Ok(()) => Status::Done,
+        Ok(()) => match (lending, order) {
+            (Lending::ByCash, None) => Status::Deadlock,
+            (Lending::ByCash, Some(_)) | (Lending::ByBanker, _) => Status::Done,
+        },
         Err(over) => {
             let _ = over;
             Status::Refused
@@ -80,7 +90,7 @@ fn with_circle<A: Allocator>(
 ) -> Result<Vec<u8>, NoMemory>
     requires names { length names.now ≡ length program.now.processes.items }
     requires below { AskBelow (length (resolved_view program.now).resources) (resolved_view program.now).processes }
-    requires none { (order : List ℕ) → IsFollowed order (resolved_view program.now).processes → ⊥ }
+    requires none { HasNoOrder (resolved_view program.now) }
     ensures { IfOk result (λ whole. (circle : List EdgeValue) × IsCircle (resolved_view program.now).processes circle
         × (whole.items ≡ text.items ++ circle_lines (map (λ name. name.items) names.now)
         (resource_names (resolved_view program.now)) circle)) }
@@ -92,19 +102,21 @@ fn with_circle<A: Allocator>(
     Ok(whole)
 }
 
-/// Returns the text of the plan of a program with this capital, whose processes are called so.
+/// Returns the text of the plan of a program with this capital, whose processes are called so and follow this order.
 fn plan_text<A: Allocator>(
     alloc: Global,
     names: &[Vec<u8>],
     program: &Resolved<A>,
     claims: &Claims,
     capital: &Capital,
+    order: &Option<Vec<usize>>,
 ) -> Result<Vec<u8>, NoMemory>
     requires numbered { IsOfTree (resolved_view program.now) claims.now }
     requires names { length names.now ≡ length program.now.processes.items }
     requires capital { capital.now ≡ capital_of (resolved_view program.now) }
     requires resources { length capital.now ≡ length program.now.resources.items }
     requires width { width_of claims.now ≡ length capital.now }
+    requires ordered { IsOrderIfAny (resolved_view program.now) (option_map (λ order. order.items) order.now) }
     ensures { IfOk result (λ text. IsPlan (map (λ name. name.items) names.now) (resolved_view program.now) claims.now text.items) }
 {
     let mut text = Vec::new(alloc);
@@ -112,17 +124,28 @@ fn plan_text<A: Allocator>(
     put_resources(&mut text, &program.resources, capital, claims)?;
     let found = bottleneck(claims, capital);
     put_last(&mut text, &program.resources, found)?;
-    let order = find_order(alloc, &program.processes, program.resources.len())?;
-    put_order(&mut text, &program.resources, &order)?;
+    put_order(&mut text, &program.resources, order)?;
     match order {
         Some(_) => Ok(text),
         None => with_circle(alloc, text, names, program),
     }
 }
 
+/// Returns an order of the resources that all processes of a program follow, if there is one.
+fn order_of<A: Allocator>(
+    alloc: Global,
+    program: &Resolved<A>,
+) -> Result<Option<Vec<usize>>, NoMemory>
+    requires below { AskBelow (length (resolved_view program.now).resources) (resolved_view program.now).processes }
+    ensures { IfOk result (λ found. IsOrderIfAny (resolved_view program.now) (option_map (λ order. order.items) found)) }
+{
+    find_order(alloc, &program.processes, program.resources.len())
+}
+
 /// Returns the plan of a program, whose processes are called so.
 fn plan<A: Allocator>(
     alloc: Global,
+    lending: Lending,
     names: &[Vec<u8>],
     program: &Resolved<A>,
     claims: &Claims,
@@ -130,32 +153,33 @@ fn plan<A: Allocator>(
     requires numbered { IsOfTree (resolved_view program.now) claims.now }
     requires names { length names.now ≡ length program.now.processes.items }
     ensures { IfOk result (λ r. IsPlan (map (λ name. name.items) names.now) (resolved_view program.now) claims.now r.text.items
-        × HasStatus (resolved_view program.now) claims.now r.status) }
+        × HasStatus lending (resolved_view program.now) claims.now r.status) }
 {
     let capital = program.capital(alloc)?;
-    let text = plan_text(alloc, names, program, claims, &capital)?;
-    let status = status(program, claims, &capital);
+    let order = order_of(alloc, program)?;
+    let text = plan_text(alloc, names, program, claims, &capital, &order)?;
+    let status = status(lending, program, claims, &capital, &order);
     Ok(Reply { text, status })
 }
 
 /// Returns the plan of the program of texts, or the line of the first refusal of them.
-fn plan_reply(alloc: Global, bytes: &[u8]) -> Result<Reply, NoMemory>
-    ensures { IfOk result (λ reply. SaysOfPlan bytes.now reply.text.items reply.status) }
+fn plan_reply(alloc: Global, lending: Lending, bytes: &[u8]) -> Result<Reply, NoMemory>
+    ensures { IfOk result (λ reply. SaysOfPlan lending bytes.now reply.text.items reply.status) }
 {
     let texts = texts_of(alloc, bytes)?;
     match read_texts(alloc, &texts) {
-        Ok(joint) => plan(alloc, &joint.names, &joint.program, &joint.claims),
+        Ok(joint) => plan(alloc, lending, &joint.names, &joint.program, &joint.claims),
         Err(fault) => refused(refusal_text(alloc, texts.len() > 1, &fault)?),
     }
 }
 
 /// Writes the reply to an input.
-fn tell_plan<O: Output>(alloc: Global, bytes: &[u8], output: &mut O) -> Status
+fn tell_plan<O: Output>(alloc: Global, lending: Lending, bytes: &[u8], output: &mut O) -> Status
     requires { length bytes.now ≤ MAX_INPUT }
-    ensures text { Tells (SaysOfInput SaysOfPlan bytes.now) (O.written output.old) (O.written output.new) result }
+    ensures text { Tells (SaysOfInput (SaysOfPlan lending) bytes.now) (O.written output.old) (O.written output.new) result }
     ensures faults { TellsWriteFaults (O.failures output.old) (O.failures output.new) result }
 {
-    tell(alloc, plan_reply(alloc, bytes), output)
+    tell(alloc, plan_reply(alloc, lending, bytes), output)
 }
 
 /// Writes the plan of the text on the input: for each process and each resource, in the order in which they are
@@ -163,22 +187,28 @@ fn tell_plan<O: Output>(alloc: Global, bytes: &[u8], output: &mut O) -> Status
 /// capital with which the text is accepted, and the least with which there is enough for all claims at once; and
 /// then the resource of which most is lacking for that, or that no request waits; and at the end an order of the
 /// resources that all processes follow, or that there is none, with a circle of nested holds. The status is
-/// `Refused` if some claim is over its capital. Of a text that is not a program the refusal line is written.
+/// `Refused` if some claim is over its capital; otherwise `Deadlock` if the cash alone is to decide on requests and there
+/// is no order. Of a text that is not a program the refusal line is written.
 ///
 /// If lines `%%` part the input, its texts are planned as one program: a process is told with the number of its text,
 /// and so is the refusal of a text that is none by itself, or not together with those before it.
 ///
 /// Writes nothing after a failed read; after a failed write, a prefix of the reply has been written.
-pub fn plan_engine<I: Input, O: Output>(alloc: Global, input: &mut I, output: &mut O) -> Status
+pub fn plan_engine<I: Input, O: Output>(
+    alloc: Global,
+    lending: Lending,
+    input: &mut I,
+    output: &mut O,
+) -> Status
     ensures text { IfSome (I.rest input.old) (λ bytes.
-        Tells (SaysOfInput SaysOfPlan bytes) (O.written output.old) (O.written output.new) result) }
+        Tells (SaysOfInput (SaysOfPlan lending) bytes) (O.written output.old) (O.written output.new) result) }
     ensures faults { TellsFaults
         (record { reads = I.failures input.old; writes = O.failures output.old; written = O.written output.old })
         (record { reads = I.failures input.new; writes = O.failures output.new; written = O.written output.new })
         result }
 {
     match read_input(alloc, input, output) {
-        Ok(bytes) => tell_plan(alloc, bytes.as_slice(), output),
+        Ok(bytes) => tell_plan(alloc, lending, bytes.as_slice(), output),
         Err(status) => status,
     }
 }

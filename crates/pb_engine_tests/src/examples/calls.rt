@@ -1,7 +1,7 @@
 //! Calls of the program's commands on an example.
 
 use pb_bank_engine::bank_engine;
-use pb_base::{MemoryInput, MemoryOutput};
+use pb_base::{Lending, MemoryInput, MemoryOutput};
 use pb_command_io::Status;
 use pb_engines::{
     CheckOptions, EmitOptions, Lend, RecordOptions, ReplayOptions, RunOptions, check_engine,
@@ -29,6 +29,7 @@ pub enum Command {
     Exec { quantum: u32, steps: u32 },
     Migrate,
     Plan,
+    PlanByCash,
     Record { seed: u64 },
     RecordByCash { seed: u64 },
     Replay,
@@ -90,7 +91,8 @@ fn status_of(
             exec_engine(rt, alloc, run_options(quantum, steps)?, &mut input, output)
         }
         Command::Migrate => migrate_engine(alloc, &mut input, output),
-        Command::Plan => plan_engine(alloc, &mut input, output),
+        Command::Plan => plan_engine(alloc, Lending::ByBanker, &mut input, output),
+        Command::PlanByCash => plan_engine(alloc, Lending::ByCash, &mut input, output),
         Command::Record { seed } => {
             let options = RecordOptions {
                 run: run_options(64, 1_000_000)?,

@@ -8,7 +8,7 @@ use pb_example_texts::plan::{COPIES, LISTS, ROOMY, WEEK};
 use std::test::Fail;
 
 #[rattlefmt::skip]
-const CALLS_1: [Call; 8] = [
+const CALLS_1: [Call; 11] = [
     Call {
         name: "devices_plan",
         command: Command::Plan,
@@ -108,6 +108,51 @@ p holds tape line 5 around tape line 7
     Call {
         name: "too_much_plan",
         command: Command::Plan,
+        input: TOO_MUCH,
+        status: Status::Refused,
+        output: b"copy claim 2 tape lines 4
+sort claim 5 tape lines 5 5
+tape capital 4 least 5 free 7
+bottleneck tape
+no order
+sort holds tape line 5 around tape line 5
+",
+    },
+    Call {
+        name: "devices_plan_by_cash",
+        command: Command::PlanByCash,
+        input: DEVICES,
+        status: Status::Deadlock,
+        output: b"a claim 1 tape lines 7
+a claim 1 disk lines 7
+b claim 1 tape lines 11
+b claim 1 disk lines 11
+tape capital 1 least 1 free 2
+disk capital 1 least 1 free 2
+bottleneck tape
+no order
+a holds tape line 7 around disk line 7
+b holds disk line 11 around tape line 11
+",
+    },
+    Call {
+        name: "week_plan_by_cash",
+        command: Command::PlanByCash,
+        input: WEEK,
+        status: Status::Done,
+        output: b"backup claim 2 tape lines 6
+backup claim 1 disk lines 7
+sort claim 3 tape lines 14 15
+sort claim 1 disk lines 16
+tape capital 4 least 3 free 5
+disk capital 2 least 1 free 2
+bottleneck tape
+order tape disk
+",
+    },
+    Call {
+        name: "too_much_plan_by_cash",
+        command: Command::PlanByCash,
         input: TOO_MUCH,
         status: Status::Refused,
         output: b"copy claim 2 tape lines 4

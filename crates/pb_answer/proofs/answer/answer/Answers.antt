@@ -1,6 +1,6 @@
 use Rattle.std.proofs.Common.{inl, inr, subst, rules}
-use Rattle.pb_words.specs.declared.words.Options.TheVariants.{Bank, Check, Dap, Debug, Emit, Exec, Explain, Lsp, Outcomes, Record}
-use Rattle.pb_words.specs.declared.words.Options.TheVariants.{Run, States}
+use Rattle.pb_words.specs.declared.words.Options.TheVariants.{Bank, Check, Dap, Debug, Emit, Exec, Explain, Lsp, Outcomes, Plan}
+use Rattle.pb_words.specs.declared.words.Options.TheVariants.{Record, Run, States}
 use Rattle.pb_words.specs.Read.{WordsSay}
 use Rattle.pb_answer.proofs.AnswerLemmas.{CallTellsFaults-debug, CallWrites-refused}
 use Rattle.pb_answer.proofs.answer.answer.Goals as goal
@@ -105,3 +105,11 @@ returns-in-Ok-Record-clause-faults g c = inl c.record_engine.ensures.faults
 
 pub returns-in-Ok-States-clause-faults : goal.returns-in-Ok-States-clause-faults
 returns-in-Ok-States-clause-faults g c = inl c.states.ensures.faults
+
+pub returns-in-Ok-Plan-clause-text : goal.returns-in-Ok-Plan-clause-text
+returns-in-Ok-Plan-clause-text g c =
+    let read = subst (WordsSay c.args.words.now) c.in-Ok-Plan.field-0-is c.in-Ok-Plan.ensures.read in
+    inl (Plan c.in-Ok-Plan.options, read, c.plan.ensures.text)
+
+pub returns-in-Ok-Plan-clause-faults : goal.returns-in-Ok-Plan-clause-faults
+returns-in-Ok-Plan-clause-faults g c = inl c.plan.ensures.faults

@@ -1,5 +1,6 @@
 use Rattle.pb_codegen.proofs.TextOutcomes.{capital_width, claims_width}
 use Rattle.pb_names.specs.View.{resolved_view}
+use Rattle.pb_plan_engine.proofs.OrderLemmas.{ask_below}
 use Rattle.pb_plan_engine.proofs.PlanLemmas.{capitals_are_small}
 use Rattle.pb_plan_engine.proofs.plan.plan.Goals as goal
 
@@ -22,3 +23,8 @@ status-status-requires-clause-width g c =
 
 pub status-status-requires-clause-capital : goal.status-status-requires-clause-capital
 status-status-requires-clause-capital g c = c.in_ok-capital.ensures
+
+pub order_of-requires : goal.order_of-requires
+order_of-requires g c =
+    let is = c.requires.numbered in
+    ask_below is.tree (resolved_view c.args.program.now) is.numbered

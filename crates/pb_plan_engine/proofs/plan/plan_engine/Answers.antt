@@ -5,7 +5,7 @@ use Rattle.pb_plan_engine.proofs.plan.plan_engine.Goals as goal
 
 pub returns-in-Ok-clause-text : goal.returns-in-Ok-clause-text
 returns-in-Ok-clause-text g c =
-    says_read SaysOfPlan (g.I.Input.rest c.args.input.now) _ _ _ _ _ c.tell_plan.result c.in-Ok.ensures.read
+    says_read (SaysOfPlan c.args.lending) (g.I.Input.rest c.args.input.now) _ _ _ _ _ c.tell_plan.result c.in-Ok.ensures.read
     c.as_slice.ensures.value (ap g.O.Output.written c.in-Ok.ensures.untouched) c.tell_plan.ensures.text
 
 pub returns-in-Ok-clause-faults : goal.returns-in-Ok-clause-faults
@@ -13,7 +13,7 @@ returns-in-Ok-clause-faults g c =
     read_faults _ _ _ _ _ _ _ c.tell_plan.result c.in-Ok.ensures.counted (ap g.O.Output.failures c.in-Ok.ensures.untouched) c.tell_plan.ensures.faults
 
 pub returns-in-Err-clause-text : goal.returns-in-Err-clause-text
-returns-in-Err-clause-text g c = says_unread SaysOfPlan (g.I.Input.rest c.args.input.now) _ _ c.in-Err.status c.in-Err.ensures.told
+returns-in-Err-clause-text g c = says_unread (SaysOfPlan c.args.lending) (g.I.Input.rest c.args.input.now) _ _ c.in-Err.status c.in-Err.ensures.told
 
 pub returns-in-Err-clause-faults : goal.returns-in-Err-clause-faults
 returns-in-Err-clause-faults g c = c.in-Err.ensures.faults

@@ -4,5 +4,5 @@ use Rattle.pb_plan_engine.proofs.plan.tell_plan.Goals as goal
 
 pub returns-clause-text : goal.returns-clause-text
 returns-clause-text g c =
-    told_reply SaysOfPlan c.args.bytes.now c.plan_reply.result _ _ c.tell.result c.requires
+    told_reply (SaysOfPlan c.args.lending) c.args.bytes.now c.plan_reply.result _ _ c.tell.result c.requires
     c.plan_reply.ensures c.tell.ensures.said c.tell.ensures.memory
