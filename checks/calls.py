@@ -13,6 +13,7 @@ BANKS = sorted((TOP / "examples").rglob("*.bank"))
 # The endings of the files of examples/ that a command reads, with how the names of their constants end.
 KINDS = {".pb": "", ".pbo": "_OBJECT", ".run": "_RUN", ".bank": "_COMMANDS"}
 DONE, REFUSED, WORDS, LIMIT, FAULT, MEMORY, DEVICE, THREADS = range(8)
+DEADLOCK = 9
 # The longest input that a command reads, and the longest text.
 MOST_INPUT, MOST_TEXT = 4_194_304, 65_536
 # Commands of the debugger, with the name of a process in place of P.
@@ -124,6 +125,7 @@ def inputs():
     for name, text in texts:
         for command in ("run", "claims", "plan", "check", "emit", "record"):
             yield f"{command} {name}", [command], text
+        yield f"plan --lend cash {name}", ["plan", "--lend", "cash"], text
         yield f"emit --object 1 {name}", ["emit", "--object", "1"], text
         yield f"record --seed 7 {name}", ["record", "--seed", "7"], text
         yield f"record --seed 7 --lend cash {name}", ["record", "--seed", "7", "--lend", "cash"], text

@@ -12,7 +12,7 @@ import shutil
 import subprocess
 import tempfile
 
-from calls import DEVICE, DONE, FAULT, LIMIT, REFUSED, TOP, WORDS, Tally, installed
+from calls import DEADLOCK, DEVICE, DONE, FAULT, LIMIT, REFUSED, TOP, WORDS, Tally, installed
 
 # The words of a call, its status, and what standard output and standard error must have: a part of it, or none.
 CALLS = [
@@ -41,6 +41,13 @@ CALLS = [
     (["--version"], DONE, "parbegin ", None),
     (["outcomes", "--lend", "cash", "hello.pb"], DONE, "1 outcome\n", None),
     (["outcomes", "--lend", "banker", "hello.pb"], DONE, "1 outcome\n", None),
+    (["plan", "--lend", "cash", "hello.pb"], DONE, "order\n", None),
+    (["plan", "--lend", "cash", "devices.pb"], DEADLOCK, "no order\n", None),
+    (["plan", "--lend=banker", "devices.pb"], DONE, "no order\n", None),
+    (["--quiet", "plan", "--lend", "cash", "devices.pb", "hello.pb"], DEADLOCK, "a of text 1 holds tape line 7", None),
+    (["plan", "--lend", "cash", "too_much.pb"], REFUSED, "no order\n", "C1"),
+    (["plan", "--lend", "till", "hello.pb"], WORDS, None, "the value of '--lend' is banker or cash"),
+    (["states", "--lend", "till", "lost.run"], WORDS, None, "the value of '--lend' is banker or cash"),
     (["replay", "--lend", "cash", "lost.run"], DONE, "done\n", None),
     (["record", "--seed", "3", "--lend", "cash", "hello.pb"], DONE, "p.0 3\n", None),
     (["record", "--lend", "cash", "hello.pb"], WORDS, None, "'--lend cash' of 'record' needs '--seed N'"),
@@ -80,7 +87,7 @@ def fits(told: str, wanted: str | None) -> bool:
 
 def fill(folder: pathlib.Path) -> None:
     """Puts files of the examples into a folder, and some with names that are also words."""
-    for name in ("hello.pb", "lost.pb", "lost.run", "1-arms/fault.pb", "6-objects/sum.pbo"):
+    for name in ("hello.pb", "devices.pb", "lost.pb", "lost.run", "1-arms/fault.pb", "4-claims/too_much.pb", "6-objects/sum.pbo"):
         shutil.copy(TOP / "examples" / name, folder)
     hello = (folder / "hello.pb").read_bytes()
     for name in ("hello.txt", "cash", "banker", "5"):

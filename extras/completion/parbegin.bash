@@ -54,7 +54,7 @@ _parbegin() {
         ;;
     migrate) options="" ;;
     outcomes) options="--states --lend --first-deadlock --prints --fair --expect --any-order --graph --run --deadlock" ;;
-    plan) options="" ;;
+    plan) options="--lend" ;;
     record) options="--workers --quantum --steps --seed --lend" ;;
     replay) options="--lend" ;;
     run) options="--workers --quantum --steps" ;;

@@ -40,7 +40,7 @@ complete -c parbegin -n "__fish_seen_subcommand_from explain" -f -a "$codes"
 complete -c parbegin -n "__fish_seen_subcommand_from help" -f -a "$commands"
 complete -c parbegin -n "__fish_seen_subcommand_from $commands; and not __fish_seen_subcommand_from explain help" -F
 complete -c parbegin -n "__fish_seen_subcommand_from outcomes" -l states -x -d "Most configurations, 1 to 4000000"
-complete -c parbegin -n "__fish_seen_subcommand_from debug draw outcomes record replay states" -l lend -x -a "banker cash" -d "Who decides on a request"
+complete -c parbegin -n "__fish_seen_subcommand_from debug draw outcomes plan record replay states" -l lend -x -a "banker cash" -d "Who decides on a request"
 complete -c parbegin -n "__fish_seen_subcommand_from outcomes" -l first-deadlock -d "End at the first deadlock"
 complete -c parbegin -n "__fish_seen_subcommand_from outcomes" -l prints -d "Tell prints apart, and show them"
 complete -c parbegin -n "__fish_seen_subcommand_from outcomes" -l fair -d "Say whether some fair run never ends"
