@@ -89,7 +89,7 @@ no_order items (Some x) program same is = absurd cc
 -- an order that was found is one
 pub an_order : {X : Type 0} (items : X → List ℕ) (found : Option X) (x : X) (program : Program) → found ≡ Some x
     → IsOrderIfAny program (option_map items found) → IsOrderOf program (items x)
-an_order items (Some y) x program same is = let e : y ≡ x = cc in subst (λ (z : X). IsOrderOf program (items z)) e is
+an_order {X} items (Some y) x program same is = let e : y ≡ x = cc in subst (λ (z : X). IsOrderOf program (items z)) e is
 an_order items None x program same is = absurd cc
 
 -- no order was found

@@ -1,6 +1,6 @@
 //! The command `plan`, over any input and output.
 
-ghost use Rattle.std.specs.Prelude.{◌≡◌, ◌≤◌, ◌++◌, IfOk, IfSome, List, OnOk, length, map, option_map};
+ghost use Rattle.std.specs.Prelude.{◌≡◌, ◌≢◌, ◌≤◌, ◌++◌, IfOk, IfSome, List, OnOk, length, map, option_map};
 ghost use Rattle.pb_command_io.specs.Answers.{Tells};
 ghost use Rattle.pb_command_io.specs.Faults.{TellsFaults, TellsWriteFaults};
 ghost use Rattle.pb_command_io.specs.Inputs.{SaysOfInput};
@@ -67,12 +67,14 @@ fn status<A: Allocator>(
     requires width { width_of claims.now ≡ length capital.now }
     requires capital { capital.now ≡ capital_of (resolved_view program.now) }
     requires ordered { IsOrderIfAny (resolved_view program.now) (option_map (λ order. order.items) order.now) }
-    ensures { HasStatus lending (resolved_view program.now) claims.now result }
+    ensures said { HasStatus lending (resolved_view program.now) claims.now result }
+    ensures no_fault { result ≢ Status.Device }
 {
     match fits(claims, capital) {
         Ok(()) => match (lending, order) {
+            (Lending::ByBanker, _) => Status::Done,
+            (Lending::ByCash, Some(_)) => Status::Done,
             (Lending::ByCash, None) => Status::Deadlock,
-            (Lending::ByCash, Some(_)) | (Lending::ByBanker, _) => Status::Done,
         },
         Err(over) => {
             let _ = over;
@@ -136,7 +138,7 @@ fn order_of<A: Allocator>(
     alloc: Global,
     program: &Resolved<A>,
 ) -> Result<Option<Vec<usize>>, NoMemory>
-    requires below { AskBelow (length (resolved_view program.now).resources) (resolved_view program.now).processes }
+    requires { AskBelow (length (resolved_view program.now).resources) (resolved_view program.now).processes }
     ensures { IfOk result (λ found. IsOrderIfAny (resolved_view program.now) (option_map (λ order. order.items) found)) }
 {
     find_order(alloc, &program.processes, program.resources.len())

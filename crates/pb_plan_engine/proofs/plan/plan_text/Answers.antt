@@ -38,8 +38,8 @@ returns-in-Some g c =
     c.deref.ensures.value c.deref-2.ensures.value c.deref-3.ensures.value c.new-text.ensures.items c.in_ok-put_processes.ensures
     c.in_ok-put_resources.ensures c.in_ok-put_last.ensures c.in_ok-put_order.ensures (sym (append-nil _))
 
-pub returns : goal.returns
-returns g c =
+pub returns-in-None : goal.returns-in-None
+returns-in-None g c =
     let view = resolved_view c.args.program.now in
     closed_plan c.with_circle.result (IsPlan (map (λ (n : Vec ℕ Global). n.items) c.args.names.now) view c.args.claims.now) (IsCircle view.processes) _ c.with_circle.ensures
     (λ circle whole is made.
