@@ -3,7 +3,7 @@
 #
 #     ./install.sh [PREFIX]             PREFIX is /usr/local if none is given
 #     ./install.sh PREFIX library       the library for C too, built first: libparbegin.a and libparbegin.so, parbegin.h,
-#                                       parbegin.pc, and the Python module
+#                                       parbegin.pc, and the Python package
 #
 # The program is built first if it has to be. PREFIX/bin/parbegin is the script, PREFIX/libexec/parbegin/pb_cli the
 # program, PREFIX/libexec/parbegin/script what the script does, PREFIX/share/parbegin/page the template of `page`; the
@@ -47,4 +47,6 @@ ln -sf libparbegin.so.0 "$prefix/lib/libparbegin.so"
 echo "$prefix/lib/libparbegin.so"
 put 644 "$built/parbegin.pc" "$prefix/lib/pkgconfig" parbegin.pc
 put 644 "$built/parbegin.h" "$prefix/include" parbegin.h
-put 644 "$top/extras/python/parbegin.py" "$prefix/share/parbegin/python" parbegin.py
+for module in "$top"/extras/python/parbegin/*.py; do
+    put 644 "$module" "$prefix/share/parbegin/python/parbegin" "${module##*/}"
+done

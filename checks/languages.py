@@ -116,7 +116,7 @@ def in_rust(library: Path, room: Path) -> None:
 
 
 def python_with(**names: str) -> dict[str, str]:
-    """Returns the environment in which the module finds what is named, and nothing else."""
+    """Returns the environment in which the package finds what is named, and nothing else."""
     others = {name: value for name, value in os.environ.items() if not name.startswith("PARBEGIN")}
     return {**others, "PYTHONDONTWRITEBYTECODE": "1", "PYTHONPATH": str(EXTRAS / "python"), **names}
 
@@ -143,7 +143,7 @@ def calls_as_the_program(library: Path, room: Path, program: Path) -> None:
 
 
 def through_pipes(program: Path) -> None:
-    """The module without a library asks the program."""
+    """The package without a library asks the program."""
     how = {"cwd": EXTRAS / "python"}
     where = python_with(PARBEGIN_SO="", PARBEGIN=str(program), PARBEGIN_TEST_PROGRAM=str(program))
     run(sys.executable, "-m", "unittest", "-q", "test_parbegin", env=where, **how)

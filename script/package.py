@@ -16,7 +16,7 @@ from script.places import TOP, is_installed, say, stop
 CONTENTS = (
     ("README.md", "share/doc/parbegin"), ("LICENSE", "share/doc/parbegin"), ("docs", "share/doc/parbegin"),
     ("examples", "share/doc/parbegin"), ("extras/vim/*", "share/vim/vimfiles"), ("extras/vscode", "share/parbegin"),
-    ("extras/README.md", "share/parbegin"), ("extras/python/parbegin.py", "lib/python3/dist-packages"),
+    ("extras/README.md", "share/parbegin"), ("extras/python/parbegin", "lib/python3/dist-packages"),
 )
 CONTROL = """Package: parbegin
 Version: {version}

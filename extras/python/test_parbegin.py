@@ -1,4 +1,4 @@
-"""The tests of the module, by `python3 -m unittest`. With PARBEGIN_TEST_PROGRAM the bank is asked through pipes."""
+"""The tests of the package, by `python3 -m unittest`. With PARBEGIN_TEST_PROGRAM the bank is asked through pipes."""
 from __future__ import annotations
 
 import os

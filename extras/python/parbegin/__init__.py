@@ -1,0 +1,27 @@
+"""A proved banker for jobs that come and go, and the commands of parbegin, from Python.
+
+    from parbegin import Bank, Answer
+
+    bank = Bank([1, 1])                 # one tape and one disk
+    first = bank.join([1, 1])           # a job joins with its claims
+    if bank.ask(first, [1, 0]) is Answer.GRANTED:
+        ...
+    bank.leave(first)                   # all comes back
+
+It calls libparbegin.so by ctypes: the file that the variable PARBEGIN_SO names, else the one in this folder, else the
+one that the loader finds. If there is none, it talks with the program `parbegin` through pipes, by its command `bank` and
+the others: the program that the variable PARBEGIN names, else the one on the path. Both say the same.
+
+A call keeps the interpreter's lock, so two threads of Python are never in one bank at once. There are no dependencies.
+"""
+from __future__ import annotations
+
+from .answers import Answer, Fault, Outcome, Reason, Reply
+from .bank import Bank
+from .commands import check, claims, outcomes, plan, run
+from .plans import Claim, Need, Nest, Plan
+
+__all__ = [
+    "Answer", "Bank", "Claim", "Fault", "Need", "Nest", "Outcome", "Plan", "Reason", "Reply", "check", "claims", "outcomes",
+    "plan", "run",
+]
