@@ -70,7 +70,7 @@ ASKED = [
     ("pick p.0", "`to 15` goes there"), ("to 3", "3/15 before p.1 line 7: reads x (0)"), ("threads", "p.2: line 8"),
     ("list", ">  8     x := x + 1"), ("list 10", "print x"), ("arms", "p.0 line 6: waits for p.1 and p.2"),
     ("n", "14/15 p.0 line 10: prints 1"), ("prev", "no event before this position"),
-    ("until p.0 6", "it does not come there"),
+    ("until p.0 6", "it does not come there"), ("until p.0 12", "the text has the lines 1 to 11"), ("print x", "`vars` is what may be meant"),
     ("help", "until P.a N"), ("help u", "for example: until p.1 8"), ("wh", "wh may be who or why"),
     ("line p.0", "p.0: ends the process"), ("loans", "there are no resources"),
     ("circle", "no processes wait for one another"), ("save", "names the file"),
@@ -153,7 +153,7 @@ class Player:
 def try_lost(tally: Tally, script: str, folder: str) -> None:
     """Plays a run through by one key for each pick, and asks at its end."""
     it = Player(script, "debug", str(LOST), folder=folder)
-    tally.expect("processes p; 15 picks; no resources" in it.shown(), "what was loaded")
+    tally.expect("process p; 15 picks; no resources" in it.shown(), "what was loaded")
     shown = [it.type("step" if not at else "") for at in range(15)]
     tally.expect(shown == LOST_PICKS, "fifteen keys show", shown)
     for command, wanted in ASKED:
@@ -198,11 +198,17 @@ def try_circle(tally: Tally, script: str, folder: str) -> None:
         answer = it.type(command)
         tally.expect(wanted in answer, repr(command), "shows", answer)
     tally.expect(it.end() == DONE, "the status of a session by the cash")
+    it = Player(script, "debug", str(CIRCLE), folder=folder)
+    shown = it.shown()
+    tally.expect("error H1: b.0 " in shown and "`to 1`, and then `why b.0`" in shown and "; 1 pick;" in shown, "a refused pick", shown)
+    tally.expect("1/1 a.0 line " in it.type("step") and "could be sure to finish: a b" in it.type("why b"), "the picks before a refused one")
+    it.it.sendline("exit")
+    it.it.expect(pexpect.EOF)
 
 
 def try_long(tally: Tally, script: str, folder: str) -> None:
     """Interrupts a command that may take long: the session goes on where it was."""
-    text = "process p begin integer x; while 1 do x := x + 1 od end\n%%\np.0 9000000\n"
+    text = "process p begin integer x; while 1 do x := x + 1 od;\nprint x end\n%%\np.0 9000000\n"
     pathlib.Path(folder, "long.run").write_text(text)
     it = Player(script, "debug", "long.run", folder=folder)
     it.shown()

@@ -61,7 +61,7 @@ def at_terminal(start: list[str], words: list[str], given: bytes, name: str) -> 
     """Debugs a file at a prompt, and returns the status."""
     # (these are needed here alone, and take some time to load)
     from script.prompt import Prompt
-    from script.session import Refused, Session
+    from script.session import Refused, session_of
 
     first, lines, *commands = [*parts_of(given), b"", b""][: max(3, len(parts_of(given)))]
     first += b"" if first.endswith(b"\n") or not first else b"\n"
@@ -72,7 +72,7 @@ def at_terminal(start: list[str], words: list[str], given: bytes, name: str) -> 
         return subprocess.run([*start, "debug", *words], input=whole(given), check=False).returncode
     try:
         picks = Picks([line.decode() for line in pick_lines])
-        session = Session(start, first, read_code(told.decode()), picks, words)
+        session = session_of(start, first, read_code(told.decode()), picks, words)
         return Prompt(session, name, is_object(first)).run([it.decode(errors="replace") for it in commands[0].splitlines()])
     except Refused as refused:
         if refused.told:

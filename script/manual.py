@@ -40,8 +40,10 @@ COMMANDS = {
 }
 SHORT = {
     "s": "step", "b": "back", "n": "next", "p": "prev", "t": "to", "u": "until", "l": "list", "a": "arms", "v": "vars",
-    "w": "why", "h": "help", "?": "help", "q": "quit",
+    "w": "why", "h": "help", "?": "help", "q": "quit", "exit": "quit",
 }
+# What other debuggers call a command.
+ELSEWHERE = {"print": "vars", "continue": "next", "run": "next", "break": "until", "where": "arms", "info": "arms", "undo": "back"}
 WORDS = "P is a process, P.a an arm of it (p.0 is the body of p), X an integer, R a resource, N a number."
 MORE = "An empty line makes the last move once more. A command may be cut short, as `st` or `s`. Ctrl-C ends a command."
 
@@ -57,6 +59,6 @@ def list_of_commands() -> Iterator[str]:
 def help_of(name: str) -> Iterator[str]:
     """Yields what a command means, with an example."""
     it = COMMANDS[name]
-    short = [key for key, full in SHORT.items() if full == name and key != "?"]
+    short = [key for key, full in SHORT.items() if full == name and len(key) == 1 and key != "?"]
     yield f"  {it.form}: {it.meaning}"
     yield f"  for example: {it.example}" + (f"; `{short[0]}` is short for {name}" if short else "")

@@ -42,6 +42,14 @@ class Picks:
                 return found[count - 1 :: -1]
         return None if count else []
 
+    def first(self, count: int) -> Picks:
+        """Returns the first picks, as many as are asked for."""
+        found = Picks([])
+        for run, (start, arm) in enumerate(zip(self.starts, self.arms)):
+            if start < count:
+                found.add(arm, min(self.end_of(run), count) - start)
+        return found
+
     def lines(self) -> list[str]:
         """Returns the pick lines."""
         return [f"{arm} {self.end_of(run) - self.starts[run]}" for run, arm in enumerate(self.arms)]

@@ -53,7 +53,8 @@ class Prompt(Completion, cmd.Cmd):
         """Returns what was loaded, in a line."""
         code = self.session.code
         resources = ", ".join(f"{capital} {name}" for name, capital in code.resources.items())
-        parts = [f"processes {', '.join(code.processes)}", f"{self.session.picks.total} picks"]
+        processes, total = list(code.processes), self.session.picks.total
+        parts = [f"process{'es' if len(processes) > 1 else ''} {', '.join(processes)}", f"{total} pick{'' if total == 1 else 's'}"]
         parts.append(f"resources: {resources}" if resources else "no resources")
         return f"{self.name}: {'; '.join(parts)}. `help` lists the commands."
 
@@ -156,6 +157,8 @@ class Prompt(Completion, cmd.Cmd):
         """Carries out `until P.a N`."""
         arm, _, line = words.partition(" ")
         arm = self.arm(arm)
+        if not self.is_object and not 1 <= self.number(line) <= len(self.text):
+            raise Mistake(f"the text has the lines 1 to {len(self.text)}")
         self.moved(f"until {arm} {self.number(line)}", f"until {arm} {line}")
 
     def do_pick(self, words: str) -> None:
@@ -264,7 +267,8 @@ class Prompt(Completion, cmd.Cmd):
                 file.write(self.session.given + b"%%\n" + lines.encode())
         except OSError as fault:
             raise Mistake(f"{words}: {fault.strerror}") from None
-        self.say(f"  {words} has the run with its {self.session.picks.total} picks")
+        total = self.session.picks.total
+        self.say(f"  {words} has the run with its {total} pick{'' if total == 1 else 's'}")
 
     # help, the end, completion
 

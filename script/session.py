@@ -9,8 +9,11 @@ from contextlib import contextmanager, suppress
 
 from script.code import Code
 from script.picks import Picks
+from script.places import say
 
 REFUSAL = re.compile(r"refused G\d$")
+# The line of a pick that is not enabled, with its number.
+NOT_ENABLED = re.compile(r"refused H1 at (\d+)")
 
 
 @contextmanager
@@ -147,3 +150,16 @@ class Session:
         held = [line.split() for line in lines[: len(lines) - count]]
         assert len(cash) == len(resources)
         return [(it[0], it[3], int(it[2]), int(it[5])) for it in held], cash
+
+
+def session_of(start: list[str], given: bytes, code: Code, picks: Picks, options: list[str]) -> Session:
+    """Starts a session of these picks; or if one of them is not enabled, of those before it, and says so."""
+    try:
+        return Session(start, given, code, picks, options)
+    except Refused as refused:
+        stopped = NOT_ENABLED.fullmatch(refused.told)
+        if not stopped:
+            raise
+        count = int(stopped[1])
+        say(f"this session has the picks before that one: `to {count}`, and then `why {picks.arm_of(count)}`")
+        return Session(start, given, code, picks.first(count), options)

@@ -4,7 +4,7 @@ from __future__ import annotations
 import os
 from collections.abc import Callable, Iterable
 
-from script.manual import COMMANDS, SHORT
+from script.manual import COMMANDS, ELSEWHERE, SHORT
 from script.session import Session
 
 
@@ -33,7 +33,8 @@ class Typed:
             return f"{found[0]} {rest}".strip()
         if found:
             raise Mistake(f"{word} may be {' or '.join(found)}")
-        raise Mistake(f"no command {word}; `help` lists the commands")
+        like = f"`{ELSEWHERE[word]}` is what may be meant; " if word in ELSEWHERE else ""
+        raise Mistake(f"no command {word}; {like}`help` lists the commands")
 
     def number(self, word: str, default: int | None = None) -> int:
         """Returns a number that was typed."""
