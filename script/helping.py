@@ -10,8 +10,10 @@ from script.places import DEVICE, WORDS
 
 FILES = """
 In place of standard input a FILE may be named: `parbegin run FILE`. So `parbegin COMMAND FILE` is
-`parbegin COMMAND < FILE`; of several, `parbegin check FILE ..` checks each. This text and that of the version
-end with status 0 here, and with 2 if the program is called by itself.
+`parbegin COMMAND < FILE`; of several, `parbegin check FILE ..` checks each, and `parbegin plan FILE ..` plans them
+together. `parbegin page FILE > page.html` makes a page for a browser (`parbegin page --help`). With --json before the
+command each line is a JSON object. This text and that of the version end with status 0 here, and with 2 if the program
+is called by itself.
 """
 CHECK = """
 Of files:

@@ -136,10 +136,13 @@ def main(words: list[str]) -> int:
             from script.package import package
 
             return package([program()])
-        if words[:1] == ["page"]:
+        if words[:2] == ["help", "page"]:
+            words = ["page", "--help"]
+        if words[:1] == ["page"] or words[:2] == ["--quiet", "page"]:
             from script.pages import page
 
-            return page([program()], words[1:])
+            at = words.index("page")
+            return page([program(), *words[:at]], words[at + 1 :])
         if words[:1] == ["library"]:
             from script.library import library
 

@@ -6,7 +6,7 @@ _parbegin() {
         at=$((at + 1))
     done
     if ((COMP_CWORD <= at)); then
-        local commands="bank check claims dap debug draw emit exec explain lsp migrate outcomes plan record replay run states help --help --version"
+        local commands="bank check claims dap debug draw emit exec explain lsp migrate outcomes page plan record replay run states help --help --version"
         if [[ ${COMP_WORDS[at - 1]} != --quiet && ${COMP_WORDS[at - 1]} != --json ]]; then
             commands+=" --quiet"
         fi
@@ -54,6 +54,7 @@ _parbegin() {
         ;;
     migrate) options="" ;;
     outcomes) options="--states --lend --first-deadlock --prints --fair --expect --any-order --graph --run --deadlock" ;;
+    page) options="--seed --lend --from --rows --states" ;;
     plan) options="--lend" ;;
     record) options="--workers --quantum --steps --seed --lend" ;;
     replay) options="--lend" ;;
@@ -61,7 +62,7 @@ _parbegin() {
     states) options="--rows --from --lend" ;;
     help)
         # its word is a command
-        local named="bank check claims dap debug draw emit exec explain lsp migrate outcomes plan record replay run states"
+        local named="bank check claims dap debug draw emit exec explain lsp migrate outcomes page plan record replay run states"
         mapfile -t COMPREPLY < <(compgen -W "$named" -- "$word")
         return
         ;;

@@ -1,5 +1,5 @@
 # Completion of parbegin for fish. To use it: copy this file to ~/.config/fish/completions, or let install.sh do it.
-set -l commands bank check claims dap debug draw emit exec explain lsp migrate outcomes plan record replay run states help
+set -l commands bank check claims dap debug draw emit exec explain lsp migrate outcomes page plan record replay run states help
 
 complete -c parbegin -n "not __fish_seen_subcommand_from $commands" -f
 complete -c parbegin -n "not __fish_seen_subcommand_from $commands" -l unproved -d "Run the sources with no proof"
@@ -21,6 +21,7 @@ complete -c parbegin -n "not __fish_seen_subcommand_from $commands" -a explain -
 complete -c parbegin -n "not __fish_seen_subcommand_from $commands" -a lsp -d "Answer an editor by the Language Server Protocol"
 complete -c parbegin -n "not __fish_seen_subcommand_from $commands" -a migrate -d "Print an object in format 2"
 complete -c parbegin -n "not __fish_seen_subcommand_from $commands" -a outcomes -d "Print every way in which a program can end"
+complete -c parbegin -n "not __fish_seen_subcommand_from $commands" -a page -d "Make a page for a browser"
 complete -c parbegin -n "not __fish_seen_subcommand_from $commands" -a plan -d "Print what a program needs of each resource, and why"
 complete -c parbegin -n "not __fish_seen_subcommand_from $commands" -a record -d "Run a program and print its picks"
 complete -c parbegin -n "not __fish_seen_subcommand_from $commands" -a replay -d "Replay recorded picks"
@@ -39,8 +40,8 @@ complete -c parbegin -n "__fish_seen_subcommand_from exec record run" -l steps -
 complete -c parbegin -n "__fish_seen_subcommand_from explain" -f -a "$codes"
 complete -c parbegin -n "__fish_seen_subcommand_from help" -f -a "$commands"
 complete -c parbegin -n "__fish_seen_subcommand_from $commands; and not __fish_seen_subcommand_from explain help" -F
-complete -c parbegin -n "__fish_seen_subcommand_from outcomes" -l states -x -d "Most configurations, 1 to 4000000"
-complete -c parbegin -n "__fish_seen_subcommand_from debug draw outcomes plan record replay states" -l lend -x -a "banker cash" -d "Who decides on a request"
+complete -c parbegin -n "__fish_seen_subcommand_from outcomes page" -l states -x -d "Most configurations, 1 to 4000000"
+complete -c parbegin -n "__fish_seen_subcommand_from debug draw outcomes page plan record replay states" -l lend -x -a "banker cash" -d "Who decides on a request"
 complete -c parbegin -n "__fish_seen_subcommand_from outcomes" -l first-deadlock -d "End at the first deadlock"
 complete -c parbegin -n "__fish_seen_subcommand_from outcomes" -l prints -d "Tell prints apart, and show them"
 complete -c parbegin -n "__fish_seen_subcommand_from outcomes" -l fair -d "Say whether some fair run never ends"
@@ -51,6 +52,6 @@ complete -c parbegin -n "__fish_seen_subcommand_from outcomes" -l run -x -d "The
 complete -c parbegin -n "__fish_seen_subcommand_from outcomes" -l deadlock -x -d "The program with the picks to this deadlock"
 complete -c parbegin -n "__fish_seen_subcommand_from draw" -l width -x -d "Pixels of the whole picture, 200 to 20000"
 complete -c parbegin -n "__fish_seen_subcommand_from draw" -l scale -x -d "Size in percent, 50 to 400"
-complete -c parbegin -n "__fish_seen_subcommand_from states" -l rows -x -d "Most rows, 1 to 1000000"
-complete -c parbegin -n "__fish_seen_subcommand_from states" -l from -x -d "Begin at this position"
-complete -c parbegin -n "__fish_seen_subcommand_from record" -l seed -x -d "Draw the run by this seed"
+complete -c parbegin -n "__fish_seen_subcommand_from page states" -l rows -x -d "Most rows, 1 to 1000000"
+complete -c parbegin -n "__fish_seen_subcommand_from page states" -l from -x -d "Begin at this position"
+complete -c parbegin -n "__fish_seen_subcommand_from page record" -l seed -x -d "Draw the run by this seed"

@@ -10,8 +10,8 @@
  * All numbers are tested: a job or a resource that is not there, too few amounts, too much of anything. A call that
  * returns anything but PB_DONE changes no bank. The library keeps nothing between calls.
  *
- * It is built for 64 bits with x86-64-v2, and no function may be called from a signal handler. pb_call, pb_check and
- * pb_claims need malloc aligned to 16 bytes, and a stack of 512 KiB.
+ * It is built for 64 bits with x86-64-v2, and no function may be called from a signal handler. pb_call, pb_check,
+ * pb_claims and pb_plan need malloc aligned to 16 bytes, and a stack of 512 KiB.
  */
 #ifndef PARBEGIN_H
 #define PARBEGIN_H

@@ -80,11 +80,13 @@ def documents(program: list[str], given: bytes, options: Options) -> Iterator[tu
     if is_object:
         return
     text = given.partition(b"\n%%\n")[0] + b"\n" if has_picks else given
+    # (what was to be said of the text has been said)
+    quiet = [*program, *["--quiet"] * ("--quiet" not in program)]
     words = ["outcomes", "--graph", "--states", options.states]
-    by_banker = answer(program, words, text, (DONE, LIMIT)).decode().strip()
+    by_banker = answer(quiet, words, text, (DONE, LIMIT)).decode().strip()
     yield "banker", by_banker
     if has_resources(by_banker):
-        yield "cash", answer(program, [*words, "--lend", "cash"], text, (DONE, LIMIT)).decode().strip()
+        yield "cash", answer(quiet, [*words, "--lend", "cash"], text, (DONE, LIMIT)).decode().strip()
 
 
 def has_resources(document: str) -> bool:
