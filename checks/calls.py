@@ -35,6 +35,7 @@ def installed(folder):
     folder = pathlib.Path(folder)
     ignored = shutil.ignore_patterns("__pycache__")
     shutil.copytree(TOP / "script", folder / "libexec/parbegin/script", ignore=ignored)
+    shutil.copytree(TOP / "extras/page", folder / "share/parbegin/page", ignore=ignored)
     shutil.copy(program(), folder / "libexec/parbegin/pb_cli")
     (folder / "bin").mkdir(parents=True)
     return str(shutil.copy(TOP / "parbegin", folder / "bin/parbegin"))

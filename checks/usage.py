@@ -14,6 +14,8 @@ import tempfile
 
 from calls import DEADLOCK, DEVICE, DONE, FAULT, LIMIT, REFUSED, TOP, WORDS, Tally, installed
 
+# The status of `outcomes --expect` if some run is not as expected.
+UNEXPECTED = 10
 # The words of a call, its status, and what standard output and standard error must have: a part of it, or none.
 CALLS = [
     (["run", "hello.pb"], DONE, "p.0 print 1\np end\ndone\n", None),
@@ -61,6 +63,16 @@ CALLS = [
     (["lsp", "hello.pb"], REFUSED, "this is not the header of a message", "parbegin: hello.pb holds no messages: an editor starts lsp"),
     (["help", "lsp"], DONE, "An editor starts this", None),
     (["dap", "--help"], DONE, "An editor starts this", None),
+    (["replay", "hello.pb"], DONE, "open\n", "parbegin: hello.pb has no line %% with picks"),
+    (["outcomes", "--expect", "answer.pb"], DONE, "as expected\n", None),
+    (["outcomes", "--expect", "hello.pb"], UNEXPECTED, "not as expected: other prints\n", "parbegin: hello.pb has no line %% with the prints"),
+    (["hello.pb"], WORDS, None, "hello.pb is a file, and a command comes before it: parbegin run hello.pb"),
+    (["page", "--help"], DONE, "--states <N>", None),
+    (["help", "page"], DONE, "--states <N>", None),
+    (["page", "hello.pb"], DONE, "</html>", None),
+    (["page", "--states", "1", "hello.pb"], DONE, "</html>", "there are more than 1 configurations"),
+    (["--quiet", "page", "--states", "1", "hello.pb"], DONE, "</html>", None),
+    (["page"], WORDS, None, "usage: parbegin page "),
     (["--quiet", "exec", "hello.pb"], REFUSED, "refused O1 at 0", None),
     (["run", "--steps", "2", "hello.pb"], LIMIT, "limit 2\n", "--steps N allows N steps"),
     (["run", "--steps", "2", "hello.pb"], LIMIT, "limit 2\n", "a process with no line `end` or `fault` had not ended"),
@@ -93,6 +105,7 @@ def fill(folder: pathlib.Path) -> None:
     for name in ("hello.txt", "cash", "banker", "5"):
         (folder / name).write_bytes(hello)
     (folder / "two.pb").write_bytes(hello + b"%%\n" + hello)
+    (folder / "answer.pb").write_text("process p begin print 1 end\n%%\np.0 print 1\n")
     (folder / "folder").mkdir()
 
 

@@ -173,7 +173,7 @@ def check_as_text(checker: Checker, source: Source, jobs: int, sums: Sums) -> No
         for (name, given), answer in zip(group, checker.ask_all([given for _, given in group], jobs)):
             sums.add(answer)
             tell_text(name, answer)
-            told = files.advice("check", name, given)
+            told = files.advice("check", [], name, given)
             if told and "--quiet" not in checker.call:
                 say(told)
 

@@ -115,9 +115,18 @@ def has_picks(parts: list[bytes]) -> bool:
     return all(PICK.match(line) for line in parts[1].splitlines())
 
 
-def advice(command: str, name: str, given: bytes) -> str | None:
-    """Returns which command reads this, if this one can't."""
+def advice_on_prints(name: str, parts: list[bytes]) -> str | None:
+    """Returns what is missing for `outcomes --expect`."""
+    if len(parts) > 1:
+        return None
+    return f"{name} has no line %% with the prints that are expected behind it: so none are"
+
+
+def advice(command: str, words: list[str], name: str, given: bytes) -> str | None:
+    """Returns which command reads this, if this one can't, or what is missing."""
     parts = parts_of(given)
+    if command == "outcomes" and "--expect" in words:
+        return advice_on_prints(name, parts)
     if is_object(given) and command in (*OF_TEXTS, *OF_PICKS, "check"):
         if len(parts) > 1:
             return f"{name} is an object with picks: debug and states read it"
@@ -128,13 +137,15 @@ def advice(command: str, name: str, given: bytes) -> str | None:
         return f"{name} has several texts, between lines %%: check reads these, and {command} one text"
     if command in OF_MESSAGES and given.strip() and not given.startswith(MESSAGE):
         return f"{name} holds no messages: an editor starts {command} and writes them; extras/README.md says how"
+    if command in OF_PICKS and len(parts) == 1:
+        return f"{name} has no line %% with picks behind it: record writes a text with those of a run"
     if command in OF_OBJECTS and not is_object(given) and given.strip():
         return f"{name} is no object, which begins with PBO: run runs a text, and emit writes its object"
     return None
 
 
-def advise(command: str, name: str | None) -> None:
-    """Says which command reads a file, or what standard input is, if this one can't. Nothing is taken from it."""
+def advise(command: str, words: list[str], name: str | None) -> None:
+    """Says which command reads a file or standard input, if this one can't, or what is missing. Nothing is taken from it."""
     try:
         if name is None and not stat.S_ISREG(os.fstat(0).st_mode):
             return
@@ -145,6 +156,6 @@ def advise(command: str, name: str | None) -> None:
             os.close(file)
     except OSError:
         return
-    told = advice(command, name or "the input", given)
+    told = advice(command, words, name or "the input", given)
     if told:
         say(told)

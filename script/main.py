@@ -76,7 +76,7 @@ def run_on_file(start: list[str], command: str, words: files.Words) -> int:
 
         return debug(start, words.others, name)
     if "--quiet" not in start:
-        files.advise(command, name)
+        files.advise(command, words.others, name)
     if name and command in ("run", "replay") and len(start) == 1 and os.isatty(2):
         from script.afterwards import run_at_terminal
 
@@ -100,6 +100,8 @@ def run_words(start: list[str], words: list[str]) -> int:
         return helping.show_help(start, words)
     if not words or words[0] not in COMMANDS and words[0] not in helping.commands(start):
         if helping.are_refused(start, words):
+            if words and os.path.isfile(words[0]):
+                say(f"{words[0]} is a file, and a command comes before it: parbegin run {words[0]}")
             return WORDS
         start_program(start, words)
     return run_command(start, words[0], words[1:])
