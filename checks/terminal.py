@@ -238,7 +238,7 @@ def try_others(tally: Tally, script: str, folder: str) -> None:
     tally.expect("p: x = 0" in shown, "commands in the file", shown)
     it.end()
     it = Player(script, "run", folder=folder)
-    it.it.expect("parbegin: waiting for a text from the terminal")
+    it.it.expect("parbegin: waiting at the terminal for a text")
     it.it.send("process p begin print 7 end\n")
     tally.expect(it.end() == DONE and "p.0 print 7" in it.it.before, "a text that is typed", it.it.before)
 

@@ -15,7 +15,7 @@ AWAITED = {
     "check": "texts, with lines %% between them", "plan": "a text, or several with lines %% between them", "exec": "an object", "migrate": "an object",
     "replay": "a text, a line %% and pick lines", "draw": "a text, a line %% and pick lines",
     "debug": "a text, a line %%, pick lines, a line %% and commands", "states": "a text or an object, a line %% and pick lines",
-    "bank": "commands, of which help lists all", "dap": "messages of the Debug Adapter Protocol",
+    "bank": "commands, which `help` lists", "dap": "messages of the Debug Adapter Protocol",
     "lsp": "messages of the Language Server Protocol",
 }
 
@@ -31,7 +31,7 @@ def start_program(start: list[str], words: list[str]) -> None:
 def tell_what_it_awaits(command: str) -> None:
     """Says what is to be typed, if standard input is a terminal."""
     if os.isatty(0):
-        say(f"waiting for {AWAITED.get(command, 'a text')} from the terminal; Ctrl-D at the start of a line ends it")
+        say(f"waiting at the terminal for {AWAITED.get(command, 'a text')}. Ctrl-D at the start of a line ends it")
 
 
 def as_codes(words: list[str]) -> list[str]:
