@@ -21,7 +21,7 @@ from calls import TOP, Tally, installed
 
 DOCUMENTS = [TOP / "README.md", TOP / "examples/README.md", TOP / "extras/README.md", *sorted((TOP / "docs").glob("*.md"))]
 BLOCK = re.compile(r"^( *)```([^\n]*)\n(.*?)^\1```$", re.M | re.S)
-PATH = re.compile(r"(?<![\w/.])(?:crates|docs|examples|checks|benches|extras)/[\w./{},*-]*\w\.\w+")
+PATH = re.compile(r"(?<![\w/.])(?:crates|docs|examples|checks|benches|extras|script)/[\w./{},*-]*[\w}*]\.\w+")
 
 
 def commands_of(text):

@@ -7,8 +7,9 @@ A room is a section of crates.txt, which begins with a comment line `# NAME: SEN
 each room, in the same order, with that sentence, and a table of the room's crates in the order of crates.txt, at most
 15 words each; its last column names crates that test the row's crate, so they use it, maybe by way of others. No crate
 stands before one that it uses, no folder of crates/ is without its line, and a line of the drawing leads from one room
-down to another exactly if the first uses the second and does not reach it by way of a third. The status is 0 if all
-that is so, and 1 if not.
+down to another exactly if the first uses the second and does not reach it by way of a third. And the table of the
+section on `run` has the files that its contract cites, by themselves or through one another, each behind those that it
+cites. The status is 0 if all that is so, and 1 if not.
 """
 from __future__ import annotations
 
@@ -33,6 +34,9 @@ LINES = {
     "┴": {LEFT, RIGHT, UP},
 }
 Rooms = dict[str, tuple[str, list[str]]]
+RUN = TOP / "crates/pb_engines/src/run.rt"
+SECTION = "## What the contract of `run` rests on\n"
+CITED = re.compile(r"^(?:pub |ghost )?use Rattle\.(pb_\w+)\.specs\.(declared\.)?(\w+)", re.M)
 
 
 def read_crates(text: str) -> tuple[Rooms, dict[str, list[str]]]:
@@ -151,11 +155,53 @@ def faults_of_order(rooms: Rooms, uses: dict[str, list[str]]) -> list[str]:
     return faults
 
 
+def cited_by(file: Path) -> set[Path]:
+    """Returns the files of specs/ that a file cites, and those of src/ whose declarations it does."""
+    cited = CITED.findall(file.read_text(encoding="utf-8"))
+    return {TOP / f"crates/{crate}" / (f"src/{name}.rt" if at else f"specs/{name}.antt") for crate, at, name in cited}
+
+
+def rests_on(file: Path) -> set[Path]:
+    """Returns the files that a file cites, by themselves or through one another."""
+    found: set[Path] = set()
+    waiting = [file]
+    while waiting:
+        new = {it for it in cited_by(waiting.pop()) if it.exists()} - found
+        found |= new
+        waiting += [it for it in new if it.suffix == ".antt"]
+    return found
+
+
+def files_of_table(section: str) -> list[Path]:
+    """Returns the files that the table of a section names, in order."""
+    found = []
+    for path in re.findall(r"crates/[\w/{},]+\.(?:rt|antt)", section):
+        before, _, others = path.partition("{")
+        names, _, behind = others.partition("}")
+        found += [TOP / f"{before}{name}{behind}" for name in names.split(",")] if others else [TOP / path]
+    return found
+
+
+def faults_of_run(document: str) -> list[str]:
+    """Returns what the section on `run` has wrong."""
+    section = document.partition(SECTION)[2].partition("\n## ")[0]
+    table, wanted = files_of_table(section), rests_on(RUN)
+    faults = [f"the table of `run` lacks {it.relative_to(TOP)}" for it in sorted(wanted - set(table))]
+    faults += [f"the table of `run` has {it.relative_to(TOP)}" for it in sorted(set(table) - wanted)]
+    for number, file in enumerate(table):
+        behind = cited_by(file) & set(table[number + 1 :]) if file.suffix == ".antt" else set()
+        faults += [f"the table of `run`: {file.relative_to(TOP)} cites {it.name}, which is behind it" for it in sorted(behind)]
+    counts = [str(sum(it.suffix == suffix for it in table)) for suffix in (".antt", ".rt")]
+    if re.findall(r"(\d+) files of `", section) != counts:
+        faults.append(f"the table of `run` has {' and '.join(counts)} files of specs/ and src/")
+    return faults
+
+
 def main() -> int:
     rooms, uses = read_crates((TOP / "crates.txt").read_text(encoding="utf-8"))
     document = (TOP / "docs/ARCHITECTURE.md").read_text(encoding="utf-8")
     wanted, drawn = wanted_arrows(rooms, uses), drawn_arrows(document.split("```")[1].splitlines())
-    faults = faults_of_order(rooms, uses) + faults_of_tables(rooms, uses, tables_of(document))
+    faults = faults_of_order(rooms, uses) + faults_of_tables(rooms, uses, tables_of(document)) + faults_of_run(document)
     faults += [f"the drawing lacks {above} -> {below}" for above, below in sorted(wanted - drawn)]
     faults += [f"the drawing has {above} -> {below}" for above, below in sorted(drawn - wanted)]
     for fault in faults:
