@@ -28,6 +28,7 @@ CALLS = (
     (["check"], "examples/devices.pb"),
     (["claims"], "examples/devices.pb"),
     (["plan"], "examples/devices.pb"),
+    (["plan", "--lend=cash"], "examples/devices.pb"),
     (["plan"], "examples/9-plan/copies.pb examples/9-plan/lists.pb"),
     (["emit"], "examples/devices.pb"),
     (["outcomes"], "examples/devices.pb"),
