@@ -41,16 +41,16 @@ changes_free uri edits free =
     or_from (items_have_float (items_of edits) || false) false
     (or_from (items_have_float (items_of edits)) false free refl) refl
 
-cond_free : (b : Bool) (d : Data) → has_float d ≡ false → has_float (cond b d null) ≡ false
-cond_free true d free = free
-cond_free false d free = refl
+or_null_free : (b : Bool) (d : Data) → has_float d ≡ false → has_float (cond b d null) ≡ false
+or_null_free true d free = free
+or_null_free false d free = refl
 
 pub rename_free : (uri text name : List ℕ) (places : List Place) (one : Option Place)
     → has_float (rename_data uri text name places one) ≡ false
 rename_free uri text name places None = refl
 rename_free uri text name places (Some one) =
     let edits = map (edit_data text name) (filter (is_same_name one) places) in
-    cond_free (is_name name && not (is_taken one name places)) (changes_data uri edits)
+    or_null_free (is_name name && not (is_taken one name places)) (changes_data uri edits)
     (changes_free uri edits (map_free (edit_data text name) (λ place. refl) (filter (is_same_name one) places)))
 
 -- ---- symbols
