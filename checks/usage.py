@@ -86,6 +86,8 @@ CALLS = [
     (["run", "--json", "hello.pb"], DONE, '"value":1}\n', None),
     (["run", "hello.pb", "--json"], DONE, '"value":1}\n', None),
     (["--quiet", "--json", "exec", "hello.pb"], REFUSED, '{"kind":"refused","code":"O1","at":0}\n', None),
+    (["exec", "hello.pb", "--quiet"], REFUSED, "refused O1 at 0", None),
+    (["--json", "--quiet", "exec", "hello.pb"], REFUSED, '{"kind":"refused","code":"O1","at":0}\n', None),
     (["--json", "run", "--steps", "x", "hello.pb"], WORDS, None, "invalid value 'x'"),
     (["draw", "lost.run"], DONE, "<svg", None),
     (["debug", "nosuch.run"], DEVICE, None, "parbegin: no such file: nosuch.run\n"),

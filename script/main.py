@@ -89,13 +89,15 @@ def run_on_file(start: list[str], command: str, words: files.Words) -> int:
     return DEVICE
 
 
+def to_front(start: list[str], words: list[str]) -> tuple[list[str], list[str]]:
+    """Puts `--quiet` and `--json` before the command, wherever they stand, in the order in which the program takes them."""
+    found = [word for word in ("--quiet", "--json") if word in words]
+    return [*start, *found], [word for word in words if word not in found]
+
+
 def run_words(start: list[str], words: list[str]) -> int:
     """Runs the program with these words, of which some may name files."""
-    for word in ("--quiet", "--json"):
-        if words[:1] == [word]:
-            start, words = [*start, word], words[1:]
-    if "--json" not in start and "--json" in words[1:]:
-        start, words = [*start, "--json"], [word for word in words if word != "--json"]
+    start, words = to_front(start, words)
     if helping.asks_for_help(words):
         return helping.show_help(start, words)
     if not words or words[0] not in COMMANDS and words[0] not in helping.commands(start):
