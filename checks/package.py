@@ -24,6 +24,7 @@ PARTS = (
     "share/bash-completion/completions/parbegin", "share/fish/vendor_completions.d/parbegin.fish",
     "share/vim/vimfiles/syntax/parbegin.vim", "share/parbegin/vscode/package.json", "share/doc/parbegin/README.md",
     "share/doc/parbegin/docs/LANGUAGE.md", "share/doc/parbegin/examples/devices.pb",
+    "lib/python3/dist-packages/parbegin/__init__.py", "share/parbegin/page/page.html",
 )
 
 

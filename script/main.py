@@ -114,14 +114,28 @@ COMMANDS = (
     "bank", "check", "claims", "dap", "debug", "draw", "emit", "exec", "explain", "lsp", "migrate", "outcomes", "plan", "record",
     "replay", "run", "states",
 )
+# Words with which the program only says something of itself.
+WITHOUT_WORK = ("help", "--help", "-h", "--version", "-V")
 
 
 def run_unproved(words: list[str]) -> int:
-    """Runs the sources once with no proof, on a file if one is named."""
+    """Runs the sources once with no proof, on a file if one is named. What they could not do is told before."""
     from script.trial import run_unproved as run_trial
 
+    command = next((word for word in words if word not in ("--quiet", "--json")), None)
+    if command not in (*COMMANDS, *WITHOUT_WORK):
+        say(f"--unproved takes a command of the program: {', '.join(COMMANDS)}")
+        return WORDS
+    missing = [word for word in words[1:] if not word.startswith("-") and {".", "/"} & set(word) and not os.path.exists(word)]
+    for name in missing:
+        files.tell_missing(name)
+    if missing:
+        return DEVICE
     named = [word for word in words[1:] if not word.startswith("-") and os.path.isfile(word)]
-    if len(named) == 1 and words[0] not in files.NO_FILES:
+    if len(named) > 1:
+        say(f"--unproved takes one file, and here are {len(named)}: {', '.join(named)}")
+        return WORDS
+    if len(named) == 1 and command not in files.NO_FILES:
         files.give_file(named[0])
         words = [word for word in words if word != named[0]]
     return run_trial(words)
