@@ -64,6 +64,7 @@ CALLS = [
     (["help", "lsp"], DONE, "An editor starts this", None),
     (["dap", "--help"], DONE, "An editor starts this", None),
     (["replay", "hello.pb"], DONE, "open\n", "parbegin: hello.pb has no line %% with picks"),
+    (["replay", "crlf.run"], REFUSED, "refused L2", "save it with the line ends of Unix"),
     (["outcomes", "--expect", "answer.pb"], DONE, "as expected\n", None),
     (["outcomes", "--expect", "hello.pb"], UNEXPECTED, "not as expected: other prints\n", "parbegin: hello.pb has no line %% with the prints"),
     (["hello.pb"], WORDS, None, "hello.pb is a file, and a command comes before it: parbegin run hello.pb"),
@@ -107,6 +108,7 @@ def fill(folder: pathlib.Path) -> None:
     for name in ("hello.txt", "cash", "banker", "5"):
         (folder / name).write_bytes(hello)
     (folder / "two.pb").write_bytes(hello + b"%%\n" + hello)
+    (folder / "crlf.run").write_bytes(b"process p begin print 1 end\r\n%%\r\np.0 3\r\n")
     (folder / "answer.pb").write_text("process p begin print 1 end\n%%\np.0 print 1\n")
     (folder / "folder").mkdir()
 
