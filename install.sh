@@ -40,7 +40,7 @@ put 644 "$top/extras/completion/parbegin.fish" "$prefix/share/fish/vendor_comple
 [ "${2-}" = library ] || exit 0
 built=$(mktemp -d)
 trap 'rm -rf "$built"' EXIT
-"$top/parbegin" library "$built" "$prefix" >/dev/null
+"$top/parbegin" library "$built" >/dev/null
 put 644 "$built/libparbegin.a" "$prefix/lib" libparbegin.a
 put 755 "$built/libparbegin.so" "$prefix/lib" libparbegin.so.0
 ln -sf libparbegin.so.0 "$prefix/lib/libparbegin.so"

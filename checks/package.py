@@ -1,15 +1,16 @@
 #!/usr/bin/env python3
 """Unpacks what `./parbegin package` writes, the Debian package and the tar.gz, each into an empty folder, and runs the
-program there, with no kit on the path.
+program there, with no kit on the path; and calls the library from C, by pkg-config, and from Python.
 
     checks/package.py
 
-Its status is 0 if all is as wanted, and 1 if not.
+It wants gcc and pkg-config. Its status is 0 if all is as wanted, and 1 if not.
 """
 from __future__ import annotations
 
 import os
 import pathlib
+import shutil
 import subprocess
 import sys
 import tarfile
@@ -24,7 +25,8 @@ PARTS = (
     "share/bash-completion/completions/parbegin", "share/fish/vendor_completions.d/parbegin.fish",
     "share/vim/vimfiles/syntax/parbegin.vim", "share/parbegin/vscode/package.json", "share/doc/parbegin/README.md",
     "share/doc/parbegin/docs/LANGUAGE.md", "share/doc/parbegin/examples/devices.pb",
-    "lib/python3/dist-packages/parbegin/__init__.py", "share/parbegin/page/page.html",
+    "lib/python3/dist-packages/parbegin/__init__.py", "share/parbegin/page/page.html", "lib/libparbegin.a", "lib/libparbegin.so",
+    "lib/pkgconfig/parbegin.pc", "include/parbegin.h",
 )
 
 
@@ -62,6 +64,22 @@ def try_prefix(tally: Tally, name: str, prefix: pathlib.Path) -> None:
     tally.expect(run(prefix, "--version")[0] == DONE, name, "the version")
 
 
+def try_library(tally: Tally, name: str, prefix: pathlib.Path, folder: pathlib.Path) -> None:
+    """Builds and runs the night of a batch runner in C, as pkg-config says, and the one in Python."""
+    there = {**EMPTY, "PKG_CONFIG_PATH": f"{prefix}/lib/pkgconfig", "LD_LIBRARY_PATH": f"{prefix}/lib"}
+    night, wanted = folder / "night", (TOP / "extras/library/night.stdout").read_bytes()
+    flags = subprocess.run(["pkg-config", "--cflags", "--libs", "parbegin"], env=there, capture_output=True, text=True, check=False)
+    words = ["gcc", TOP / "extras/library/night.c", *flags.stdout.split(), "-o", night]
+    tally.expect(subprocess.run(words, env=there, check=False).returncode == 0, name, "the night in C is not built")
+    ran = subprocess.run([night], env=there, capture_output=True, check=False)
+    tally.expect((ran.returncode, ran.stdout) == (DONE, wanted), name, "the night in C", ran)
+    # (there is no program on the path that it could ask in place of the library)
+    python = {**there, "PYTHONPATH": f"{prefix}/lib/python3/dist-packages", "PYTHONDONTWRITEBYTECODE": "1"}
+    copied, wanted = shutil.copy(TOP / "extras/python/night.py", folder), (TOP / "extras/python/night.stdout").read_bytes()
+    ran = subprocess.run(["python3", copied], env=python, capture_output=True, check=False)
+    tally.expect((ran.returncode, ran.stdout) == (DONE, wanted), name, "the night in Python", ran)
+
+
 def main() -> None:
     tally = Tally()
     ran = subprocess.run([TOP / "parbegin", "package"], stderr=subprocess.PIPE, text=True, check=False)
@@ -70,6 +88,7 @@ def main() -> None:
     with tempfile.TemporaryDirectory(prefix="parbegin-package-") as folder:
         for name, prefix in unpacked(pathlib.Path(folder)).items():
             try_prefix(tally, name, prefix)
+            try_library(tally, name, prefix, pathlib.Path(folder))
     tally.end("package")
 
 

@@ -16,7 +16,7 @@ from script.places import TOP, is_installed, say, stop
 CONTENTS = (
     ("README.md", "share/doc/parbegin"), ("LICENSE", "share/doc/parbegin"), ("docs", "share/doc/parbegin"),
     ("examples", "share/doc/parbegin"), ("extras/vim/*", "share/vim/vimfiles"), ("extras/vscode", "share/parbegin"),
-    ("extras/README.md", "share/parbegin"), ("extras/python/parbegin", "lib/python3/dist-packages"),
+    ("extras/README.md", "share/parbegin"),
 )
 CONTROL = """Package: parbegin
 Version: {version}
@@ -39,8 +39,10 @@ def version(start: list[str]) -> str:
 
 
 def fill(prefix: str) -> None:
-    """Puts all that is packed under a prefix."""
-    subprocess.run([f"{TOP}/install.sh", prefix], stdout=subprocess.DEVNULL, check=True)
+    """Puts all that is packed under a prefix, the library for C too."""
+    subprocess.run([f"{TOP}/install.sh", prefix, "library"], stdout=subprocess.DEVNULL, check=True)
+    # (where Debian's Python looks for packages)
+    shutil.move(f"{prefix}/share/parbegin/python", f"{prefix}/lib/python3/dist-packages")
     for pattern, folder in CONTENTS:
         for path in sorted(pathlib.Path(TOP).glob(pattern)):
             to = pathlib.Path(prefix, folder, path.name)
@@ -52,12 +54,13 @@ def fill(prefix: str) -> None:
 
 
 def write_control(root: str, number: str) -> None:
-    """Writes what dpkg has to know."""
+    """Writes what dpkg has to know, and that the loader has a new library to find."""
     files = [path for path in pathlib.Path(root).rglob("*") if path.is_file()]
     size = sum(path.stat().st_size for path in files) // 1024 + 1
     (pathlib.Path(root) / "DEBIAN").mkdir()
     maintainer = "the authors of parbegin <parbegin@localhost>"
     (pathlib.Path(root) / "DEBIAN/control").write_text(CONTROL.format(version=number, size=size, maintainer=maintainer))
+    (pathlib.Path(root) / "DEBIAN/triggers").write_text("activate-noawait ldconfig\n")
 
 
 def write_package(root: str, file: str) -> None:

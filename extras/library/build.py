@@ -1,7 +1,7 @@
 #!/usr/bin/env python3
 """Builds the library for C and for whatever calls C: libparbegin.a, libparbegin.so, parbegin.h and parbegin.pc.
 
-    extras/library/build.py FOLDER [PREFIX]     builds it into FOLDER, for an installation under PREFIX (/usr/local)
+    extras/library/build.py FOLDER     builds it into FOLDER
 
 The crates pb_c_bank and pb_c_call are proved and built by the kit's `rt lib`, which proves what they use first if that is
 not built yet. Wants `rt`, `gcc` and `ar`.
@@ -33,7 +33,6 @@ NAMES = (
     "pb_claims",
     "pb_plan",
 )
-VERSION = "1.0.0"
 
 
 class Unbuilt(Exception):
@@ -94,8 +93,8 @@ def link(archive: Path, shared: Path) -> None:
     soname.symlink_to(shared.name)
 
 
-def build_library(top: str, into: str, prefix: str = "/usr/local") -> None:
-    """Builds the library of the checkout `top` into the folder `into`, for an installation under `prefix`.
+def build_library(top: str, into: str) -> None:
+    """Builds the library of the checkout `top` into the folder `into`.
 
     Raises Unbuilt if a program that it needs is not there or fails.
     """
@@ -104,17 +103,15 @@ def build_library(top: str, into: str, prefix: str = "/usr/local") -> None:
     archive = folder / "libparbegin.a"
     merge([*archives(Path(top)), heap()], archive)
     link(archive, folder / "libparbegin.so")
-    shutil.copyfile(HERE / "parbegin.h", folder / "parbegin.h")
-    told = (HERE / "parbegin.pc.in").read_text(encoding="utf-8")
-    told = told.replace("@prefix@", prefix).replace("@version@", VERSION)
-    (folder / "parbegin.pc").write_text(told, encoding="utf-8")
+    for name in ("parbegin.h", "parbegin.pc"):
+        shutil.copyfile(HERE / name, folder / name)
 
 
 def main(words: list[str]) -> int:
-    if len(words) not in (1, 2):
-        sys.exit("usage: extras/library/build.py FOLDER [PREFIX]")
+    if len(words) != 1:
+        sys.exit("usage: extras/library/build.py FOLDER")
     try:
-        build_library(str(TOP), *words)
+        build_library(str(TOP), words[0])
     except Unbuilt as fault:
         sys.exit(f"{fault}")
     print(f"{words[0]}: libparbegin.a libparbegin.so parbegin.h parbegin.pc")
