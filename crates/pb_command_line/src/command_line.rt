@@ -16,9 +16,9 @@ use std::alloc::{AllocError, Global};
 /// The version, and the line of `rt version` of the kit that it was proved with.
 const VERSION: &str = "1.0\nproved with rattle-kit-13f logic dac8208d650f15bf";
 
-/// What is above the help. `--quiet` is taken off before these words are read.
+/// What is above the help. `--quiet` and `--json` are taken off before these words are read.
 const ABOUT: &str =
-    "Programs with parbegin: checked, run, recorded, debugged and drawn.\nWith --quiet before the command no message explains a refused input";
+    "Programs with parbegin: checked, run, recorded, debugged and drawn.\nWith --quiet before the command no message explains a refused input; with --json behind that, or alone, each line is written as a JSON object";
 
 /// The help of the option that says who decides on a request.
 const LEND: &str = "Who decides on a request: banker or cash";
