@@ -8,7 +8,7 @@ use Rattle.std.proofs.lemmas.List.Elements.{All-drop, All-head, All-tail}
 use Rattle.std.proofs.lemmas.List.Sorted.{sum_by-IsPermutation}
 use Rattle.pb_base.specs.declared.pair.Pair.{Pair}
 use Rattle.pb_base.specs.Bundle.{IsDistinct, amount_in}
-use Rattle.pb_base.specs.Banker.{BankerState, capital, claim, loan, processes, resources, everyone, held_by}
+use Rattle.pb_base.specs.Banker.{BankerState, capital, cash, claim, loan, processes, resources, everyone, held_by}
 use Rattle.pb_base.specs.Banker.{with_loan, IsWellFormed, IsWithinCash, IsWithinClaim, Finishes}
 use Rattle.pb_base.proofs.BankerLaws.{loan-with_loan, loan-with_loan_other, order_below}
 use Rattle.pb_base.proofs.Groups.{range_below, sum_by-le_on, sum_by-same_on, sum_by-one_other, times-range_one}
@@ -54,6 +54,17 @@ instead f g p n within less xs below swap =
     ]) in
     omega (arith, one, here, under)
 
+-- there is cash for a request within the claim, if there is enough for all claims at once
+pub room_for : (s : BankerState) (p r amount : ℕ) → p < processes s → ((q : ℕ) → q < processes s → loan s q r ≤ claim s q r)
+    → loan s p r + amount ≤ claim s p r → IsFree s.claims s.capital r → amount ≤ cash s r
+room_for s p r amount lp fits asks free =
+    let below : All (λ q. q < processes s) (everyone s) =
+    λ k d l. (let b = range_below 0 (processes s) k d l in omega (arith, b)) in
+    let sums =
+    instead (λ q. loan s q r) (λ q. claim s q r) p (processes s) lp fits (everyone s) below
+    (λ h same. sum_by-one_other (λ q. loan s q r) h p same (everyone s) (times-range_one p 0 (processes s) (omega arith) (omega (arith, lp)))) in
+    omega (arith, sums, asks, free)
+
 module _ (s : BankerState) (p : ℕ) (pairs : List Pair) (good : IsWellFormed s) (lp : p < processes s)
     (distinct : IsDistinct pairs) (below : All (λ pair. pair.resource < resources s) pairs)
     (free : All (λ pair. IsFree s.claims s.capital pair.resource) pairs) (within : IsWithinClaim s p pairs) where
@@ -63,20 +74,11 @@ module _ (s : BankerState) (p : ℕ) (pairs : List Pair) (good : IsWellFormed s)
   all_below : All (λ q. q < processes s) (everyone s)
   all_below k d l = (let b = range_below 0 (processes s) k d l in omega (arith, b))
 
-  -- all loans, but the whole claim of p, are within all claims
-  room : (r : ℕ) → r < resources s → held_by s (everyone s) r + claim s p r ≤ free_capital s.claims r + loan s p r
-  room r lr =
-      instead (λ q. loan s q r) (λ q. claim s q r) p (processes s) lp (λ q lq. good.loans_fit q r lq lr) (everyone s)
-      all_below
-      (λ h same. sum_by-one_other (λ q. loan s q r) h p same (everyone s) (times-range_one p 0 (processes s) (omega arith) (omega (arith, lp))))
-
   cash_enough : IsWithinCash s pairs
   cash_enough k d l =
       let r = (get_or pairs k d).resource in
-      let a = room r (below k d l) in
-      let b : free_capital s.claims r ≤ capital s r = free k d l in
-      let c = within k d l in
-      omega (arith, a, b, c)
+      let lr = below k d l in
+      room_for s p r (get_or pairs k d).amount lp (λ q lq. good.loans_fit q r lq lr) (within k d l) (free k d l)
 
   amounts : (r : ℕ) → amount_in pairs r ≤ claim s p r - loan s p r
   amounts r = amount_in-le pairs (λ r'. claim s p r' - loan s p r') r distinct (λ k d l. (let b = within k d l in omega (arith, b)))

@@ -1,6 +1,9 @@
+pub mod Blocked
 pub mod CircleLemmas
 pub mod Columns
 pub mod Free
+pub mod FreeDeadlocks
+pub mod FreeLoans
 pub mod Granted
 pub mod NestLemmas
 pub mod NestWalks

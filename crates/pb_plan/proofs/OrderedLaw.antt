@@ -1,6 +1,6 @@
 -- If every process follows an order, the source comes to no deadlock by the cash alone.
-use Rattle.std.proofs.Common.{◌≡◌, ◌∙◌, inl, inr, ⊎_elim, ℕ, zero, suc, ◌+◌, ◌<◌, ◌≤◌, false, cond, eqb}
-use Rattle.std.proofs.Common.{List, [], ◌∷◌, length, Option, Some, None, option_map, option_and_then, refl, sym, ap}
+use Rattle.std.proofs.Common.{◌≡◌, inl, inr, ⊎_elim, ℕ, zero, suc, ◌+◌, ◌<◌, ◌≤◌, false, cond, eqb}
+use Rattle.std.proofs.Common.{List, [], ◌∷◌, length, Option, Some, None, refl, sym, ap}
 use Rattle.std.proofs.Common.{subst, arith}
 use Rattle.std.specs.Prelude.{slice_get, slice_index, sum_by}
 use Rattle.std.proofs.lemmas.Bool.{cases_lt}
@@ -9,15 +9,15 @@ use Rattle.std.proofs.lemmas.Option.{get_or_from_slice_get, slice_get_within}
 use Rattle.pb_base.proofs.Cases.{bool_cases}
 use Rattle.pb_base.specs.Banker.{BankerState, capital, cash, everyone, loan}
 use Rattle.pb_base.specs.declared.lending.Lending.TheVariants.{ByCash}
-use Rattle.pb_base.specs.declared.pick.Pick.{Pick}
-use Rattle.pb_base.specs.Steppers.{Bank, Silent, Prints, Takes, Returns, Faults, Finishes, ending, IsGranted, IsLent}
-use Rattle.pb_base.specs.Steppers.{IsFinished, State, CanGoOn, banker_state, moved}
+use Rattle.pb_base.specs.Steppers.{Bank, Silent, Prints, Takes, Returns, Faults, Finishes, IsLent}
+use Rattle.pb_base.specs.Steppers.{IsFinished, State, CanGoOn, banker_state}
 use Rattle.pb_names.proofs.Holds.{zip_at}
 use Rattle.pb_names.specs.Meaning.{source_bank_by}
 use Rattle.pb_names.specs.Program.{Process, IsWellNumbered}
 use Rattle.pb_names.specs.Resolves.{ResolvesProcess, resource_names}
 use Rattle.pb_names.specs.Source.{Arm, Doing, Waiting, Ended, is_ended, ArmStep, Goes, Breaks, Ends, step_arm, find}
-use Rattle.pb_names.specs.Source.{SourceProcess, settle, step_run, source_step, source_over}
+use Rattle.pb_names.specs.Source.{SourceProcess, source_step, source_over}
+use Rattle.pb_plan.proofs.Blocked.{cannot, ending_granted}
 use Rattle.pb_plan.proofs.OrderedClaims.{most_held, ordered}
 use Rattle.pb_plan.proofs.OrderedDeadlocks.{IsOrdered, IsStuck, Waits, lacking_or_not, stuck, arm_short}
 use Rattle.pb_plan.proofs.OrderedDeadlocks.{IsShortPast, holder_short}
@@ -45,51 +45,29 @@ module _ (bank : Bank) (by : bank.lends ≡ ByCash) (order : List ℕ) (s : Stat
   b = banker_state bank s.loans
 
   module _ (k : IsKept (IsOrdered order (capital b)) s) (still : CanGoOn bank source_step s → ⊥) where
-    cannot : (p a : ℕ) (process : SourceProcess) (root found : Arm) (st : ArmStep)
-        → slice_get s.processes p ≡ Some process → process.run ≡ Some root → find a 0 root ≡ Some found
-        → step_arm process.vars found ≡ Some st
-        → IsGranted bank s.loans p (settle process.vars root a st).1 → ⊥
-    cannot p a process root found st at runs is_found steps granted =
-        let pick : Pick = record { process = p; arm = a } in
-        let stepped : source_step p process a ≡ Some (settle process.vars root a st) =
-        ap (option_and_then (step_run process.vars a)) runs
-        ∙ ap (option_and_then (λ arm. option_map (settle process.vars root a) (step_arm process.vars arm))) is_found
-        ∙ ap (option_map (settle process.vars root a)) steps in
-        still (
-          pick,
-          moved s pick (settle process.vars root a st),
-          ap (option_and_then (λ x. option_map (moved s pick) (source_step p x a))) at
-              ∙ ap (option_map (moved s pick)) stepped,
-          granted,
-        )
-
-    ending_granted : (p a : ℕ) → IsGranted bank s.loans p (ending a)
-    ending_granted p zero = tt
-    ending_granted p (suc a) = tt
-
     -- all that an arm could do is to take what the cash does not suffice for
     waits : (p a : ℕ) (process : SourceProcess) (root found : Arm) (st : ArmStep)
         → slice_get s.processes p ≡ Some process → process.run ≡ Some root → find a 0 root ≡ Some found
         → step_arm process.vars found ≡ Some st → Waits (cash b) st
     waits p a process root found (Goes vars new Silent) at runs f e =
-        cannot p a process root found (Goes vars new Silent) at runs f e tt
+        cannot bank s still p a process root found (Goes vars new Silent) at runs f e tt
     waits p a process root found (Goes vars new (Prints v)) at runs f e =
-        cannot p a process root found (Goes vars new (Prints v)) at runs f e tt
+        cannot bank s still p a process root found (Goes vars new (Prints v)) at runs f e tt
     waits p a process root found (Goes vars new (Takes bundle)) at runs f e = ⊎_elim
         (λ enough.
-        absurd (cannot p a process root found (Goes vars new (Takes bundle)) at runs f e
+        absurd (cannot bank s still p a process root found (Goes vars new (Takes bundle)) at runs f e
         (subst (λ lends. IsLent lends b p bundle) (sym by) enough)))
         (λ lacking. lacking) (lacking_or_not (cash b) bundle)
     waits p a process root found (Goes vars new (Returns bundle)) at runs f e =
-        cannot p a process root found (Goes vars new (Returns bundle)) at runs f e tt
+        cannot bank s still p a process root found (Goes vars new (Returns bundle)) at runs f e tt
     waits p a process root found (Goes vars new (Faults kind)) at runs f e =
-        cannot p a process root found (Goes vars new (Faults kind)) at runs f e tt
+        cannot bank s still p a process root found (Goes vars new (Faults kind)) at runs f e tt
     waits p a process root found (Goes vars new Finishes) at runs f e =
-        cannot p a process root found (Goes vars new Finishes) at runs f e tt
+        cannot bank s still p a process root found (Goes vars new Finishes) at runs f e tt
     waits p a process root found (Breaks kind) at runs f e =
-        cannot p a process root found (Breaks kind) at runs f e tt
+        cannot bank s still p a process root found (Breaks kind) at runs f e tt
     waits p a process root found Ends at runs f e =
-        cannot p a process root found Ends at runs f e (ending_granted p a)
+        cannot bank s still p a process root found Ends at runs f e (ending_granted bank s p a)
 
     tree_stuck : (p : ℕ) (process : SourceProcess) (root : Arm) → slice_get s.processes p ≡ Some process
         → process.run ≡ Some root → IsStuck (cash b) root

@@ -1,5 +1,5 @@
 -- Circles of nested holds: why there is no order of the resources.
-use Rattle.std.specs.Prelude.{◌≡◌, ℕ, ◌+◌, ◌-◌, ◌<◌, Bool, true, List, length, Some, slice_get, All}
+use Rattle.std.specs.Prelude.{◌≡◌, ℕ, ◌+◌, ◌-◌, ◌<◌, true, List, length, Some, slice_get, All}
 use Rattle.pb_names.specs.Program.{Block, Process}
 use Rattle.pb_plan.specs.Nests.{asks, IsAmong}
 use Rattle.pb_plan.specs.Standing.{OneHold, StandsIn}

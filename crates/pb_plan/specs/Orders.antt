@@ -10,6 +10,7 @@ use Rattle.pb_names.specs.Program.{Stmt, Assign, Print, If, While, Hold, Parbegi
 use Rattle.pb_names.specs.Program.{AndArm, Process, Program, capital_of}
 use Rattle.pb_names.specs.Resolves.{Resolves}
 use Rattle.pb_names.specs.Source.{SourceProcess, source_over, source_process, source_step}
+use Rattle.pb_plan.specs.Needs.{AllFree}
 use Rattle.pb_tree.specs.Syntax.{ProgramSyntax}
 
 -- each hold inside meets a condition on what the holds around it ask for and on what it asks for itself; the arms
@@ -57,6 +58,17 @@ abbrev pub OrdersPreventDeadlocks : Type 0
 OrdersPreventDeadlocks =
     (tree : ProgramSyntax) (program : Program) (claims : Table) (order : List ℕ) → Resolves tree program
     → AreClaims program claims → FitCapital claims (capital_of program) → IsFollowed order program.processes
+    → (picks : List Pick) (events : List Event) (s : State SourceProcess)
+    → Makes (source_bank_by ByCash program claims) source_step
+    (opening (source_bank_by ByCash program claims) (map source_process program.processes)) picks events s
+    → ¬ IsSourceDeadlock (source_bank_by ByCash program claims) s
+
+-- if there is enough of each resource for all claims at once, neither is anything that the program comes to by the cash
+-- alone
+abbrev pub FreeCapitalPreventsDeadlocks : Type 0
+FreeCapitalPreventsDeadlocks =
+    (tree : ProgramSyntax) (program : Program) (claims : Table) → Resolves tree program → AreClaims program claims
+    → AllFree claims (capital_of program)
     → (picks : List Pick) (events : List Event) (s : State SourceProcess)
     → Makes (source_bank_by ByCash program claims) source_step
     (opening (source_bank_by ByCash program claims) (map source_process program.processes)) picks events s

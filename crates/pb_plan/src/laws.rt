@@ -5,7 +5,7 @@ ghost use Rattle.pb_code.specs.Whole.{Code};
 ghost use Rattle.pb_names.specs.Claims.{IsClaim};
 ghost use Rattle.pb_names.specs.Program.{Process};
 ghost use Rattle.pb_plan.specs.Needs.{LeastCapitalDecides};
-ghost use Rattle.pb_plan.specs.Orders.{OrdersPreventDeadlocks};
+ghost use Rattle.pb_plan.specs.Orders.{FreeCapitalPreventsDeadlocks, OrdersPreventDeadlocks};
 ghost use Rattle.pb_plan.specs.Parts.{parts, weight};
 ghost use Rattle.pb_plan.specs.Waiting.{AllRequestsAreGranted, FreeRequestsAreAllowed, FreeRequestsAreGranted};
 ghost use Rattle.pb_verifier.specs.Verified.{IsFaultless};
@@ -36,4 +36,9 @@ pub fn free_requests_are_granted()
 /// If every process follows an order of the resources, the program comes to no deadlock by the cash alone.
 pub fn orders_prevent_deadlocks()
     ensures { OrdersPreventDeadlocks }
+{}
+
+/// If there is enough of each resource for all claims at once, the program comes to no deadlock by the cash alone.
+pub fn free_capital_prevents_deadlocks()
+    ensures { FreeCapitalPreventsDeadlocks }
 {}

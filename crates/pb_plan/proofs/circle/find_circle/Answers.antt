@@ -1,4 +1,4 @@
-use Rattle.std.proofs.Common.{◌≡◌, ◌∙◌, ℕ, ◌<◌, List, true, false, length, map, subst, sym, arith, eq-eqb, vec_len}
+use Rattle.std.proofs.Common.{ℕ, List, length, map, subst, sym, arith, vec_len}
 use Rattle.std.specs.Prelude.{All}
 use Rattle.std.proofs.lemmas.List.{length-map}
 use Rattle.std.proofs.lemmas.Bool.{eqb-true}
@@ -6,7 +6,6 @@ use Rattle.std.proofs.lemmas.List.Elements.{All-weaker}
 use Rattle.pb_names.specs.View.{process_view}
 use Rattle.pb_plan.specs.Circles.{IsBelow, IsEdge}
 use Rattle.pb_plan.specs.Nests.{IsAmong, IsInside}
-use Rattle.pb_plan.specs.declared.edge.Edge.{Edge}
 use Rattle.pb_plan.specs.declared.nest.Nest.{Nest}
 use Rattle.pb_plan.proofs.CircleLemmas.{edge_below}
 use Rattle.pb_plan.proofs.OrderLemmas.{all_followed}
