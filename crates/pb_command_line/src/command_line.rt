@@ -25,7 +25,7 @@ const LEND: &str = "Who decides on a request: banker or cash";
 
 /// The same of `plan`, which makes no run.
 const LEND_OF_PLAN: &str =
-    "Who decides on a request when the texts run: banker or cash; with cash the status is 9 after the line no order";
+    "Who decides on a request when the texts run: banker or cash; with cash the status is 9 after the lines bottleneck and no order";
 
 /// The same of `record`, whose workers ask the banker.
 const LEND_OF_SEED: &str = "Who decides on a request: banker, or with --seed also cash";

@@ -34,8 +34,12 @@ const BESIDE: &[u8] =
 const ONE_MORE: &[u8] =
     b"resource r = 2;\nprocess p begin hold 1 of r do\nhold 1 of r do skip od od end\nprocess q begin hold 1 of r do\nhold 1 of r do skip od od end";
 
+/// The same with enough for all that both may hold.
+const ENOUGH: &[u8] =
+    b"resource r = 4;\nprocess p begin hold 1 of r do\nhold 1 of r do skip od od end\nprocess q begin hold 1 of r do\nhold 1 of r do skip od od end";
+
 /// At least one call of each crate with an engine but pb_explain, and one of words that say no command.
-const CALLS: [Call; 13] = [
+const CALLS: [Call; 14] = [
     Call {
         words: "run --steps 1",
         input: b"process p begin print 1 end",
@@ -115,6 +119,14 @@ const CALLS: [Call; 13] = [
         last: b"no order\np holds r line 2 around r line 3\n",
         length: Some(126),
         status: Status::Deadlock,
+    },
+    Call {
+        words: "plan --lend cash",
+        input: ENOUGH,
+        first: b"p claim 2 r lines 2 3\nq claim 2 r lines 4 5\nr capital 4 least 2 free 4\nno request waits\n",
+        last: b"no order\np holds r line 2 around r line 3\n",
+        length: Some(130),
+        status: Status::Done,
     },
     Call {
         words: "plan",

@@ -1,4 +1,4 @@
--- The holds of a program ask for its own resources.
+-- The holds of a program ask for its own resources; what is found of its order and of what is lacking.
 use Rattle.std.proofs.Common.{◌≡◌, ℕ, ◌<◌, List, [], ◌++◌, Option, Some, None, length, get_or, subst, sym, arith}
 use Rattle.std.specs.Prelude.{All, IfNone, IfOk, IfSome, MatchOption, Result, Ok, Err, option_map}
 use Rattle.std.specs.List.{range_with_len}
@@ -6,12 +6,13 @@ use Rattle.std.proofs.lemmas.List.{length-map}
 use Rattle.std.proofs.lemmas.List.Sorted.{All-permutation}
 use Rattle.std.proofs.lemmas.Option.{slice_get-get_or}
 use Rattle.pb_base.proofs.Groups.{range_below}
-use Rattle.pb_base.specs.Steppers.{Bundle}
+use Rattle.pb_base.specs.Steppers.{Bundle, Table}
 use Rattle.pb_names.proofs.Holds.{numbers_below, zip_at}
 use Rattle.pb_names.specs.Program.{Arms, Block, Name, Process, Program, Stmt}
 use Rattle.pb_names.specs.Resolves.{Resolves, ResolvesArms, ResolvesProcess, ResolvesStmt, ResolvesStmts, resource_names}
 use Rattle.pb_names.specs.Resolves.{arm_then, assign, hold, if_else, no_arm, no_stmt, parbegin, print, stmt_then, while_do}
 use Rattle.pb_tree.specs.Syntax.{ArmsSyntax, ProgramSyntax, StmtSyntax, StmtsSyntax}
+use Rattle.pb_plan.specs.Needs.{AllFree, IsBottleneck}
 use Rattle.pb_plan.specs.Nests.{AskBelow, IsOrder}
 use Rattle.pb_plan.specs.Orders.{EachHold, EachHoldAmong, EachHoldOf, IsFollowed}
 use Rattle.pb_plan_engine.specs.PlanLines.{HasNoOrder, IsOrderIfAny, IsOrderOf}
@@ -112,3 +113,18 @@ is_closed items Closed Empty (Some x) same is = absurd cc
 pub some_of : {X : Type 0} (P : X → Type 0) (found : Option X) (x : X) → found ≡ Some x → IfSome found P → P x
 some_of P (Some y) x same is = let e : y ≡ x = cc in subst P e is
 some_of P None x same is = absurd cc
+
+-- ---- what is lacking
+
+-- nothing was found, so nothing is lacking
+pub none_lacking : (claims : Table) (capital : List ℕ) (found : Option ℕ) → found ≡ None
+    → MatchOption found (AllFree claims capital) (IsBottleneck claims capital) → AllFree claims capital
+none_lacking claims capital None same free = free
+none_lacking claims capital (Some r) same most = absurd cc
+
+-- what was found is lacking most
+pub one_lacking : (claims : Table) (capital : List ℕ) (found : Option ℕ) (r : ℕ) → found ≡ Some r
+    → MatchOption found (AllFree claims capital) (IsBottleneck claims capital) → IsBottleneck claims capital r
+one_lacking claims capital (Some q) r same most =
+    let e : q ≡ r = cc in subst (IsBottleneck claims capital) e most
+one_lacking claims capital None r same free = absurd cc

@@ -1,5 +1,5 @@
 -- What `plan` says of an input, and with which status.
-use Rattle.std.specs.Prelude.{◌≡◌, ℕ, ◌+◌, Bool, List, [], ◌++◌, ◌==◌, ⊤, codes, cond, length, slice_index, slice_index_or, map, MatchOption}
+use Rattle.std.specs.Prelude.{◌≡◌, ◌⊎◌, ℕ, ◌+◌, Bool, List, [], ◌++◌, ◌==◌, ⊤, codes, cond, length, slice_index, slice_index_or, map, MatchOption}
 use Rattle.std.specs.Prelude.{Option, Some, None, option_map}
 use Rattle.std.specs.Fmt.{decimal}
 use Rattle.std.specs.List.{flat_map}
@@ -116,21 +116,23 @@ HasNoOrder program = (order : List ℕ) → ¬ IsFollowed order program.processe
 abbrev pub IsOrderIfAny : Program → Option (List ℕ) → Type 0
 IsOrderIfAny program order = MatchOption order (HasNoOrder program) (IsOrderOf program)
 
--- no deadlock is possible: the banker lends, or each process follows an order
-abbrev pub RulesOutDeadlocks : Lending → Program → Type 0
-RulesOutDeadlocks ByBanker program = ⊤
-RulesOutDeadlocks ByCash program = (order : List ℕ) × IsOrderOf program order
+-- no deadlock is possible: the banker lends; or each process follows an order, or there is enough for all claims at once
+abbrev pub RulesOutDeadlocks : Lending → Program → Table → Type 0
+RulesOutDeadlocks ByBanker program claims = ⊤
+RulesOutDeadlocks ByCash program claims = ((order : List ℕ) × IsOrderOf program order) ⊎ AllFree claims (capital_of program)
 
--- a deadlock may be possible: the cash alone decides, and there is no order
-abbrev pub AllowsDeadlocks : Lending → Program → Type 0
-AllowsDeadlocks ByBanker program = ⊥
-AllowsDeadlocks ByCash program = HasNoOrder program
+-- a deadlock may be possible: the cash alone decides, there is no order, and not enough for all claims at once
+abbrev pub AllowsDeadlocks : Lending → Program → Table → Type 0
+AllowsDeadlocks ByBanker program claims = ⊥
+AllowsDeadlocks ByCash program claims = HasNoOrder program × ((r : ℕ) × IsBottleneck claims (capital_of program) r)
 
 -- the status tells whether the capital is enough for every claim, and if it is, whether a deadlock may be possible
 pub data HasStatus (lending : Lending) (program : Program) (claims : Table) : Status → Type 0 where
   too_little : (over : OverCapital) → IsFirstOver claims (capital_of program) over → HasStatus lending program claims Refused
-  no_deadlock : FitCapital claims (capital_of program) → RulesOutDeadlocks lending program → HasStatus lending program claims Done
-  may_deadlock : FitCapital claims (capital_of program) → AllowsDeadlocks lending program → HasStatus lending program claims Deadlock
+  no_deadlock : FitCapital claims (capital_of program) → RulesOutDeadlocks lending program claims
+      → HasStatus lending program claims Done
+  may_deadlock : FitCapital claims (capital_of program) → AllowsDeadlocks lending program claims
+      → HasStatus lending program claims Deadlock
 
 -- some tree is that of the program, with these claims
 pub record IsOfTree (program : Program) (claims : Table) : Type 0 where

@@ -74,7 +74,10 @@ fn status<A: Allocator>(
         Ok(()) => match (lending, order) {
             (Lending::ByBanker, _) => Status::Done,
             (Lending::ByCash, Some(_)) => Status::Done,
-            (Lending::ByCash, None) => Status::Deadlock,
+            (Lending::ByCash, None) => match bottleneck(claims, capital) {
+                None => Status::Done,
+                Some(_) => Status::Deadlock,
+            },
         },
         Err(over) => {
             let _ = over;
