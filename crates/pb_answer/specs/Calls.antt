@@ -47,6 +47,7 @@ abbrev pub SaysOfSession : (live : Bool) → Lending → List ℕ → List ℕ �
 SaysOfSession true lending = SaysOfLive lending
 SaysOfSession false lending = SaysOfInput (SaysOfDebug lending)
 
+-- what `debug` with these options may say of an input
 abbrev pub SaysOfCommands : DebugOptions → List ℕ → List ℕ → Status → Type 0
 SaysOfCommands flags = SaysOfSession flags.live (lending_for flags.lend)
 

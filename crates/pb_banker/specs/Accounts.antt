@@ -17,6 +17,7 @@ abbrev pub rows_from : (rows width : ℕ) → List ℕ → List (List ℕ)
 rows_from zero width amounts = []
 rows_from (suc rows) width amounts = take width amounts ∷ rows_from rows width (drop width amounts)
 
+-- the state in the tables: the part of them that is in use
 abbrev pub state_of : Accounts → BankerState
 state_of a =
     record {

@@ -17,9 +17,11 @@ pub record BankValue : Type 0 where
   pub state : BankerState
   pub used : List Bool
 
+-- a job has slot p
 abbrev pub IsUsed : List Bool → ℕ → Type 0
 IsUsed used p = IsTrue (slice_index_or used p false)
 
+-- the bank has a job in slot p
 abbrev pub HasJob : BankValue → ℕ → Type 0
 HasJob b p = IsUsed b.used p
 
@@ -55,6 +57,7 @@ NewcomersStaySafe =
     (s : BankerState) → IsWellFormed s → (p : ℕ) (claims : List ℕ) → MayJoin s p claims → IsSafe s
     → IsWellFormed (joined s p claims) × IsSafe (joined s p claims)
 
+-- no claim is more than the capital
 abbrev pub IsWithinCapital : BankerState → List ℕ → Type 0
 IsWithinCapital s claims = (r : ℕ) → r < resources s → slice_index claims r ≤ capital s r
 
@@ -121,5 +124,6 @@ pub record IsKept (a : Accounts) (order : List ℕ) (used : List Bool) : Type 0 
   pub rows : (p : ℕ) → IsUsed used p → p < a.processes
   pub free : (p r : ℕ) → p < a.processes → ¬ IsUsed used p → r < a.resources → claim (state_of a) p r ≡ 0
 
+-- what contracts see of a bank with these tables: their state, and which slots have a job
 abbrev pub value_of : Accounts → List Bool → BankValue
 value_of a used = record { state = state_of a; used = used }

@@ -9,6 +9,7 @@ use Rattle.pb_base.specs.declared.operators.BinaryOp.{BinaryOp}
 use Rattle.pb_base.specs.declared.operators.BinaryOp.TheVariants.{Add, Subtract, Multiply, Quotient, Remainder, Equal}
 use Rattle.pb_base.specs.declared.operators.BinaryOp.TheVariants.{Unequal, Less, AtMost, Greater, AtLeast, And, Or}
 
+-- whether an integer is 0
 abbrev pub is_zero : ℤ → Bool
 is_zero (pos zero) = true
 is_zero (pos (suc n)) = false
@@ -48,6 +49,7 @@ apply AtLeast a b = Ok (truth (int_le b a))
 apply And a b = Ok (truth (not (is_zero a) && not (is_zero b)))
 apply Or a b = Ok (truth (not (is_zero a) || not (is_zero b)))
 
+-- minus the operand, which may not fit; `Not` is 1 for 0, and 0 for any other number
 unfoldable pub apply_unary : UnaryOp → ℤ → Result ℤ FaultKind
 apply_unary Negate a = checked (neg_ℤ a)
 apply_unary Not a = Ok (truth (is_zero a))

@@ -57,6 +57,7 @@ pub record Bank : Type 0 where
   pub claims : Table
   pub lends : Lending
 
+-- the state that a lender decides on: what it knows, and these loans
 abbrev pub banker_state : Bank → Table → BankerState
 banker_state bank loans = record { capital = bank.capital; claims = bank.claims; loans = loans }
 
@@ -89,6 +90,7 @@ pub record Move (P : Type 0) : Type 0 where
   pub next : State P
   pub effect : Effect
 
+-- what a pick leads to when its process steps so: that process and the loans change, and no other process
 abbrev pub moved : {P : Type 0} → State P → Pick → P × Effect → Move P
 moved s pick step = record {
   next = record {

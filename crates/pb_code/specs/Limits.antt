@@ -12,6 +12,7 @@ use Rattle.pb_code.specs.Code.{Instr, Push, Load, Store, Jump, JumpIfZero, Take,
 use Rattle.pb_code.specs.Whole.{Code, ProcessLabels}
 use Rattle.pb_code.specs.Names.{is_name_byte, reserved_words}
 
+-- from 1 to the most
 abbrev pub IsUpTo : ℕ → ℕ → Type 0
 IsUpTo most n = (1 ≤ n) × (n ≤ most)
 
@@ -55,6 +56,7 @@ HasSmallNumbers (Fork first count) = IsUpTo (MAX_ARMS - 1) first × IsUpTo MAX_F
 HasSmallNumbers (Join first count) = IsUpTo (MAX_ARMS - 1) first × IsUpTo MAX_FORK count
 HasSmallNumbers i = ⊤
 
+-- the integers, the arms, the places and the numbers of a process are within their limits
 pub record IsSmallProcess (code : ProcessCode) : Type 0 where
   pub integers : code.integers ≤ MAX_INTEGERS
   pub some_arms : IsUpTo MAX_ARMS (length code.entries)
@@ -64,6 +66,7 @@ pub record IsSmallProcess (code : ProcessCode) : Type 0 where
 
 -- ---- the whole code
 
+-- counts, numbers and names of the code are within their limits; each process has a claim on each resource
 pub record KeepsLimits (code : Code) : Type 0 where
   pub some_processes : IsUpTo MAX_PROCESSES (length code.processes)
   pub few_resources : length code.capital ≤ MAX_RESOURCES

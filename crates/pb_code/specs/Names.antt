@@ -5,6 +5,7 @@ use Rattle.std.specs.Char.{is_ascii_alphabetic, is_ascii_digit}
 use Rattle.std.specs.List.{list_any, list_all}
 use Rattle.pb_base.specs.declared.limits.TheConstants.{MAX_NAME}
 
+-- the bytes of a word
 abbrev pub Word : Type 0
 Word = List ℕ
 

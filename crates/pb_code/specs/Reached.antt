@@ -25,11 +25,14 @@ CodeStaysBy lending code = Stays (bank_by lending code) (code_step code.processe
 
 -- ---- under the banker
 
+-- the code reaches this state under the banker
 abbrev pub CodeReaches : Code → State CodeProcess → Type 0
 CodeReaches code s = CodeReachesBy ByBanker code s
 
+-- the pick is enabled under the banker, and leads to this state with this event or with none
 abbrev pub CodeMoves : Code → State CodeProcess → Pick → Option Event → State CodeProcess → Type 0
 CodeMoves code = CodeMovesBy ByBanker code
 
+-- the pick is not enabled under the banker
 abbrev pub CodeStays : Code → State CodeProcess → Pick → Type 0
 CodeStays code = CodeStaysBy ByBanker code

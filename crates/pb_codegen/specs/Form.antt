@@ -29,11 +29,13 @@ abbrev mutual
   AreFull no_arm = ⊤
   AreFull (arm_then ss arms) = IsFull ss × AreFull arms
 
+-- the names of a process are names, and all of its body is full
 pub record IsFormedProcess (process : ProcessSyntax) : Type 0 where
   pub name : IsName process.name.text
   pub integers : All (λ name. IsName name.text) process.integers
   pub full : IsFull process.body
 
+-- a tree that was read: its names are names, its bodies are full, and it has a process
 pub record IsFormed (tree : ProgramSyntax) : Type 0 where
   pub resources : All (λ resource. IsName resource.name.text) tree.resources
   pub some_processes : 1 ≤ length tree.processes

@@ -10,6 +10,7 @@ pub record IsMarkAt (text : List ℕ) (at : ℕ) : Type 0 where
   pub begins : (at ≡ 0) ⊎ (slice_get text (at - 1) ≡ Some 10)
   pub marks : IsMark (drop at text)
 
+-- such a line begins at no place below n
 abbrev pub HasNoMarkBelow : List ℕ → ℕ → Type 0
 HasNoMarkBelow text n = (at : ℕ) → at < n → ¬ IsMarkAt text at
 

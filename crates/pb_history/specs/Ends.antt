@@ -28,8 +28,10 @@ goes_on [] pick = false
 goes_on (e ∷ []) pick = not e.shows && are_same e.pick pick
 goes_on (e ∷ (d ∷ ends)) pick = goes_on (d ∷ ends) pick
 
+-- the spans in memory, and their room
 abbrev pub span_row : Inside → SpanRow
 span_row s = record { spans = spans_from 0 s.ends.items; room = vec_capacity s.ends - vec_len s.ends }
 
+-- the ends rise up to the number of picks
 abbrev pub AreRising : Inside → Type 0
 AreRising s = Rise 0 s.ends.items s.len

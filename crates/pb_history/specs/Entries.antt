@@ -40,6 +40,7 @@ run_of pick count event = silent_picks pick count ++ map (shown pick) (option_to
 abbrev pub are_same : Pick → Pick → Bool
 are_same a b = (a.process == b.process) && (a.arm == b.arm)
 
+-- whether there is an event
 abbrev pub is_shown : Option Event → Bool
 is_shown None = false
 is_shown (Some event) = true

@@ -29,6 +29,7 @@ HasBundle count (Printed pick value) = ⊤
 HasBundle count (Faulted pick kind) = ⊤
 HasBundle count (Finished process) = ⊤
 
+-- the events in memory, and their room: one more event may need one more bundle
 abbrev pub events_in : Inside → EventRow
 events_in e = record {
   events = map (whole e.bundles.items) e.events.items;

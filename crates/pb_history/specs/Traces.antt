@@ -17,6 +17,7 @@ AreLaid [] events = events ≡ []
 AreLaid (s ∷ spans) events =
     (0 < s.count) × (marks s.shows ≤ length events) × AreLaid spans (drop (marks s.shows) events)
 
+-- what a contract sees of spans and events in memory
 abbrev pub trail_of : Inside → Trail
 trail_of t = record { entries = entries_of t.spans.spans t.events.events; room = min t.spans.room t.events.room }
 

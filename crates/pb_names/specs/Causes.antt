@@ -14,12 +14,15 @@ use Rattle.pb_names.specs.declared.causes.Wrong.TheVariants.{Twice, Unknown, Amo
 
 -- ---- sets of causes
 
+-- a set of causes
 abbrev pub Causes : Type 1
 Causes = Cause → Type 0
 
+-- no cause
 abbrev pub Nothing : Causes
 Nothing cause = ⊥
 
+-- the causes of two sets together
 abbrev pub Either : Causes → Causes → Causes
 Either P Q cause = P cause ⊎ Q cause
 
@@ -50,6 +53,7 @@ pub record IsOutside (least : ℕ) (n : NumberSyntax) (cause : Cause) : Type 0 w
 
 -- ---- expressions and statements: variables and targets are integers, holds name resources
 
+-- what is wrong in an expression: names that are no integers of the process
 abbrev pub InExpr : List Name → ExprSyntax → Causes
 InExpr integers (number n) = Nothing
 InExpr integers (variable x) = IsUnknown integers x
@@ -63,6 +67,7 @@ InDemand resources before demand =
     (Either (IsUnknown resources demand.resource)
     (IsAgain Repeated (texts (map (λ d. d.resource) before)) demand.resource))
 
+-- what is wrong in a statement, in a list of statements, and in the arms of a parbegin
 abbrev mutual
   pub InStmt : (integers resources : List Name) → StmtSyntax → Causes
   InStmt integers resources (assign line x e) = Either (IsUnknown integers x) (InExpr integers e)

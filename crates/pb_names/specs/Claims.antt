@@ -46,10 +46,12 @@ mutual
     in_later : (arm : Arm) (arms arms' : Running)
         → FreeStepAmong arms arms' → FreeStepAmong (Beside arm arms) (Beside arm arms')
 
+-- the arm after any number of free steps from the start
 pub data FreeRun (start : Arm) : Arm → Type 0 where
   at_start : FreeRun start start
   and_then : (arm next : Arm) → FreeRun start arm → FreeStep arm next → FreeRun start next
 
+-- what an item is to give back of a resource: nothing, if it is not a hold to give back
 abbrev pub held_in : ℕ → Item → ℕ
 held_in r (Item.Assign line x e) = 0
 held_in r (Item.Print line e) = 0
@@ -59,6 +61,7 @@ held_in r (Item.Hold line bundle body) = 0
 held_in r (GiveBack line bundle) = amount_in bundle r
 held_in r (Item.Parbegin line first arms) = 0
 
+-- what all items of a list are to give back together
 abbrev pub held_in_list : ℕ → List Item → ℕ
 held_in_list r [] = 0
 held_in_list r (item ∷ items) = held_in r item + held_in_list r items
@@ -74,6 +77,7 @@ abbrev mutual
   held_among r Nothing = 0
   held_among r (Beside arm arms) = held r arm + held_among r arms
 
+-- arm 0 of a process at its start, with the whole body to do
 abbrev pub start_of : Process → Arm
 start_of process = Doing (items_of process.body)
 

@@ -4,6 +4,7 @@ use Rattle.pb_names.specs.Program.{Stmt}
 use Rattle.pb_names.specs.Source.{Item, GiveBack, Arm, Doing, item_of}
 use Rattle.pb_names.specs.Source.{Waiting, Ended}
 
+-- the line of an item, which is that of its statement
 abbrev pub item_line : Item → ℕ
 item_line (Item.Assign line x e) = line
 item_line (Item.Print line e) = line
@@ -17,6 +18,7 @@ item_line (Item.Parbegin line first arms) = line
 abbrev pub stmt_line : Stmt → ℕ
 stmt_line s = item_line (item_of s)
 
+-- the line of the first item, if there is one
 abbrev pub first_line : List Item → Option ℕ
 first_line [] = None
 first_line (item ∷ items) = Some (item_line item)

@@ -4,6 +4,7 @@ use Rattle.pb_base.specs.declared.operators.UnaryOp.{UnaryOp}
 use Rattle.pb_base.specs.declared.operators.BinaryOp.{BinaryOp}
 use Rattle.pb_base.specs.Steppers.{Bundle}
 
+-- expressions: an integer is named by its number
 pub data Expr : Type 0 where
   Number : ℤ → Expr
   Variable : ℕ → Expr
@@ -30,10 +31,12 @@ mutual
     NoArm : Arms
     AndArm : Block → Arms → Arms
 
+-- how many arms a parbegin has
 abbrev pub count : Arms → ℕ
 count NoArm = 0
 count (AndArm arm arms) = suc (count arms)
 
+-- the arms of a parbegin as a list of their bodies
 abbrev pub arms_list : Arms → List Block
 arms_list NoArm = []
 arms_list (AndArm arm arms) = arm ∷ arms_list arms
@@ -88,9 +91,11 @@ pub record Process : Type 0 where
 abbrev pub arms_of : Process → List Block
 arms_of process = process.body ∷ arms_in process.body
 
+-- the arms inside the body are numbered from 1 on
 abbrev pub IsWellNumbered : Process → Type 0
 IsWellNumbered process = IsNumbered 1 process.body
 
+-- a resource with its name and its capital
 pub record Resource : Type 0 where
   pub name : Name
   pub capital : ℕ
@@ -100,9 +105,11 @@ pub record Program : Type 0 where
   pub resources : List Resource
   pub processes : List Process
 
+-- the capital of each resource, by number
 abbrev pub capital_of : Program → List ℕ
 capital_of program = map (λ resource. resource.capital) program.resources
 
+-- the arms of each process are well numbered
 abbrev pub AllWellNumbered : List Process → Type 0
 AllWellNumbered [] = ⊤
 AllWellNumbered (process ∷ program) = IsWellNumbered process × AllWellNumbered program

@@ -46,14 +46,17 @@ pub record IsNumberable (causes : Causes) (IsWhole : Type 0) (widest inner n : �
   pub narrow : widest ≤ MAX_FORK
   pub room : n + inner ≤ MAX_ARMS
 
+-- a statement can be numbered, with the numbers from n on for the arms inside it
 abbrev pub IsReadyStmt : (integers resources : List Name) → ℕ → StmtSyntax → Type 0
 IsReadyStmt integers resources n s =
     IsNumberable (InStmt integers resources s) (IsCompleteStmt s) (widest_in_stmt s) (inner_arms_of_stmt s) n
 
+-- so can a list of statements
 abbrev pub AreNumberable : (integers resources : List Name) → ℕ → StmtsSyntax → Type 0
 AreNumberable integers resources n ss =
     IsNumberable (InStmts integers resources ss) (AreComplete ss) (widest_in ss) (inner_arms ss) n
 
+-- so can what is inside the arms of a parbegin
 abbrev pub AreReadyArms : (integers resources : List Name) → ℕ → ArmsSyntax → Type 0
 AreReadyArms integers resources n arms =
     IsNumberable (InArms integers resources arms) (AreCompleteArms arms) (widest_in_arms arms) (inner_arms_of_arms arms) n

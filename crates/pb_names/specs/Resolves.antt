@@ -105,9 +105,11 @@ pub record ResolvesResource (written : tree.ResourceSyntax) (resource : Resource
   pub capital : written.capital.value ≡ pos resource.capital
   pub small : resource.capital ≤ MAX_AMOUNT
 
+-- the names of the resources, by number
 abbrev pub resource_names : Program → List Name
 resource_names program = map (λ resource. resource.name) program.resources
 
+-- the names of the processes, by number
 abbrev pub process_names : Program → List Name
 process_names program = map (λ process. process.name) program.processes
 

@@ -13,15 +13,18 @@ use Rattle.pb_names.specs.Program.{Block, Skip, Then, Arms, NoArm, AndArm, Proce
 
 -- ---- expressions
 
+-- one step of an expression: it is a number already, becomes another expression, or fails
 pub data ExprStep : Type 0 where
   Is : ℤ → ExprStep
   Becomes : Expr → ExprStep
   Fails : FaultKind → ExprStep
 
+-- an operator becomes the number that it results in, or fails
 abbrev pub from_result : Result ℤ FaultKind → ExprStep
 from_result (Ok v) = Becomes (Number v)
 from_result (Err kind) = Fails kind
 
+-- a step of an operand, seen from the expression around it
 abbrev pub inside : (Expr → Expr) → ExprStep → ExprStep
 inside f (Is v) = Is v
 inside f (Becomes e) = Becomes (f e)
@@ -49,6 +52,7 @@ pub data Item : Type 0 where
   GiveBack : (line : ℕ) → Bundle → Item
   Parbegin : (line first : ℕ) → Arms → Item
 
+-- the item of a statement of which nothing is done yet
 abbrev pub item_of : Stmt → Item
 item_of (Stmt.Assign line x e) = Item.Assign line x e
 item_of (Stmt.Print line e) = Item.Print line e
@@ -57,6 +61,7 @@ item_of (Stmt.While line e body) = Item.While line e e body
 item_of (Stmt.Hold line bundle body) = Item.Hold line bundle body
 item_of (Stmt.Parbegin line first arms) = Item.Parbegin line first arms
 
+-- the items of a block of which nothing is done yet
 abbrev pub items_of : Block → List Item
 items_of Skip = []
 items_of (Then s block) = item_of s ∷ items_of block
@@ -73,15 +78,18 @@ mutual
     Nothing : Running
     Beside : Arm → Running → Running
 
+-- the arms of a parbegin, of which nothing is done yet
 abbrev pub begin : Arms → Running
 begin NoArm = Nothing
 begin (AndArm arm arms) = Beside (Doing (items_of arm)) (begin arms)
 
+-- whether an arm is at its end
 abbrev pub is_ended : Arm → Bool
 is_ended (Doing items) = false
 is_ended (Waiting line first arms items) = false
 is_ended Ended = true
 
+-- whether all of them are
 abbrev pub all_ended : Running → Bool
 all_ended Nothing = true
 all_ended (Beside arm arms) = is_ended arm && all_ended arms
@@ -93,16 +101,19 @@ running_arms (Beside arm arms) = suc (running_arms arms)
 
 -- ---- one step of one arm
 
+-- one step of an arm: it goes on with these integers and with this effect, has a fault, or ends
 pub data ArmStep : Type 0 where
   Goes : (vars : List ℤ) → Arm → Effect → ArmStep
   Breaks : FaultKind → ArmStep
   Ends : ArmStep
 
+-- the step of an item by that of its expression: it keeps what is left, is done with the number, or has a fault
 abbrev pub evaluate : ExprStep → (Expr → ArmStep) → (ℤ → ArmStep) → ArmStep
 evaluate (Is v) keep done = done v
 evaluate (Becomes e) keep done = keep e
 evaluate (Fails kind) keep done = Breaks kind
 
+-- one step of a list of items, which is that of the first item; an empty list ends its arm
 abbrev pub step_items : List ℤ → List Item → ArmStep
 step_items vars [] = Ends
 step_items vars (Item.Assign line x e ∷ rest) =
@@ -131,10 +142,12 @@ step_arm vars Ended = None
 
 -- ---- the arm with a number, if the given arm has the number n
 
+-- the first arm, or the other if there is no first
 abbrev pub first_some : Option Arm → Option Arm → Option Arm
 first_some (Some arm) other = Some arm
 first_some None other = other
 
+-- the arm with the number a, which is the given arm or inside it; of running arms, n is the number of the first
 abbrev mutual
   pub find : ℕ → ℕ → Arm → Option Arm
   find a n (Doing items) = cond (nat_eq a n) (Some (Doing items)) None
@@ -146,6 +159,7 @@ abbrev mutual
   find_among a n Nothing = None
   find_among a n (Beside arm arms) = first_some (find a n arm) (find_among a (n + 1) arms)
 
+-- the given arm, or running arms, with a new arm in the place of the one with the number a
 abbrev mutual
   pub put : ℕ → Arm → ℕ → Arm → Arm
   put a new n (Doing items) = cond (nat_eq a n) new (Doing items)
@@ -164,18 +178,22 @@ pub record SourceProcess : Type 0 where
   pub vars : List ℤ
   pub run : Option Arm
 
+-- what a step of arm a makes of its process, with the effect: a fault leaves nothing of the run
 abbrev pub settle : List ℤ → Arm → ℕ → ArmStep → SourceProcess × Effect
 settle old run a (Goes vars arm effect) = (record { vars = vars; run = Some (put a arm 0 run) }, effect)
 settle old run a (Breaks kind) = (record { vars = old; run = None }, Faults kind)
 settle old run a Ends = (record { vars = old; run = Some (put a Ended 0 run) }, ending a)
 
+-- one step of arm a of a run, if there is such an arm and it can step
 abbrev pub step_run : List ℤ → ℕ → Arm → Option (SourceProcess × Effect)
 step_run vars a run =
     option_and_then (λ arm. option_map (settle vars run a) (step_arm vars arm)) (find a 0 run)
 
+-- one step of a process at arm a; none after a fault
 abbrev pub source_step : Stepper SourceProcess
 source_step p process a = option_and_then (step_run process.vars a) process.run
 
+-- a process at its start: each integer is 0, and the whole body is to do
 abbrev pub source_process : Process → SourceProcess
 source_process process = record {
   vars = replicate (length process.integers) (pos 0);

@@ -41,6 +41,7 @@ own_nest outer inner (Some around) line bundle =
 abbrev pub held_inside : (outer : ℕ) → Option ℕ → (line : ℕ) → Bundle → Option ℕ
 held_inside outer held line bundle = cond (asks outer bundle) (Some line) held
 
+-- the first such hold in a statement, in a block and in arms; `held` is the line of the outer hold around them
 abbrev mutual
   pub stmt_nest : (outer inner : ℕ) → Option ℕ → Stmt → Option Nest
   stmt_nest outer inner held (Assign line x e) = None
@@ -65,6 +66,7 @@ nest_among outer inner [] = None
 nest_among outer inner (process ∷ processes) =
     first (nest outer inner None process.body) (nest_among outer inner processes)
 
+-- the resource is one of these
 abbrev pub IsAmong : List ℕ → ℕ → Type 0
 IsAmong among r = (k : ℕ) × (slice_get among k ≡ Some r)
 

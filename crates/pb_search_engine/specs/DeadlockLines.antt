@@ -40,6 +40,7 @@ stuck_lines names name integers s =
     line (name ++ state_text s.state) ++ integer_lines name integers s.integers
     ++ hold_lines names name s.holds ++ flat_map (ask_line names name) s.asks
 
+-- a process of a deadlock, by its number
 abbrev pub stuck_at : List StuckProcess → ℕ → StuckProcess
 stuck_at processes p =
     slice_index_or processes p (record { integers = []; state = Ended; holds = []; asks = [] })

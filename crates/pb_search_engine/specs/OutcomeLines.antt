@@ -26,6 +26,7 @@ integer_names labels p = (slice_index_or labels p (record { lines = []; integers
 abbrev pub outcome_at : List ProcessOutcome → ℕ → ProcessOutcome
 outcome_at outcome p = slice_index_or outcome p (record { integers = []; faulted = false })
 
+-- how a process ended, behind its name
 abbrev pub end_text : Bool → List ℕ
 end_text true = codes " faulted"
 end_text false = codes " ended"

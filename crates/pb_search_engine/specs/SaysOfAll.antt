@@ -33,5 +33,6 @@ abbrev pub SaysOrDocument : (graph : Bool) → OutcomesOptions → List ℕ → 
 SaysOrDocument true options = SaysOfSchedules (lending_for options.lend) options.states
 SaysOrDocument false options = SaysWhether options.expect options
 
+-- what `outcomes` with these options may say of an input
 abbrev pub SaysOfSearches : OutcomesOptions → List ℕ → List ℕ → Status → Type 0
 SaysOfSearches options = SaysOrDocument options.graph options

@@ -39,6 +39,7 @@ SourceEnds lending program claims picks end = SourceComes lending program claims
 abbrev pub source_outcome : SourceProcess → ProcessOutcome
 source_outcome process = record { integers = process.vars; faulted = is_none process.run }
 
+-- how all processes of the source have ended in this state
 abbrev pub source_outcome_of : State SourceProcess → List ProcessOutcome
 source_outcome_of end = map source_outcome end.processes
 

@@ -14,6 +14,7 @@ use Rattle.pb_verifier.specs.Faults.{AreHoldings, in_joined}
 use Rattle.pb_verifier.specs.Places.{InstrAt, arms, IsInArm, Reached}
 use Rattle.pb_verifier.specs.Spread.{fact_at}
 
+-- there is a list of bundles for each reached place
 abbrev pub HasHoldings : ProcessCode → Type 0
 HasHoldings code = (held : ℕ → List Bundle) × AreHoldings code held
 
@@ -33,6 +34,7 @@ AmountFits (Fork first count) x = Unit {0}
 AmountFits (Join first count) x = Unit {0}
 AmountFits End x = Unit {0}
 
+-- how much of the resource is held after an instruction
 abbrev pub amount_after : Instr → ℕ × ℕ → ℕ × ℕ
 amount_after (Push v) x = x
 amount_after (Load n) x = x
@@ -48,6 +50,7 @@ amount_after (Fork first count) x = x
 amount_after (Join first count) x = x
 amount_after End x = x
 
+-- an instruction turns one amount, which fits, into another
 abbrev pub TurnsAmount : Instr → ℕ × ℕ → ℕ × ℕ → Type 0
 TurnsAmount i x y = AmountFits i x × (y ≡ amount_after i x)
 

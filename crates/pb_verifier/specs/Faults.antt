@@ -25,12 +25,14 @@ UsesWhatIsThere integers resources (Take bundle) = All (λ pair. pair.resource <
 UsesWhatIsThere integers resources (Give bundle) = All (λ pair. pair.resource < resources) bundle
 UsesWhatIsThere integers resources i = ⊤
 
+-- so do all instructions of a process
 abbrev pub IsInRange : ℕ → ProcessCode → Type 0
 IsInRange resources code =
     (place : ℕ) (i : Instr) → InstrAt code place i → UsesWhatIsThere code.integers resources i
 
 -- ---- arms: one after another, never left but by an end
 
+-- entries rise from place 0 on, no jump leaves its arm, and the last instruction of an arm is an end or a jump
 pub record HasArms (code : ProcessCode) : Type 0 where
   pub first : entry code 0 ≡ 0
   pub rise : (a : ℕ) → a + 1 < arms code → entry code a < entry code (a + 1)
@@ -43,6 +45,7 @@ pub record HasArms (code : ProcessCode) : Type 0 where
 -- ---- forks: of later arms, each followed by its own join and by no other way to one; each arm is forked in
 -- one place
 
+-- forks and joins go in pairs, one behind the other, and each arm but arm 0 is forked in one place
 pub record HasForks (code : ProcessCode) : Type 0 where
   pub later : (a place first count : ℕ) → IsInArm code a place → InstrAt code place (Fork first count)
       → (a < first) × (first + count ≤ arms code)
@@ -60,6 +63,7 @@ pub record HasForks (code : ProcessCode) : Type 0 where
 
 -- ---- depths: how many operands there are
 
+-- how many operands an instruction takes off the stack
 abbrev pub pops : Instr → ℕ
 pops (Store x) = 1
 pops (Compute1 op) = 1
@@ -68,6 +72,7 @@ pops (JumpIfZero target) = 1
 pops PrintTop = 1
 pops i = 0
 
+-- how many operands an instruction puts on the stack
 abbrev pub pushes : Instr → ℕ
 pushes (Push v) = 1
 pushes (Load x) = 1
@@ -79,6 +84,7 @@ pushes i = 0
 abbrev pub TurnsDepth : Instr → ℕ → ℕ → Type 0
 TurnsDepth i depth after = (pops i ≤ depth) × (depth ≤ MAX_DEPTH) × (after + pops i ≡ depth + pushes i)
 
+-- how many operands there are at each reached place, the same from wherever it is reached; 0 at entries
 abbrev pub AreDepths : ProcessCode → (ℕ → ℕ) → Type 0
 AreDepths code depth = Spreads code TurnsDepth 0 depth
 
@@ -90,11 +96,13 @@ TurnsHoldings (Take bundle) held after = (after ≡ bundle ∷ held) × (length 
 TurnsHoldings (Give bundle) held after = held ≡ bundle ∷ after
 TurnsHoldings i held after = after ≡ held
 
+-- the bundles held at each reached place, the same from wherever it is reached; none at entries
 abbrev pub AreHoldings : ProcessCode → (ℕ → List Bundle) → Type 0
 AreHoldings code held = Spreads code TurnsHoldings [] held
 
 -- ---- ends: no operand and no bundle is left at a reached one
 
+-- whatever the depths and holdings are, nothing is left where an end is reached
 abbrev pub EndsClear : ProcessCode → Type 0
 EndsClear code = (depth : ℕ → ℕ) (held : ℕ → List Bundle) → AreDepths code depth → AreHoldings code held
     → (place : ℕ) → Reached code place → InstrAt code place End → (depth place ≡ 0) × (held place ≡ [])
@@ -106,6 +114,7 @@ abbrev pub in_holdings : ℕ → List Bundle → ℕ
 in_holdings r [] = 0
 in_holdings r (bundle ∷ held) = amount_in bundle r + in_holdings r held
 
+-- the peaks of `count` arms from the first on, added up
 abbrev pub sum_of_arms : (ℕ → ℕ) → (first count : ℕ) → ℕ
 sum_of_arms peak first zero = 0
 sum_of_arms peak first (suc n) = peak first + sum_of_arms peak (first + 1) n

@@ -8,6 +8,7 @@ use Rattle.pb_code.specs.Code.{Instr}
 use Rattle.pb_code.specs.Code.{Push, Load, Store, Compute1, Compute2, Jump, JumpIfZero, PrintTop, Take, Give, Fork}
 use Rattle.pb_code.specs.Code.{Join, End}
 
+-- the place to which an instruction may jump, if there is one
 abbrev pub target_of : Instr → Option ℕ
 target_of (Push v) = None
 target_of (Load x) = None
@@ -23,6 +24,7 @@ target_of (Fork first count) = None
 target_of (Join first count) = None
 target_of End = None
 
+-- whether the next place may follow an instruction
 abbrev pub goes_on : Instr → Bool
 goes_on (Push v) = true
 goes_on (Load x) = true
@@ -42,6 +44,7 @@ goes_on End = false
 abbrev pub followers : Instr → ℕ → List ℕ
 followers i p = option_to_list (target_of i) ++ cond (goes_on i) ((p + 1) ∷ []) []
 
+-- q is one of the places that may follow the instruction at p
 abbrev pub FlowsTo : List Instr → ℕ → ℕ → Type 0
 FlowsTo instrs p q = (i : Instr) × (slice_get instrs p ≡ Some i) × Contains (followers i p) q
 
@@ -75,10 +78,12 @@ IsGrown entries instrs order =
 abbrev pub with_place : List Bool → List ℕ → ℕ → List ℕ
 with_place found order p = cond (slice_index_or found p true) order (order ++ p ∷ [])
 
+-- which places are found, after these were found too
 abbrev pub with_marks : List Bool → List ℕ → List Bool
 with_marks found [] = found
 with_marks found (p ∷ places) = with_marks (slice_set found p true) places
 
+-- the places found, in their order, after all of these
 abbrev pub with_places : List Bool → List ℕ → List ℕ → List ℕ
 with_places found order [] = order
 with_places found order (p ∷ places) = with_places (slice_set found p true) (with_place found order p) places

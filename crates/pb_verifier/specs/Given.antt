@@ -11,6 +11,7 @@ use Rattle.pb_verifier.specs.Flow.{IsGrown, IsReachedPlace, StaysInside}
 abbrev pub plain : GivenProcess → Given → Instr
 plain code i = instr_view code.bundles.items i
 
+-- the plain instructions of this process
 abbrev pub instrs_of : GivenProcess → List Instr
 instrs_of code = map (instr_view code.bundles.items) code.instrs.items
 

@@ -27,10 +27,12 @@ bundle_of (Fork first count) = []
 bundle_of (Join first count) = []
 bundle_of End = []
 
+-- the same, if there is an instruction
 abbrev pub taken : Option Instr → Bundle
 taken (Some i) = bundle_of i
 taken None = []
 
+-- where the last of the holds that are noted at a place was taken; 0 if nothing is noted
 abbrev pub last_of : Option Holding → ℕ
 last_of (Some h) = h.last
 last_of None = 0
@@ -48,9 +50,11 @@ IsChain instrs table (suc n) last =
     (bundle : Bundle) × (before : Holding) × (slice_get instrs last ≡ Some (Take bundle))
     × (fact_at table last ≡ Some before) × (before.count ≡ n) × IsChain instrs table n before.last
 
+-- the bundles that a holding stands for, the last first
 abbrev pub held_bundles : List Instr → List (Option Holding) → Holding → List Bundle
 held_bundles instrs table h = held instrs table h.count h.last
 
+-- a holding that the table spells out, of at most 256 bundles
 abbrev pub CanBeRead : List Instr → List (Option Holding) → Holding → Type 0
 CanBeRead instrs table h = IsChain instrs table h.count h.last × (h.count ≤ MAX_HOLDS)
 

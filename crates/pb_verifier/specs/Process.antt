@@ -37,6 +37,7 @@ pub record IsFirstOfProcess (resources : ℕ) (claim : ℕ → ℕ) (code : Proc
   pub earlier : (other : VerifyFault) → turn_of other < turn_of fault
       → IsProcessFreeOf resources claim code other
 
+-- what a refusal says of the process: its first fault, or out of memory
 abbrev pub IsProcessRefused : (resources : ℕ) → (claim : ℕ → ℕ) → ProcessCode → VerifyFault → Type 0
 IsProcessRefused resources claim code fault =
     (fault ≡ NoMemory → ⊥) → IsFirstOfProcess resources claim code fault

@@ -18,6 +18,7 @@ pub record Rules (M : Type 0) : Type 1 where
   pub Fits : Instr → M → Type 0
   pub after : Instr → M → M
 
+-- the kind of fact with these three parts
 abbrev pub rules_of : {M : Type 0} → M → (Instr → M → Type 0) → (Instr → M → M) → Rules M
 rules_of start Fits after = record { start = start; Fits = Fits; after = after }
 
@@ -35,6 +36,7 @@ pub record IsLeast {M : Type 0} (rules : Rules M) (entries : List ℕ) (instrs :
   pub agrees : (other : ℕ → Option M) → IsAnnotation rules entries instrs other → (p : ℕ) (m : M)
       → notes p ≡ Some m → other p ≡ Some m
 
+-- there is an annotation
 abbrev pub CanBeAnnotated : {M : Type 0} → Rules M → List ℕ → List Instr → Type 0
 CanBeAnnotated {M = M} rules entries instrs = (notes : ℕ → Option M) × IsAnnotation rules entries instrs notes
 
@@ -48,6 +50,7 @@ depth_rules = record {
 
 -- ---- holds
 
+-- the holds that an instruction needs: a take leaves at most 256, and a give has the last one as its bundle
 abbrev pub HoldFits : Instr → List Bundle → Type 0
 HoldFits (Push v) held = Unit {0}
 HoldFits (Load x) held = Unit {0}
@@ -64,10 +67,12 @@ HoldFits (Fork first count) held = Unit {0}
 HoldFits (Join first count) held = Unit {0}
 HoldFits End held = Unit {0}
 
+-- the holds without the last one
 abbrev pub tail : List Bundle → List Bundle
 tail [] = []
 tail (last ∷ held) = held
 
+-- the holds after an instruction
 abbrev pub held_after : Instr → List Bundle → List Bundle
 held_after (Push v) held = held
 held_after (Load x) held = held
@@ -101,6 +106,7 @@ pub record IsTableOf {X : Type 0} (code : ProcessCode) (Turns : Instr → X → 
   pub agrees : (fact : ℕ → X) → Spreads code Turns start fact → (place : ℕ) (x : X) → notes place ≡ Some x
       → fact place ≡ x
 
+-- what a table says of a place, if it says something
 abbrev pub fact_at : {F : Type 0} → List (Option F) → ℕ → Option F
 fact_at table p = slice_index_or table p None
 
@@ -114,6 +120,7 @@ pub record IsOpening {F : Type 0} (entries : List ℕ) (n : ℕ) (first : F) (ta
 abbrev pub notes_of : {F M : Type 0} → (F → M) → List (Option F) → ℕ → Option M
 notes_of value table p = option_map value (fact_at table p)
 
+-- each fact in a table can be read
 abbrev pub AllReadable : {F : Type 0} → (F → Type 0) → List (Option F) → Type 0
 AllReadable {F = F} IsReadable table = (p : ℕ) (f : F) → fact_at table p ≡ Some f → IsReadable f
 
@@ -133,6 +140,7 @@ AgreesAt {F = F} value table fact p = (found : F) → fact_at table p ≡ Some f
 abbrev pub with_note : {F : Type 0} → List (Option F) → F → ℕ → List (Option F)
 with_note table fact p = elim (fact_at table p) [ None ↦ slice_set table p (Some fact) | Some found ↦ table ]
 
+-- the table with a fact at each of these places where there was none
 abbrev pub with_notes : {F : Type 0} → List (Option F) → F → List ℕ → List (Option F)
 with_notes table fact [] = table
 with_notes table fact (p ∷ places) = with_notes (with_note table fact p) fact places

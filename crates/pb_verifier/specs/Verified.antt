@@ -90,6 +90,7 @@ pub record AreArmDepths (processes : List ProcessCode) (depths : List (List ℕ)
   pub greatest : (p a : ℕ) (process : ProcessCode) → slice_get processes p ≡ Some process → a < arms process
       → IsDepthOf process a (slice_index (slice_index_or depths p []) a)
 
+-- the code has no fault, the numbers that it pushes fit, and the depths are those of its arms
 pub record IsVerified (v : VerifiedCode) : Type 0 where
   pub faultless : IsFaultless v.code
   pub pushes : PushesFit v.code
