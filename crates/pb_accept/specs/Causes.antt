@@ -33,6 +33,7 @@ placed code at = Some (record { code = code; at = Some at })
 
 -- ---- texts
 
+-- the cause of a fault of tokens
 abbrev pub lex_cause : LexFault → Option Cause
 lex_cause lex.TooLong = plain L1
 lex_cause (lex.BadByte at) = placed L2 at
@@ -40,12 +41,14 @@ lex_cause (lex.NumberTooLarge at) = placed L3 at
 lex_cause (lex.NameTooLong at) = placed L4 at
 lex_cause lex.NoMemory = None
 
+-- the cause of a fault of the grammar
 abbrev pub parse_cause : ParseFault → Option Cause
 parse_cause (parse.Syntax at) = placed P1 at
 parse_cause parse.TooDeep = plain P2
 parse_cause parse.TooLarge = plain P3
 parse_cause parse.NoMemory = None
 
+-- the cause of a fault of names and amounts
 abbrev pub names_cause : NameFault → Option Cause
 names_cause (names.TooMany kind) = plain N1
 names_cause (names.Twice at) = placed N2 at
@@ -54,6 +57,7 @@ names_cause (names.Amount at) = placed N4 at
 names_cause (names.Repeated at) = placed N6 at
 names_cause names.NoMemory = None
 
+-- the cause of any fault of a text
 abbrev pub text_cause : CompileFault → Option Cause
 text_cause (Lex fault) = lex_cause fault
 text_cause (Parse fault) = parse_cause fault
@@ -63,11 +67,13 @@ text_cause Memory = None
 
 -- ---- objects
 
+-- the cause of a fault of the text of an object
 abbrev pub object_cause : ObjectFault → Option Cause
 object_cause (object.NotObject at) = placed O1 at
 object_cause (object.Limit at) = placed O2 at
 object_cause object.NoMemory = None
 
+-- the cause of a fault of code
 abbrev pub verify_cause : VerifyFault → Option Cause
 verify_cause verify.OutOfLimits = plain V9
 verify_cause verify.OverCapital = plain V8

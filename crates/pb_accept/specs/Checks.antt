@@ -30,6 +30,7 @@ IsLeft bytes done rest = (parts : List (List ℕ)) → AreParts rest parts → A
 abbrev pub AreFirstParts : List ℕ → List (List ℕ) → Type 0
 AreFirstParts bytes done = AreParts bytes done ⊎ ((rest : List ℕ) × IsLeft bytes done rest)
 
+-- the status of `check`, by whether an answer is a refusal
 abbrev pub check_status : Bool → Status
 check_status true = Refused
 check_status false = Done

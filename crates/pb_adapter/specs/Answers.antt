@@ -68,6 +68,7 @@ ContinuesTo true d seq r found told next =
     (mid : Debugging) × (text : List ℕ) × Says d (codes "next") text mid
     × StaysIf (is_event_first d.position mid.position found) mid seq r found text told next
 
+-- the run goes on to where it stops next, and what the client has set stays
 abbrev pub Continues : Debugging → Client → ℕ → Asked → List Data → Debugging → Client → Type 0
 Continues d c seq r told next c' =
     (found : Option ℕ) × IsFirst (Comes d c.lines) d.position (length d.picks) found

@@ -19,6 +19,7 @@ pub record StopPlace : Type 0 where
   pub position : ℕ
   pub reason : List ℕ
 
+-- a stop at this position, for this reason
 abbrev pub stop_at : ℕ → List ℕ → StopPlace
 stop_at i reason = record { position = i; reason = reason }
 
@@ -75,6 +76,7 @@ abbrev pub thread_of : Option Pick → ℕ
 thread_of None = 1
 thread_of (Some pick) = thread_number pick.process pick.arm
 
+-- the pick just before a position, if there is one
 abbrev pub pick_before : List Pick → ℕ → Option Pick
 pick_before picks zero = None
 pick_before picks (suc k) = slice_get picks k
@@ -83,6 +85,7 @@ pick_before picks (suc k) = slice_get picks k
 abbrev pub stopped_body : Debugging → List ℕ → Data
 stopped_body d reason = body_at d.position reason (thread_of (pick_before d.picks d.position))
 
+-- the event that the run has stopped
 abbrev pub stopped_data : (seq : ℕ) → Debugging → List ℕ → Data
 stopped_data seq d reason = event_data seq (codes "stopped") (stopped_body d reason)
 

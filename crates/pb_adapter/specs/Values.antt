@@ -18,6 +18,7 @@ abbrev pub threads_below : List (List ℕ) → List CodeProcess → ℕ → List
 threads_below names ps zero = []
 threads_below names ps (suc n) = threads_below names ps n ++ arms_of (name_of names n) n (slice_get ps n)
 
+-- the arms of all processes, as the answer to a request for threads
 abbrev pub threads_data : Debugging → Data
 threads_data d = listed (codes "threads")
     (threads_below d.verified.code.names.processes (state_of d).processes (length (state_of d).processes))
@@ -37,15 +38,18 @@ abbrev pub frames_if : Bool → Data → List Data
 frames_if false frame = []
 frames_if true frame = frame ∷ []
 
+-- the answer to a request for the stack of an arm
 abbrev pub stack_data : Debugging → (path : List ℕ) → Place → Data
 stack_data d path at = listed (codes "stackFrames") (frames_if (has_arm (slice_get (state_of d).processes at.process) at.arm)
     (frame_data path (arm_name (name_of d.verified.code.names.processes at.process) at.arm) (thread_number at.process at.arm)
     (line_or_none (line_in (slice_get d.labels at.process) (slice_get (state_of d).processes at.process) at.arm))))
 
+-- the names of the integers of a process, if there is such a process
 abbrev pub integers_of : Option ProcessLabels → List (List ℕ)
 integers_of None = []
 integers_of (Some labels) = labels.integers
 
+-- the values of the integers of a process, if there is such a process
 abbrev pub vars_of : Option CodeProcess → List ℤ
 vars_of None = []
 vars_of (Some process) = process.vars
@@ -59,6 +63,7 @@ abbrev pub operands_in : Option CodeProcess → ℕ → List ℤ
 operands_in None a = []
 operands_in (Some process) a = reverse (operands_of_thread (thread process.threads a))
 
+-- the operands of an arm at the position, as they are shown
 abbrev pub operands_at : Debugging → Place → List Data
 operands_at d at = operands_list (operands_in (slice_get (state_of d).processes at.process) at.arm)
 
@@ -75,9 +80,11 @@ variables_list d n =
     (cond (nat_eq n 129) (cash_list d.verified.code.names.resources (bank_state d))
     (operands_at d (place_of (Some (n - 129)))))))
 
+-- 0, which names nothing, in the place of no reference
 abbrev pub reference_or_none : Option ℕ → ℕ
 reference_or_none None = 0
 reference_or_none (Some n) = n
 
+-- the answer to a request for variables
 abbrev pub variables_data : Debugging → Option ℕ → Data
 variables_data d reference = listed (codes "variables") (variables_list d (reference_or_none reference))

@@ -40,6 +40,7 @@ pub record LaunchedText : Type 0 where
   pub source : List ℕ
   pub path : List ℕ
 
+-- what a contract sees of a launch
 abbrev pub launched_view : Launched → LaunchedText
 launched_view l = record {
   lending = l.lending;
@@ -105,6 +106,7 @@ abbrev pub lending_named : List ℕ → Option Lending
 lending_named word =
     cond (bytes_eq word (codes "banker")) (Some ByBanker) (cond (bytes_eq word (codes "cash")) (Some ByCash) None)
 
+-- who lends, by the word of a launch, if it has one
 abbrev pub lending_said : Option (List ℕ) → Option Lending
 lending_said None = Some ByBanker
 lending_said (Some word) = lending_named word

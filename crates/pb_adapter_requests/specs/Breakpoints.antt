@@ -14,6 +14,7 @@ abbrev pub line_said : Option ℕ → ℕ
 line_said None = 0
 line_said (Some n) = cond (nat_lt MAX_LINE n) 0 n
 
+-- the line that an item of a list says
 abbrev pub line_in : Data → ℕ
 line_in d = line_said (number_in (codes "line") d)
 
@@ -31,6 +32,7 @@ numbers_below of (suc n) = numbers_below of n ++ of n ∷ []
 abbrev pub lines_in : List Data → List ℕ
 lines_in items = numbers_below (λ i. line_in (slice_index_or items i null)) (length items)
 
+-- so of a list, if there is one
 abbrev pub lines_if : Option Items → List ℕ
 lines_if None = []
 lines_if (Some items) = lines_in (datas_in items)
@@ -48,6 +50,7 @@ is_word word (Some text) = bytes_eq text word
 abbrev pub is_events : Data → Bool
 is_events d = is_word (codes "events") (as_str d)
 
+-- whether an item of a list does, if there is a list
 abbrev pub events_if : Option Items → Bool
 events_if None = false
 events_if (Some items) = list_any is_events (datas_in items)
@@ -61,6 +64,7 @@ abbrev pub is_line : ℕ → Option ℕ → Bool
 is_line n None = false
 is_line n (Some line) = nat_eq line n
 
+-- whether some place of the code has this line
 abbrev pub has_line : List ProcessLabels → ℕ → Bool
 has_line labels n = list_any (λ l. list_any (is_line n) l.lines) labels
 
@@ -69,6 +73,7 @@ abbrev pub breakpoint_data : (verified : Bool) → (line : ℕ) → Data
 breakpoint_data verified line = object (member (codes "line") (number (unsigned line))
     (member (codes "verified") (boolean verified) no_members))
 
+-- the answer to a request for breakpoints
 abbrev pub breakpoints_data : List ProcessLabels → List ℕ → Data
 breakpoints_data labels lines = listed (codes "breakpoints")
     (list_below (λ i. breakpoint_data (has_line labels (slice_index_or lines i 0)) (slice_index_or lines i 0)) (length lines))

@@ -18,6 +18,7 @@ pub record Asked : Type 0 where
   pub command : List ℕ
   pub arguments : Option Data
 
+-- what a contract sees of a request
 abbrev pub request_view : Request → Asked
 request_view r = record {
   seq = r.seq;
@@ -32,6 +33,7 @@ asked d (Some seq) None = None
 asked d (Some seq) (Some command) =
     Some (record { seq = seq; command = command; arguments = get (codes "arguments") d })
 
+-- the request that a message is, if it is one
 abbrev pub request_in : Data → Option Asked
 request_in d = asked d (number_in (codes "seq") d) (text_in (codes "command") d)
 
@@ -51,9 +53,11 @@ pub record Place : Type 0 where
   pub process : ℕ
   pub arm : ℕ
 
+-- the arm that is meant without a number
 abbrev pub no_place : Place
 no_place = record { process = 64; arm = 0 }
 
+-- the arm that the number of a thread means
 abbrev pub place_of : Option ℕ → Place
 place_of None = no_place
 place_of (Some n) = cond (nat_eq n 0) no_place (record { process = (n - 1) / 64; arm = (n - 1) % 64 })

@@ -24,6 +24,7 @@ failed_data seq asked command message = object (member (codes "command") (string
     (member (codes "success") (boolean false)
     (member (codes "type") (string (codes "response")) no_members))))))
 
+-- a request was not carried out, with the reason
 abbrev pub refused_data : (seq : ℕ) → Asked → (message : List ℕ) → Data
 refused_data seq r message = failed_data seq r.seq r.command message
 
@@ -48,5 +49,6 @@ abbrev pub event_in : Option Value → List Data
 event_in None = []
 event_in (Some event) = view event ∷ []
 
+-- the response of a reply, and its event behind that
 abbrev pub told_by : Reply → List Data
 told_by reply = view reply.response ∷ event_in reply.event

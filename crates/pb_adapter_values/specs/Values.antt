@@ -18,6 +18,7 @@ abbrev pub events_filter : Data
 events_filter = object (member (codes "filter") (string (codes "events"))
     (member (codes "label") (string (codes "Events")) no_members))
 
+-- all that the adapter can do
 abbrev pub capabilities_data : Data
 capabilities_data = object (member (codes "exceptionBreakpointFilters") (array (items_of (events_filter ∷ [])))
     (member (codes "supportsConfigurationDoneRequest") (boolean true)
@@ -35,6 +36,7 @@ arm_name name a = utf8_lossy name ++ codes "." ++ decimal a
 
 -- ---- arms
 
+-- a thread, by its number and its name
 abbrev pub thread_data : (id : ℕ) → List ℕ → Data
 thread_data id name = object (member (codes "id") (number (unsigned id))
     (member (codes "name") (string name) no_members))
@@ -45,9 +47,11 @@ is_idle_state given.Idle = true
 is_idle_state given.Live = false
 is_idle_state given.Ended = false
 
+-- so it is with an arm
 abbrev pub is_idle : Thread → Bool
 is_idle t = is_idle_state (state_of_thread t)
 
+-- the thread of an arm as a list, which is empty if it has none
 abbrev pub thread_if : (name : List ℕ) → (p a : ℕ) → Thread → List Data
 thread_if name p a t = cond (nat_eq a 0) (thread_data (thread_number p a) (arm_name name a) ∷ [])
     (cond (is_idle t) [] (thread_data (thread_number p a) (arm_name name a) ∷ []))
@@ -57,6 +61,7 @@ abbrev pub arms_below : (name : List ℕ) → (p : ℕ) → List Thread → ℕ 
 arms_below name p threads zero = []
 arms_below name p threads (suc n) = arms_below name p threads n ++ thread_if name p n (thread threads n)
 
+-- all arms of a process; none if there is no such process
 abbrev pub arms_of : (name : List ℕ) → (p : ℕ) → Option CodeProcess → List Data
 arms_of name p None = []
 arms_of name p (Some process) = arms_below name p process.threads (length process.threads)
@@ -73,6 +78,7 @@ frame_data path name id line = object (member (codes "column") (number (unsigned
 
 -- ---- what can be shown of a process
 
+-- a list of variables with its name, and the reference by which a client asks for it
 abbrev pub scope_data : (name : List ℕ) → (reference : ℕ) → Data
 scope_data name reference = object (member (codes "expensive") (boolean false)
     (member (codes "name") (string name)
@@ -88,6 +94,7 @@ abbrev pub scopes_if : (there : Bool) → (p a : ℕ) → List Data
 scopes_if false p a = []
 scopes_if true p a = scopes_list p a
 
+-- the answer to a request for scopes
 abbrev pub scopes_data : (there : Bool) → (p a : ℕ) → Data
 scopes_data there p a = listed (codes "scopes") (scopes_if there p a)
 
@@ -113,10 +120,12 @@ operands_list operands =
 abbrev pub loan_words : (held claimed : ℕ) → List ℕ
 loan_words held claimed = decimal held ++ codes " of claim " ++ decimal claimed
 
+-- what a process holds of each resource; none if there is no such process
 abbrev pub loans_list : List (List ℕ) → BankerState → ℕ → List Data
 loans_list names s p = cond (nat_lt p (processes s))
     (list_below (λ r. variable_data (name_of names r) (loan_words (loan s p r) (claim s p r))) (resources s)) []
 
+-- the cash of each resource
 abbrev pub cash_list : List (List ℕ) → BankerState → List Data
 cash_list names s = list_below (λ r. variable_data (name_of names r) (decimal (cash s r))) (resources s)
 
@@ -137,6 +146,7 @@ saying_data shown reason thread text = object (member (codes "allThreadsStopped"
     (member (codes "text") (string text)
     (member (codes "threadId") (number (unsigned thread)) no_members)))))
 
+-- how a position is called
 abbrev pub position_words : ℕ → List ℕ
 position_words position = codes "position " ++ decimal position
 

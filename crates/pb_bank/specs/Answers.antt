@@ -74,6 +74,7 @@ IsReasonAmong n (OverClaim r) = r < n
 IsReasonAmong n (OverCash r) = r < n
 IsReasonAmong n (Rest slots) = ⊤
 
+-- so it is in this state
 abbrev pub IsReasonOf : BankerState → Reason → Type 0
 IsReasonOf s reason = IsReasonAmong (resources s) reason
 
@@ -98,9 +99,11 @@ if_free d (Ok w) = cond (has_wish d.wishes w.job) (Err refused.HasWish) (Ok w)
 abbrev pub asked_of : DeskValue → List (List ℕ) → Result Request Refusal
 asked_of d words = if_free d (request_of d words)
 
+-- `ask`: a request is granted if it is allowed; of another it is said why not
 abbrev pub AnswersAsk : DeskValue → List (List ℕ) → List ℕ → DeskValue → Type 0
 AnswersAsk d words said next = OfRequest (Grants (codes "granted") d) (asked_of d words) d said next
 
+-- `hold`: the same, said in another word
 abbrev pub AnswersHold : DeskValue → List (List ℕ) → List ℕ → DeskValue → Type 0
 AnswersHold d words said next = OfRequest (Grants (codes "held") d) (asked_of d words) d said next
 
@@ -115,9 +118,11 @@ WantsFor (OverClaim r) d w said next = (said ≡ line (codes "over claim " ++ na
 WantsFor (OverCash r) d w said next = (said ≡ line (codes "queued")) × (next ≡ with_wish d w)
 WantsFor (Rest slots) d w said next = (said ≡ line (codes "queued")) × (next ≡ with_wish d w)
 
+-- a wish, by the reason for which it is allowed or not
 abbrev pub Wants : DeskValue → Request → List ℕ → DeskValue → Type 0
 Wants d w said next = (reason : Reason) × SaysWhy d.bank.state w.job w.bundle reason × WantsFor reason d w said next
 
+-- `want`: a request is granted, is told that it is over the claim, or joins the queue
 abbrev pub AnswersWant : DeskValue → List (List ℕ) → List ℕ → DeskValue → Type 0
 AnswersWant d words said next = OfRequest (Wants d) (asked_of d words) d said next
 
@@ -126,10 +131,12 @@ abbrev pub DropsWish : Bool → DeskValue → ℕ → List ℕ → DeskValue →
 DropsWish false d p said next = Refuses refused.NoWish d said next
 DropsWish true d p said next = (said ≡ []) × (next ≡ record d { wishes = without_wish d.wishes p })
 
+-- the wish of the job that has this slot is dropped, if the name is that of a job
 abbrev pub AnswersDropping : DeskValue → Option ℕ → List ℕ → DeskValue → Type 0
 AnswersDropping d None said next = Refuses refused.NoJob d said next
 AnswersDropping d (Some p) said next = DropsWish (has_wish d.wishes p) d p said next
 
+-- `drop`: a job takes back its wish
 abbrev pub AnswersDrop : DeskValue → List (List ℕ) → List ℕ → DeskValue → Type 0
 AnswersDrop d [] said next = Refuses refused.Command d said next
 AnswersDrop d (job ∷ []) said next = AnswersDropping d (job_of d job) said next
@@ -141,6 +148,7 @@ Explains d w said next =
     (reason : Reason) × SaysWhy d.bank.state w.job w.bundle reason
     × (said ≡ reason_text (codes "allowed") d.names d.bank.state reason) × (next ≡ d)
 
+-- `why`: what would be said of a request
 abbrev pub AnswersWhy : DeskValue → List (List ℕ) → List ℕ → DeskValue → Type 0
 AnswersWhy d words said next = OfRequest (Explains d) (request_of d words) d said next
 
@@ -156,6 +164,7 @@ Gives d w said next =
     (IsHeld d.bank.state w × ServesQueue (with_state d (without_loan d.bank.state w.job w.bundle)) said next)
     ⊎ ((¬ IsHeld d.bank.state w) × Refuses refused.NotHeld d said next)
 
+-- `give`: a job gives back some of what it holds
 abbrev pub AnswersGive : DeskValue → List (List ℕ) → List ℕ → DeskValue → Type 0
 AnswersGive d words said next = OfRequest (Gives d) (request_of d words) d said next
 
@@ -167,10 +176,12 @@ desk_left d p = record {
   wishes = without_wish d.wishes p;
 }
 
+-- the job that has this slot leaves, if the name is that of a job
 abbrev pub AnswersLeaving : DeskValue → Option ℕ → List ℕ → DeskValue → Type 0
 AnswersLeaving d None said next = Refuses refused.NoJob d said next
 AnswersLeaving d (Some p) said next = ServesQueue (desk_left d p) said next
 
+-- `leave`: a job leaves the bank
 abbrev pub AnswersLeave : DeskValue → List (List ℕ) → List ℕ → DeskValue → Type 0
 AnswersLeave d [] said next = Refuses refused.Command d said next
 AnswersLeave d (job ∷ []) said next = AnswersLeaving d (job_of d job) said next
@@ -201,11 +212,13 @@ with_resource d name amount = record {
   wishes = [];
 }
 
+-- the resource is added, or refused for this reason
 abbrev pub AddsResource : DeskValue → (name : List ℕ) → Option ℕ → Option Refusal → List ℕ → DeskValue → Type 0
 AddsResource d name amount (Some refusal) said next = Refuses refusal d said next
 AddsResource d name None None said next = ⊥
 AddsResource d name (Some amount) None said next = (said ≡ []) × (next ≡ with_resource d name amount)
 
+-- `resource`: its name, and how many there are
 abbrev pub AnswersResource : DeskValue → List (List ℕ) → List ℕ → DeskValue → Type 0
 AnswersResource d [] said next = Refuses refused.Command d said next
 AnswersResource d (name ∷ []) said next = Refuses refused.Command d said next
@@ -238,6 +251,7 @@ JoinsWith d name pairs said next =
     (joined : Joined) × (bank : BankValue) × SaysOfJoining d.bank (claims_of d pairs) joined bank
     × Joins d name joined bank said next
 
+-- the job joins with these claims, or is refused
 abbrev pub AddsJob : DeskValue → (name : List ℕ) → Result (List Pair) Refusal → List ℕ → DeskValue → Type 0
 AddsJob d name (Err refusal) said next = Refuses refusal d said next
 AddsJob d name (Ok pairs) said next = JoinsWith d name pairs said next
@@ -247,6 +261,7 @@ abbrev pub job_for : DeskValue → (name : List ℕ) → Result (List Pair) Refu
 job_for d name pairs =
     cond (is_name name) (cond (is_there (place_of d.names.processes name)) (Err refused.Taken) pairs) (Err refused.Name)
 
+-- `job`: its name, and its claims
 abbrev pub AnswersJob : DeskValue → List (List ℕ) → List ℕ → DeskValue → Type 0
 AnswersJob d [] said next = Refuses refused.Command d said next
 AnswersJob d (name ∷ words) said next = AddsJob d name (job_for d name (pairs_of d.names.resources words)) said next
@@ -304,6 +319,7 @@ abbrev pub SaysWhether : DeskValue → (slots : List ℕ) → List ℕ → DeskV
 SaysWhether d slots said next =
     (of : OrderSaid) × SaysOfOrder d.bank.state d.bank.used slots of × (said ≡ order_line d.names slots of) × (next ≡ d)
 
+-- so it is if each name is that of a job
 abbrev pub ChecksOrder : DeskValue → Option (List ℕ) → List ℕ → DeskValue → Type 0
 ChecksOrder d None said next = Refuses refused.NoJob d said next
 ChecksOrder d (Some slots) said next = SaysWhether d slots said next
@@ -338,6 +354,7 @@ abbrev pub state_text : NameTable → BankValue → List ℕ
 state_text names b =
     each_below (resource_text names b.state) (resources b.state) ++ each_below (job_text names b) (processes b.state)
 
+-- the form of each command
 abbrev pub help_text : List ℕ
 help_text =
     line (codes "resource R K") ++ line (codes "job J K R, ..") ++ line (codes "ask J K R, ..")

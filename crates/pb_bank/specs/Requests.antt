@@ -15,6 +15,7 @@ pair_from None place = Err Amount
 pair_from (Some amount) None = Err NoResource
 pair_from (Some amount) (Some r) = Ok (record { resource = r; amount = amount })
 
+-- so it is by their words
 abbrev pub pair_of : (names : List (List ℕ)) → (amount resource : List ℕ) → Result Pair Refusal
 pair_of names amount resource = pair_from (amount_of amount) (place_of names resource)
 
@@ -27,6 +28,7 @@ has_resource (pair ∷ pairs) r = cond (pair.resource == r) true (has_resource p
 abbrev pub is_new : List Pair → Pair → Bool
 is_new pairs pair = not (has_resource pairs pair.resource) && nat_lt (length pairs) MAX_PAIRS
 
+-- goes on with a pair; a refusal stays
 abbrev pub on_pair : Result Pair Refusal → (Pair → Result (List Pair) Refusal) → Result (List Pair) Refusal
 on_pair (Err refusal) next = Err refusal
 on_pair (Ok pair) next = next pair

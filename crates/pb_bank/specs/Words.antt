@@ -54,6 +54,7 @@ is_name_byte b = is_ascii_alphabetic b || is_ascii_digit b || b == 95 || b == 45
 abbrev pub is_name : List ℕ → Bool
 is_name word = nat_lt (length word) 33 && list_all is_name_byte word
 
+-- a word that is a comma
 abbrev pub is_comma : List ℕ → Bool
 is_comma word = bytes_eq word (codes ",")
 

@@ -21,6 +21,7 @@ use Rattle.pb_c_bank.specs.declared.bank.Why.{Why}
 
 -- ---- a bank
 
+-- a byte that is set: any but 0
 abbrev pub is_set : ℕ → Bool
 is_set n = not (nat_eq n 0)
 
@@ -108,6 +109,7 @@ pub record IsRequest (b : BankValue) (p : ℕ) (amounts : List ℕ) : Type 0 whe
   pub each : length amounts ≡ resources b.state
   pub some : 0 < length amounts
 
+-- the number of a banker's answer
 abbrev pub number_of : Answer → ℕ
 number_of Granted = 0
 number_of NotNow = 1

@@ -33,16 +33,20 @@ with_run_rules a =
     (with_rule (with_rule a (number_rule_or (codes "workers") 1 16 (codes "1"))) (number_rule_or (codes "quantum") 1 4096 (codes "64")))
     (number_rule_or (codes "steps") 0 10000000 (codes "1000000"))
 
+-- `check`, for which the size of the heap may be given
 unfoldable pub check_command : App
 check_command = with_rule (new_app (codes "check")) (number_rule (codes "heap") 1024 16777216)
 
+-- `claims`, which has no options
 unfoldable pub claims_command : App
 claims_command = new_app (codes "claims")
 
+-- `debug`: whether commands are read as they come, and who lends
 unfoldable pub debug_command : App
 debug_command =
     with_rule (with_rule (new_app (codes "debug")) (flag_rule (codes "live"))) (word_rule_or (codes "lend") (codes "banker"))
 
+-- `draw`: who lends, and the width and the scale of the picture
 unfoldable pub draw_command : App
 draw_command =
     with_rule
@@ -51,9 +55,11 @@ draw_command =
     (number_rule (codes "width") 200 20000))
     (number_rule_or (codes "scale") 50 400 (codes "100"))
 
+-- `emit`: the format of the object
 unfoldable pub emit_command : App
 emit_command = with_rule (new_app (codes "emit")) (number_rule_or (codes "object") 1 2 (codes "2"))
 
+-- `exec`, with the options of a run
 unfoldable pub exec_command : App
 exec_command = with_run_rules (new_app (codes "exec"))
 
@@ -61,9 +67,11 @@ exec_command = with_run_rules (new_app (codes "exec"))
 unfoldable pub explain_command : App
 explain_command = with_rule (new_app (codes "explain")) (new_rule (codes "CODE"))
 
+-- `migrate`, which has no options
 unfoldable pub migrate_command : App
 migrate_command = new_app (codes "migrate")
 
+-- `outcomes`: the most configurations, who lends, what is looked for, and what is written of it
 unfoldable pub outcomes_command : App
 outcomes_command =
     with_rule
@@ -86,21 +94,26 @@ outcomes_command =
     (number_rule (codes "run") 1 4000000))
     (number_rule (codes "deadlock") 1 4000000)
 
+-- `plan`: who lends
 unfoldable pub plan_command : App
 plan_command = with_rule (new_app (codes "plan")) (word_rule_or (codes "lend") (codes "banker"))
 
+-- `record`, with the options of a run, a seed, and who lends
 unfoldable pub record_command : App
 record_command =
     with_rule
     (with_rule (with_run_rules (new_app (codes "record"))) (number_rule (codes "seed") 0 18446744073709551615))
     (word_rule_or (codes "lend") (codes "banker"))
 
+-- `replay`: who lends
 unfoldable pub replay_command : App
 replay_command = with_rule (new_app (codes "replay")) (word_rule_or (codes "lend") (codes "banker"))
 
+-- `run`, with the options of a run
 unfoldable pub run_command : App
 run_command = with_run_rules (new_app (codes "run"))
 
+-- `states`: how many rows, from which position on, and who lends
 unfoldable pub states_command : App
 states_command =
     with_rule
@@ -109,15 +122,19 @@ states_command =
     (number_rule_or (codes "from") 0 10000000 (codes "0")))
     (word_rule_or (codes "lend") (codes "banker"))
 
+-- `bank`, which has no options
 unfoldable pub bank_command : App
 bank_command = new_app (codes "bank")
 
+-- `dap`, which has no options
 unfoldable pub dap_command : App
 dap_command = new_app (codes "dap")
 
+-- `lsp`, which has no options
 unfoldable pub lsp_command : App
 lsp_command = new_app (codes "lsp")
 
+-- a command with one subcommand more
 abbrev pub with_command : App → App → App
 with_command a sub = with_subcommand a sub.top
 

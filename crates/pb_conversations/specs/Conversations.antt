@@ -21,6 +21,7 @@ use Rattle.pb_conversations.specs.declared.conversation.TheConstants.{MAX_MESSAG
 unfoldable pub message_text : Data → List ℕ
 message_text message = framed (compact_text message)
 
+-- messages as they are written, one after another
 abbrev pub texts : List Data → List ℕ
 texts messages = flat_map message_text messages
 

@@ -11,6 +11,7 @@ use Rattle.pb_debug.specs.Value.{Debugging}
 use Rattle.pb_debug_positions.specs.Walks.{AreCheckpoints, WalksBy}
 use Rattle.pb_debug.specs.declared.debugger.Debugger.TheInside.{Inside}
 
+-- what a contract sees of a debugger
 abbrev pub view_of : Inside → Debugging
 view_of d = record {
   lending = d.lending;

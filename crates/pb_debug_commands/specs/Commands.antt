@@ -8,6 +8,7 @@ use Rattle.std.specs.Str.Parse.{digits_value}
 use Rattle.pb_code.specs.Names.{is_name_byte}
 use Rattle.pb_code.specs.Numerals.{is_numeral}
 
+-- a command, with what it is about
 pub data Command : Type 0 where
   To Step Back Mark : (n : ℕ) → Command
   Vars Threads Fault : (process : List ℕ) → Command
@@ -32,6 +33,7 @@ abbrev pub looks_like_name : List ℕ → Bool
 looks_like_name [] = false
 looks_like_name (b ∷ bs) = is_ascii_alphabetic b && list_all is_name_byte bs
 
+-- a word that looks like a name
 abbrev pub word_of : List ℕ → Option (List ℕ)
 word_of word = cond (looks_like_name word) (Some word) None
 
@@ -41,6 +43,7 @@ arm_at word None = None
 arm_at word (Some dot) =
     cond (looks_like_name (take dot word)) (option_map (λ arm. (take dot word, arm)) (number_of (drop (dot + 1) word))) None
 
+-- a word of this form
 abbrev pub arm_of : List ℕ → Option (List ℕ × ℕ)
 arm_of word = arm_at word (position (λ b. b == 46) word)
 
@@ -50,10 +53,12 @@ both_of None second = None
 both_of (Some first) None = None
 both_of (Some first) (Some second) = Some (first, second)
 
+-- such an integer, by where the space is
 abbrev pub integer_at : List ℕ → Option ℕ → Option (List ℕ × List ℕ)
 integer_at word None = None
 integer_at word (Some space) = both_of (word_of (take space word)) (word_of (drop (space + 1) word))
 
+-- a word of this form
 abbrev pub integer_of : List ℕ → Option (List ℕ × List ℕ)
 integer_of word = integer_at word (position (λ b. b == 32) word)
 
@@ -63,10 +68,12 @@ stop_from None n = None
 stop_from (Some arm) None = None
 stop_from (Some arm) (Some n) = Some (Until arm.0 arm.1 n)
 
+-- such a stop, by where the space is
 abbrev pub stop_at : List ℕ → Option ℕ → Option Command
 stop_at word None = None
 stop_at word (Some space) = stop_from (arm_of (take space word)) (number_of (drop (space + 1) word))
 
+-- a word of this form
 abbrev pub stop_of : List ℕ → Option Command
 stop_of word = stop_at word (position (λ b. b == 32) word)
 
@@ -89,6 +96,7 @@ keyed key word =
     cond (bytes_eq key (codes "stack")) (option_map (λ p. Stack p.0 p.1) (arm_of word)) (
     cond (bytes_eq key (codes "pick")) (option_map (λ p. Pick p.0 p.1) (arm_of word)) None))))))))))))))
 
+-- the command of a line, by where its first space is
 abbrev pub parted : List ℕ → Option ℕ → Option Command
 parted line None = None
 parted line (Some space) = keyed (take space line) (drop (space + 1) line)

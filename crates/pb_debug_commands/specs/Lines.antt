@@ -6,6 +6,7 @@ pub record SplitLines : Type 0 where
   pub lines : List (List ℕ)
   pub rest : List ℕ
 
+-- one line before the others
 abbrev pub one_line_more : List ℕ → SplitLines → SplitLines
 one_line_more line c = record { lines = line ∷ c.lines; rest = c.rest }
 
@@ -14,6 +15,7 @@ abbrev pub cut : List ℕ → List ℕ → SplitLines
 cut part [] = record { lines = []; rest = part }
 cut part (b ∷ bytes) = cond (b == 10) (one_line_more part (cut [] bytes)) (cut (part ++ b ∷ []) bytes)
 
+-- what is after the last line feed is a line, if it is not empty
 abbrev pub last_line : List ℕ → List (List ℕ)
 last_line [] = []
 last_line (b ∷ bytes) = (b ∷ bytes) ∷ []

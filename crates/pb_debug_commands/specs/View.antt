@@ -7,12 +7,15 @@ use Rattle.pb_debug_commands.specs.declared.words.IntegerWord.{IntegerWord}
 use Rattle.pb_debug_commands.specs.Commands.{Command, To, Step, Back, Mark, Vars, Threads, Fault, Wrote, Until, Loans, Next, Prev}
 use Rattle.pb_debug_commands.specs.Commands.{Help, Circle, Line, Text, Why, Stack, Pick, Who}
 
+-- an arm of a process
 abbrev pub arm_view : ArmWord → List ℕ × ℕ
 arm_view word = (word.process.now, word.arm)
 
+-- an integer of a process
 abbrev pub integer_view : IntegerWord → List ℕ × List ℕ
 integer_view word = (word.process.now, word.integer.now)
 
+-- a command
 abbrev pub command_view : Given → Command
 command_view (given.To n) = To n
 command_view (given.Step n) = Step n

@@ -59,6 +59,7 @@ applied_text (Some word) between stack = before_text word stack
 applied_text None (Some word) stack = between_text word stack
 applied_text None None stack = []
 
+-- that of the instruction, if there is one
 abbrev pub operation_text : Option Instr → (stack : List ℤ) → List ℕ
 operation_text None stack = []
 operation_text (Some instr) stack = applied_text (word_before instr) (word_between instr) stack
@@ -74,5 +75,6 @@ abbrev pub fault_text : NameTable → Pick → (line : Option ℕ) → ProcessCo
 fault_text names pick n code t = line (
     pick_text names pick ++ codes " line " ++ number_text n ++ operation_text (instr_of code t) (operands_of_thread t))
 
+-- `no fault`
 abbrev pub no_fault_text : List ℕ
 no_fault_text = line (codes "no fault")

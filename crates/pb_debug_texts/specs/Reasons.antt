@@ -37,6 +37,7 @@ IsReasonOfCash s p bundle (Order order) = ⊥
 IsReasonOfCash s p bundle (Rest rest) = ⊥
 IsReasonOfCash s p bundle Granted = IsLent ByCash s p bundle
 
+-- what becomes of a request under this lending
 abbrev pub IsReasonBy : Lending → BankerState → ℕ → Bundle → Why → Type 0
 IsReasonBy ByBanker s p bundle why = IsReason s p bundle why
 IsReasonBy ByCash s p bundle why = IsReasonOfCash s p bundle why

@@ -38,11 +38,13 @@ askers_in names r p code process =
     each_below (λ a. asker_text names r (record { process = p; arm = a }) (amount_asked code (thread process.threads a) r))
     (length process.threads)
 
+-- the same, if there is such a process
 abbrev pub askers_of : NameTable → (r p : ℕ) → Option ProcessCode → Option CodeProcess → List ℕ
 askers_of names r p None process = []
 askers_of names r p (Some code) None = []
 askers_of names r p (Some code) (Some process) = askers_in names r p code process
 
+-- the lines of all arms of process p that ask for it
 abbrev pub askers_at : Code → State CodeProcess → (r p : ℕ) → List ℕ
 askers_at code s r p = askers_of code.names r p (slice_get code.processes p) (slice_get s.processes p)
 

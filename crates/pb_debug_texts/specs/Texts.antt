@@ -25,6 +25,7 @@ mark_text n = line (codes "mark " ++ decimal n)
 abbrev pub event_text : NameTable → ℕ → Event → List ℕ
 event_text names i event = line (codes "at " ++ decimal i ++ codes " " ++ event_line names event)
 
+-- `no event`
 abbrev pub no_event_text : List ℕ
 no_event_text = line (codes "no event")
 
@@ -38,9 +39,11 @@ abbrev pub wrote_text : NameTable → ℕ → Pick → Option ℕ → List ℕ
 wrote_text names i pick n =
     line (codes "at " ++ decimal i ++ codes " " ++ pick_text names pick ++ codes " line " ++ number_text n)
 
+-- `never`
 abbrev pub never_text : List ℕ
 never_text = line (codes "never")
 
+-- `not reached`
 abbrev pub not_reached_text : List ℕ
 not_reached_text = line (codes "not reached")
 
@@ -57,6 +60,7 @@ help_text =
 abbrev pub var_text : List ℕ → ℤ → List ℕ
 var_text name value = line (name ++ codes " " ++ signed_decimal value)
 
+-- a line for each integer
 abbrev pub vars_text : List (List ℕ) → List ℤ → List ℕ
 vars_text names vars = each_below (λ x. var_text (name_of names x) (slice_index_or vars x (pos 0))) (length vars)
 
@@ -66,6 +70,7 @@ standing_text Idle = codes " idle"
 standing_text (Live place stack) = codes " at " ++ decimal place
 standing_text Ended = codes " ended"
 
+-- `A`, and where the arm is
 abbrev pub thread_text : ℕ → Thread → List ℕ
 thread_text a t = line (decimal a ++ standing_text t)
 
@@ -89,6 +94,7 @@ loan_text names s p r = line (
     name_of names.processes p ++ codes " holds " ++ decimal (loan s p r) ++ codes " "
     ++ name_of names.resources r ++ codes " claim " ++ decimal (claim s p r))
 
+-- a line for each resource
 abbrev pub loans_of : NameTable → BankerState → ℕ → List ℕ
 loans_of names s p = each_below (loan_text names s p) (resources s)
 
@@ -96,6 +102,7 @@ loans_of names s p = each_below (loan_text names s p) (resources s)
 abbrev pub cash_text : NameTable → ℕ → ℕ → List ℕ
 cash_text names amount r = line (codes "cash " ++ decimal amount ++ codes " " ++ name_of names.resources r)
 
+-- the loans of all processes, and then the cash of each resource
 abbrev pub loans_text : NameTable → BankerState → List ℕ
 loans_text names s =
     each_below (loans_of names s) (processes s) ++ each_below (λ r. cash_text names (cash s r) r) (resources s)
@@ -104,6 +111,7 @@ loans_text names s =
 abbrev pub line_text : Option ℕ → List ℕ
 line_text n = line (codes "line " ++ number_text n)
 
+-- `no text`
 abbrev pub no_text : List ℕ
 no_text = line (codes "no text")
 
@@ -123,6 +131,7 @@ abbrev pub names_text : NameTable → List ℕ → List ℕ
 names_text names processes =
     each_below (λ k. codes " " ++ name_of names.processes (slice_index processes k)) (length processes)
 
+-- the line of a reason
 abbrev pub why_text : NameTable → Why → List ℕ
 why_text names NotAsking = line (codes "not asking")
 why_text names (Cash resource amount) = cash_text names amount resource

@@ -10,6 +10,7 @@ use Rattle.pb_diagnostics.specs.Ranges.{IsRange}
 use Rattle.pb_options.specs.Codes.{code_name}
 use Rattle.std.specs.Prelude.{Some}
 
+-- a diagnostic: the code of a refusal, what is wrong, where, and what is related to it
 abbrev pub diagnostic_data : (code message : List ℕ) → (range related : Data) → Data
 diagnostic_data code message range related = object (member (codes "code") (string code)
     (member (codes "message") (string message)

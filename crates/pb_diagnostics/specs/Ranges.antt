@@ -9,17 +9,21 @@ use Rattle.pb_lexer.specs.declared.fault.LexFault.TheVariants as lex
 use Rattle.pb_message_excerpts.specs.Places.{IsPlace}
 use Rattle.pb_message_excerpts.specs.declared.place.Place.{Place}
 
+-- a place of a text, as a position
 abbrev pub position_data : Place → Data
 position_data place = object (member (codes "character") (number (unsigned (place.column - 1)))
     (member (codes "line") (number (unsigned (place.line - 1))) no_members))
 
+-- a range, by where it starts and stops
 abbrev pub range_with : (start stop : Data) → Data
 range_with start stop = object (member (codes "end") stop (member (codes "start") start no_members))
 
+-- where a token ends; without one, the other offset
 abbrev pub end_of : Option Token → (other : ℕ) → ℕ
 end_of None other = other
 end_of (Some t) other = t.end
 
+-- whether a token begins at this offset
 abbrev pub begins_at : ℕ → Token → Bool
 begins_at at t = nat_eq t.start at
 

@@ -14,6 +14,7 @@ use Rattle.pb_grammar.specs.declared.level.Level.TheVariants as level
 use Rattle.pb_grammar.specs.Grammar.{operator, name_at, number_at}
 use Rattle.pb_grammar.specs.Reader.{Answer, Refused, Found, Part, Join, and_then, is_mark, expect, chain, more}
 
+-- how a binary operator joins two expressions, if there is one
 abbrev pub joined_by : Option BinaryOp → Option (ExprSyntax → ExprSyntax → ExprSyntax)
 joined_by None = None
 joined_by (Some op) = Some (tree.binary op)
@@ -22,6 +23,7 @@ joined_by (Some op) = Some (tree.binary op)
 unfoldable pub joins : Level → Join ExprSyntax
 joins l k = joined_by (operator l k)
 
+-- a number, a name or an expression in brackets, by its first token t
 abbrev pub primary_by : Part ExprSyntax → Token → Lexeme → Part ExprSyntax
 primary_by inner t (Number n) ts = Found (tree.number (number_at t n)) ts
 primary_by inner t (Name x) ts = Found (tree.variable (name_at t x)) ts
@@ -34,6 +36,7 @@ unfoldable pub primary : Part ExprSyntax → Part ExprSyntax
 primary inner [] = Refused
 primary inner (t ∷ ts) = primary_by inner t t.lexeme ts
 
+-- the operator before what was read below it, if the first token is that operator; else the other
 abbrev pub signed_by : Bool → UnaryOp → Answer ExprSyntax → Answer ExprSyntax → Answer ExprSyntax
 signed_by true op below other = and_then below (λ e rest. Found (tree.unary op e) rest)
 signed_by false op below other = other
@@ -43,15 +46,19 @@ unfoldable pub signed : Mark → UnaryOp → Part ExprSyntax → Part ExprSyntax
 signed m op part [] = part []
 signed m op part (t ∷ ts) = signed_by (is_mark m t.lexeme) op (signed m op part ts) (part (t ∷ ts))
 
+-- factor = "-" factor | number | name | "(" expr ")"
 unfoldable pub factor : Part ExprSyntax → Part ExprSyntax
 factor inner = signed mark.Minus sign.Negate (primary inner)
 
+-- term = factor { ("*" | "div" | "mod") factor }
 unfoldable pub term : Part ExprSyntax → Part ExprSyntax
 term inner = chain (joins level.Term) (factor inner)
 
+-- sum = term { ("+" | "-") term }
 unfoldable pub sum : Part ExprSyntax → Part ExprSyntax
 sum inner = chain (joins level.Sum) (term inner)
 
+-- `a` and what it is compared with, if a relation comes next; else `a` alone
 abbrev pub related_by : Part ExprSyntax → ExprSyntax → List Token
     → Option (ExprSyntax → ExprSyntax → ExprSyntax) → List Token → Answer ExprSyntax
 related_by part a all None ts = Found a all
@@ -62,15 +69,19 @@ unfoldable pub related : Part ExprSyntax → ExprSyntax → Part ExprSyntax
 related part a [] = Found a []
 related part a (t ∷ ts) = related_by part a (t ∷ ts) (joins level.Comparison t.lexeme) ts
 
+-- cmp = sum [ rel sum ]
 unfoldable pub comparison : Part ExprSyntax → Part ExprSyntax
 comparison inner ts = and_then (sum inner ts) (related (sum inner))
 
+-- neg = "not" neg | cmp
 unfoldable pub negation : Part ExprSyntax → Part ExprSyntax
 negation inner = signed mark.Not sign.Not (comparison inner)
 
+-- conj = neg { "and" neg }
 unfoldable pub conjunction : Part ExprSyntax → Part ExprSyntax
 conjunction inner = chain (joins level.Conjunction) (negation inner)
 
+-- expr = conj { "or" conj }
 unfoldable pub disjunction : Part ExprSyntax → Part ExprSyntax
 disjunction inner = chain (joins level.Disjunction) (conjunction inner)
 

@@ -16,6 +16,7 @@ use Rattle.pb_grammar.specs.ExpressionReader.{expression}
 abbrev pub then_mark : {X : Type 0} → Mark → Answer X → Answer X
 then_mark m answer = and_then answer (λ x rest. and_then (expect m rest) (λ _ after. Found x after))
 
+-- the way to join two parts, if it was tested
 abbrev pub joined_if : {X : Type 0} → (X → X → X) → Bool → Option (X → X → X)
 joined_if f true = Some f
 joined_if f false = None
@@ -24,22 +25,27 @@ joined_if f false = None
 unfoldable pub between : {X : Type 0} → Mark → (X → X → X) → Join X
 between m f k = joined_if f (is_mark m k)
 
+-- a name, by its token t
 abbrev pub name_by : Token → Lexeme → Part NameSyntax
 name_by t (Name x) ts = Found (name_at t x) ts
 name_by t _ ts = Refused
 
+-- a name
 abbrev pub a_name : Part NameSyntax
 a_name [] = Refused
 a_name (t ∷ ts) = name_by t t.lexeme ts
 
+-- a number, by its token t
 abbrev pub number_by : Token → Lexeme → Part NumberSyntax
 number_by t (Number n) ts = Found (number_at t n) ts
 number_by t _ ts = Refused
 
+-- a number
 abbrev pub a_number : Part NumberSyntax
 a_number [] = Refused
 a_number (t ∷ ts) = number_by t t.lexeme ts
 
+-- pair = number "of" name
 unfoldable pub a_pair : Part (List DemandSyntax)
 a_pair ts = and_then (then_mark mark.Of (a_number ts)) (λ n rest. and_then (a_name rest) (λ x after.
     Found (record { amount = n; resource = x } ∷ []) after))
@@ -48,18 +54,23 @@ a_pair ts = and_then (then_mark mark.Of (a_number ts)) (λ n rest. and_then (a_n
 abbrev pub concat : {X : Type 0} → List X → List X → List X
 concat a b = a ++ b
 
+-- pairs = pair { "," pair }
 unfoldable pub pairs : Part (List DemandSyntax)
 pairs = chain (between mark.Comma concat) a_pair
 
+-- list = stmt { ";" stmt }
 unfoldable pub list : Part StmtsSyntax → Part StmtsSyntax
 list deeper = chain (between mark.Semicolon append) deeper
 
+-- a statement as an arm
 unfoldable pub an_arm : Part StmtsSyntax → Part ArmsSyntax
 an_arm deeper ts = and_then (deeper ts) (λ a rest. Found (single_arm a) rest)
 
+-- arms = stmt { ";" stmt }
 unfoldable pub arms_part : Part StmtsSyntax → Part ArmsSyntax
 arms_part deeper = chain (between mark.Semicolon append_arms) (an_arm deeper)
 
+-- what was read after "else", if that was tested; else no statement
 abbrev pub otherwise_by : Bool → Answer StmtsSyntax → List Token → Answer StmtsSyntax
 otherwise_by true some ts = some
 otherwise_by false some ts = Found tree.no_stmt ts
@@ -74,26 +85,32 @@ abbrev pub assign : ℕ → Token → List ℕ → Part StmtsSyntax
 assign d t x ts = and_then (expect mark.Assign ts) (λ _ us. and_then (expression d us) (λ e rest.
     Found (single (tree.assign t.line (name_at t x) e)) rest))
 
+-- "print" expr, behind its first word
 abbrev pub print : ℕ → ℕ → Part StmtsSyntax
 print d line ts = and_then (expression d ts) (λ e rest. Found (single (tree.print line e)) rest)
 
+-- "if" expr "then" list [ "else" list ] "fi", behind its first word
 abbrev pub if_else : ℕ → Part StmtsSyntax → ℕ → Part StmtsSyntax
 if_else d deeper line ts = and_then (then_mark mark.Then (expression d ts)) (λ e us.
     and_then (list deeper us) (λ a vs. and_then (then_mark mark.Fi (otherwise deeper vs)) (λ b rest.
     Found (single (tree.if_else line e a b)) rest)))
 
+-- "while" expr "do" list "od", behind its first word
 abbrev pub while_do : ℕ → Part StmtsSyntax → ℕ → Part StmtsSyntax
 while_do d deeper line ts = and_then (then_mark mark.Do (expression d ts)) (λ e us.
     and_then (then_mark mark.Od (list deeper us)) (λ a rest. Found (single (tree.while_do line e a)) rest))
 
+-- "hold" pairs "do" list "od", behind its first word
 abbrev pub hold : Part StmtsSyntax → ℕ → Part StmtsSyntax
 hold deeper line ts = and_then (then_mark mark.Do (pairs ts)) (λ ps us.
     and_then (then_mark mark.Od (list deeper us)) (λ a rest. Found (single (tree.hold line ps a)) rest))
 
+-- "parbegin" arms "parend", behind its first word
 abbrev pub parbegin : Part StmtsSyntax → ℕ → Part StmtsSyntax
 parbegin deeper line ts = and_then (then_mark mark.Parend (arms_part deeper ts)) (λ a rest.
     Found (single (tree.parbegin line a)) rest)
 
+-- a statement, by its first token t
 abbrev pub statement_by : ℕ → Part StmtsSyntax → Token → Lexeme → Part StmtsSyntax
 statement_by d deeper t (Name x) ts = assign d t x ts
 statement_by d deeper t (Fixed mark.Skip) ts = Found tree.no_stmt ts

@@ -35,6 +35,7 @@ is_recorded Unexpected = false
 abbrev pub writes_picks : (command : List ℕ) → List (List ℕ) → Bool
 writes_picks command words = bytes_eq command (codes "record") || (bytes_eq command (codes "outcomes") && asks_picks words)
 
+-- whose forms the lines of this command have
 abbrev pub dialect_for : (command : List ℕ) → List (List ℕ) → Status → Dialect
 dialect_for command words status =
     cond (bytes_eq command (codes "debug")) Debug (

@@ -38,9 +38,11 @@ abbrev pub or_else : PlainForm → Option PlainForm → PlainForm
 or_else otherwise None = otherwise
 or_else otherwise (Some f) = f
 
+-- the first of these forms that the line fits; if there is none, the other
 abbrev pub first_of : List PlainForm → (otherwise : PlainForm) → List ℕ → PlainForm
 first_of fs otherwise line = or_else otherwise (find (λ f. fits f.pattern line) fs)
 
+-- the form of a line, apart from those of the parts of an outcome or a deadlock
 abbrev pub alone_form : Dialect → List ℕ → PlainForm
 alone_form dialect line = first_of (forms_of dialect) (other_of dialect) line
 
@@ -53,5 +55,6 @@ form_of dialect is_open line = cond is_open (first_of parts (alone_form dialect 
 unfoldable pub said_by : PlainForm → List ℕ → List ℕ
 said_by f line = f.first ++ members f.pattern line
 
+-- what a line is: alone, or which part of an outcome or a deadlock
 abbrev pub section_of : Dialect → (is_open : Bool) → List ℕ → Section
 section_of dialect is_open line = (form_of dialect is_open line).section

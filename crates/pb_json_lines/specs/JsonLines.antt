@@ -48,9 +48,11 @@ is_inner Holds = true
 is_inner Asks = true
 is_inner Picks = true
 
+-- whether a line is that of an outcome or a deadlock
 abbrev pub opens : Dialect → (is_open : Bool) → List ℕ → Bool
 opens dialect is_open text = is_opening (section_of dialect is_open text)
 
+-- whether a line belongs to the outcome or the deadlock before it
 abbrev pub is_part : Dialect → (is_open : Bool) → List ℕ → Bool
 is_part dialect is_open text = is_inner (section_of dialect is_open text)
 
@@ -66,6 +68,7 @@ place_of Asks = 6
 place_of Prints = 7
 place_of Picks = 8
 
+-- whether a part is of this section
 abbrev pub is_of : Section → List ℕ → Bool
 is_of section text = place_of (section_of Program true text) == place_of section
 
@@ -90,6 +93,7 @@ lists_of lines =
     ++ list_of (codes "holds") Holds lines ++ list_of (codes "asks") Asks lines
     ++ list_of (codes "prints") Prints lines ++ list_of (codes "picks") Picks lines
 
+-- the object of an outcome or a deadlock, by its line and the lines behind it
 unfoldable pub block_of : Dialect → (is_open : Bool) → List ℕ → List (List ℕ) → List ℕ
 block_of dialect is_open first lines = codes "{" ++ said_by (form_of dialect is_open first) first ++ lists_of (parts_of lines) ++ codes "}"
 
@@ -99,6 +103,7 @@ said_of dialect is_open text lines =
     cond (opens dialect is_open text) (line (block_of dialect is_open text lines))
     (cond (is_part dialect is_open text) [] (line (object_of dialect is_open text)))
 
+-- what is written for all of these lines
 abbrev pub objects : Dialect → (is_open : Bool) → List (List ℕ) → List ℕ
 objects dialect is_open [] = []
 objects dialect is_open (text ∷ lines) =

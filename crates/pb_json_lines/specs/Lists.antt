@@ -47,6 +47,7 @@ parting false Wrong = []
 abbrev pub said : (pairs : Bool) → Mode → ℕ → List ℕ
 said pairs mode b = cond (b == 32) (parting pairs mode) (b ∷ [])
 
+-- what is written of bytes, one after another
 abbrev pub inside : (pairs : Bool) → Mode → List ℕ → List ℕ
 inside pairs mode [] = []
 inside pairs mode (b ∷ bytes) = said pairs mode b ++ inside pairs (next pairs mode b) bytes

@@ -37,6 +37,7 @@ abbrev pub seen_in : (dialect : Option Dialect) → (written : Option (List ℕ)
 seen_in None written heard = written
 seen_in (Some dialect) written heard = Some heard
 
+-- what was written to an output, as its writers see it
 abbrev pub seen_by_writers : LiveSink → Option (List ℕ)
 seen_by_writers s = seen_in s.dialect s.written s.heard
 
@@ -45,6 +46,7 @@ abbrev pub failed_in : (dialect : Option Dialect) → (writes refused : ℕ) →
 failed_in None writes refused = writes
 failed_in (Some dialect) writes refused = refused
 
+-- how many writes to an output have failed, as its writers see it
 abbrev pub failures_of_writers : LiveSink → ℕ
 failures_of_writers s = failed_in s.dialect s.writes s.refused
 

@@ -99,6 +99,7 @@ taken_by Pairs line = length line
 taken_by Numbers line = length line
 taken_by Rest line = length line
 
+-- how many bytes at the front of a line a byte of a pattern takes
 abbrev pub taken : ℕ → List ℕ → ℕ
 taken p line = taken_by (marker_of p) line
 
@@ -130,6 +131,7 @@ meets_by Rest p word = true
 meets_by Label p word = not (length word == 0)
 meets_by Code p word = is_code word
 
+-- whether the bytes that it takes are of its form
 abbrev pub meets : ℕ → List ℕ → Bool
 meets p word = meets_by (marker_of p) p word
 
@@ -163,6 +165,7 @@ member_by Rest p word = member_text p (string_text word)
 member_by Label p word = member_text p (string_text word)
 member_by Code p word = member_text p (string_text word)
 
+-- the member that it makes of the bytes that it takes
 abbrev pub member : ℕ → List ℕ → List ℕ
 member p word = member_by (marker_of p) p word
 

@@ -10,6 +10,7 @@ pub record PlainForm : Type 0 where
   pub first : List ℕ
   pub pattern : List ℕ
 
+-- what contracts see of a form
 abbrev pub plain_form : Form → PlainForm
 plain_form form = record { section = form.section; first = form.first.now; pattern = form.pattern.now }
 

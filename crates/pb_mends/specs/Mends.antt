@@ -14,6 +14,7 @@ pub record Edit : Type 0 where
   pub end : ℕ
   pub bytes : List ℕ
 
+-- what contracts see of an edit
 abbrev pub edit_of : Mend → Edit
 edit_of mend = record { start = mend.start; end = mend.end; bytes = string_bytes mend.bytes }
 
@@ -38,6 +39,7 @@ abbrev pub at_or_0 : Option ℕ → ℕ
 at_or_0 None = 0
 at_or_0 (Some at) = at
 
+-- the offset of a cause, or 0 if it has none
 abbrev pub cause_offset : Option Cause → ℕ
 cause_offset None = 0
 cause_offset (Some cause) = at_or_0 cause.at

@@ -64,6 +64,7 @@ IsAnswer code labels (Err NoMemory) = ⊤
 
 -- ---- the first format alone
 
+-- whether it is the second format
 abbrev pub is_format_two : Format → Bool
 is_format_two One = false
 is_format_two Two = true
@@ -79,11 +80,13 @@ answer_one text =
     if nat_lt MAX_INPUT (length text) then Err (Limit 0)
     else if is_two (line_by heading text) then Err (NotObject 0) else answer_of text
 
+-- the fault is the first one of a text that is to be of the first format, or out of memory
 abbrev pub IsFaultOfOne : List ℕ → ObjectFault → Type 0
 IsFaultOfOne text (NotObject at) = answer_one text ≡ Err (NotObject at)
 IsFaultOfOne text (Limit at) = answer_one text ≡ Err (Limit at)
 IsFaultOfOne text NoMemory = ⊤
 
+-- the result is this code, or out of memory
 abbrev pub IsAnswerOne : Code → Result GivenCode ObjectFault → Type 0
 IsAnswerOne code (Ok x) = code_view x ≡ code
 IsAnswerOne code (Err (NotObject at)) = ⊥

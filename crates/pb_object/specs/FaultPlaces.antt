@@ -33,9 +33,11 @@ pub record IsFaultPlace (text : List ℕ) (at : ℕ) : Type 0 where
   pub stuck : (line tail : List ℕ) → rest ≡ line ++ 10 ∷ tail → ¬ BeginsObject (lines ++ (line ++ 10 ∷ []))
   pub no_object : (o : Object) → IsObject o → text ≡ object_spelling o → ⊥
 
+-- no line ends within these bytes
 abbrev pub is_one_line : List ℕ → Bool
 is_one_line line = list_all (λ b. not (b == 10)) line
 
+-- the words of a line, which single spaces part
 abbrev pub words_of : List ℕ → List Word
 words_of line = slice_split (λ b. b == 32) line
 

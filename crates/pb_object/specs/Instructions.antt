@@ -22,10 +22,12 @@ use Rattle.pb_object.specs.Words.{paired, mapped, number}
 
 -- ---- the spelling
 
+-- the words of pairs: for each its resource and its amount
 abbrev pub pair_words : List Pair → List Word
 pair_words [] = []
 pair_words (p ∷ ps) = decimal p.resource ∷ decimal p.amount ∷ pair_words ps
 
+-- the words of an instruction: its keyword, and then its numbers
 abbrev pub instr_words : Instr → List Word
 instr_words (Push v) = codes "push" ∷ signed_decimal v ∷ []
 instr_words (Load x) = codes "load" ∷ decimal x ∷ []
@@ -59,6 +61,7 @@ abbrev pub line_number : Option ℕ → ℕ
 line_number None = 0
 line_number (Some n) = n
 
+-- the words of a place: its instruction, in the second format behind the source line
 abbrev pub place_words : Format → Option ℕ × Instr → List Word
 place_words One p = instr_words p.1
 place_words Two p = decimal (line_number p.0) ∷ instr_words p.1
@@ -91,6 +94,7 @@ abbrev pub bare : Given → List Word → Verdict Given
 bare i [] = Read i
 bare i (w ∷ ws) = Malformed
 
+-- a push, by the words after its keyword
 abbrev pub push_of : List Word → Verdict Given
 push_of [] = Malformed
 push_of (w ∷ []) = mapped given.Push (signed w)
@@ -123,10 +127,12 @@ abbrev pub most_pairs : Format → ℕ
 most_pairs One = 1
 most_pairs Two = MAX_PAIRS
 
+-- the pairs of a take or a give: at least one, and no more than the format has
 unfoldable pub bundle_of : Format → List Word → Verdict (List Pair)
 bundle_of format ws =
     cond (nat_lt 0 (length ws) && nat_lt (length ws) (2 * most_pairs format + 1)) (pairs_of ws) Malformed
 
+-- an arithmetic operator, or `not`
 unfoldable pub operation : Word → List Word → Verdict Given
 operation k ws =
     select k (codes "add") (bare given.Add ws) (
@@ -137,6 +143,7 @@ operation k ws =
     select k (codes "neg") (bare given.Neg ws) (
     select k (codes "not") (bare given.Not ws) Malformed))))))
 
+-- a relation, `and` or `or`; else one of the operators above
 unfoldable pub comparison : Word → List Word → Verdict Given
 comparison k ws =
     select k (codes "eq") (bare given.Eq ws) (
@@ -161,11 +168,13 @@ plain k ws =
     select k (codes "join") (mapped (λ a. given.Join a.0 a.1) (two 1 (MAX_ARMS - 1) 1 MAX_FORK ws)) (
     select k (codes "end") (bare given.End ws) (comparison k ws)))))))))
 
+-- an instruction, by its keyword k and the words after it
 unfoldable pub instr_of : Format → Word → List Word → Verdict Instr
 instr_of format k ws =
     select k (codes "take") (mapped Take (bundle_of format ws)) (
     select k (codes "give") (mapped Give (bundle_of format ws)) (mapped (instr_view []) (plain k ws)))
 
+-- an instruction, by all of its words
 abbrev pub instr : Format → List Word → Verdict Instr
 instr format [] = Malformed
 instr format (k ∷ ws) = instr_of format k ws
@@ -175,6 +184,7 @@ abbrev pub line_given : ℕ → Option ℕ
 line_given zero = None
 line_given (suc n) = Some (suc n)
 
+-- a place: its source line, if the format has one, and its instruction
 unfoldable pub place : Format → List Word → Verdict (Option ℕ × Instr)
 place One ws = mapped (λ i. (None, i)) (instr One ws)
 place Two [] = Malformed

@@ -15,6 +15,7 @@ abbrev pub line_text : List Word → List ℕ
 line_text words = join_with_byte 32 words ++ 10 ∷ []
 
 infixl 10 ◌>>=◌
+-- goes on with what was read; a fault stays
 abbrev pub ◌>>=◌ : {A B : Type 0} → Result A Fault → (A → Result B Fault) → Result B Fault
 (Ok x) >>= f = f x
 (Err e) >>= f = Err e
@@ -24,6 +25,7 @@ abbrev pub Fails : {Y : Type 0} → ReadError → Result Y Fault → Type 0
 Fails errors.Memory read = Unit {0}
 Fails (errors.Fault f) read = read ≡ Err f
 
+-- the result, seen by `view`, is what reading gives, unless out of memory
 abbrev pub Gives : {X Y : Type 0} → (X → Y) → Result X ReadError → Result Y Fault → Type 0
 Gives view (Ok x) read = read ≡ Ok (view x)
 Gives view (Err e) read = Fails e read
@@ -33,6 +35,7 @@ abbrev pub words_before : List ℕ → Option ℕ → Result (List Word × List 
 words_before text None = Err (Malformed (length text))
 words_before text (Some i) = Ok (slice_split (λ b. b == 32) (take i text), drop 1 (drop i text))
 
+-- the words of the first line, which must be ended, and what follows it
 unfoldable pub first_words : List ℕ → Result (List Word × List ℕ) Fault
 first_words text = words_before text (position (λ b. b == 10) text)
 

@@ -12,10 +12,12 @@ use Rattle.pb_object.specs.Instructions.{place_words}
 
 -- ---- what an object says
 
+-- a resource of an object
 pub record ResourceRow : Type 0 where
   pub name : Word
   pub capital : ℕ
 
+-- a process of an object
 pub record ProcessRow : Type 0 where
   pub name : Word
   -- the names of its integers
@@ -25,15 +27,18 @@ pub record ProcessRow : Type 0 where
   -- each with its source line, if it has one
   pub places : List (Option ℕ × Instr)
 
+-- what an object says: its format, its resources and its processes
 pub record Object : Type 0 where
   pub format : Format
   pub resources : List ResourceRow
   pub processes : List ProcessRow
 
+-- the code of a process of an object
 abbrev pub code_of_row : ProcessRow → ProcessCode
 code_of_row p =
     record { integers = length p.integers; entries = p.entries; instrs = map (λ place. place.1) p.places }
 
+-- the labels of a process of an object
 abbrev pub labels_of_row : ProcessRow → ProcessLabels
 labels_of_row p = record { lines = map (λ place. place.0) p.places; integers = p.integers }
 
@@ -52,16 +57,20 @@ labels_of o = map labels_of_row o.processes
 
 -- ---- the spelling
 
+-- the number of a format
 abbrev pub digit_of : Format → Word
 digit_of One = codes "1"
 digit_of Two = codes "2"
 
+-- a keyword and a number
 abbrev pub counted_words : Word → ℕ → List Word
 counted_words key n = key ∷ decimal n ∷ []
 
+-- `resource NAME K`
 abbrev pub resource_words : ResourceRow → List Word
 resource_words r = codes "resource" ∷ r.name ∷ decimal r.capital ∷ []
 
+-- `process NAME`
 abbrev pub process_words : Word → List Word
 process_words name = codes "process" ∷ name ∷ []
 
@@ -70,9 +79,11 @@ abbrev pub integers_words : Format → List Word → List Word
 integers_words One names = counted_words (codes "vars") (length names)
 integers_words Two names = codes "vars" ∷ decimal (length names) ∷ names
 
+-- `claims K ..`: a claim for each resource
 abbrev pub claims_words : List ℕ → List Word
 claims_words claims = codes "claims" ∷ map decimal claims
 
+-- the lines of a process
 unfoldable pub process_text : Format → ProcessRow → List ℕ
 process_text format p =
     line_text (process_words p.name)
@@ -83,6 +94,7 @@ process_text format p =
     ++ (line_text (counted_words (codes "code") (length p.places))
     ++ flat_map (λ place. line_text (place_words format place)) p.places)))))
 
+-- all lines of an object
 unfoldable pub object_spelling : Object → List ℕ
 object_spelling o =
     line_text (codes "PBO" ∷ digit_of o.format ∷ [])

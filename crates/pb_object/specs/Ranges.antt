@@ -18,6 +18,7 @@ use Rattle.pb_object.specs.Objects.{ResourceRow, ProcessRow, Object}
 
 -- ---- instructions
 
+-- a resource from 0 to 15, and an amount of it from 1 to 1,000,000
 pub record IsPair (p : Pair) : Type 0 where
   pub resource : p.resource < MAX_RESOURCES
   pub some : 1 ≤ p.amount
@@ -28,14 +29,17 @@ abbrev pub ArePairs : List Pair → Type 0
 ArePairs [] = ⊤
 ArePairs (p ∷ ps) = IsPair p × AllByRecursion (λ q. q.resource ≢ p.resource) ps × ArePairs ps
 
+-- at least one pair and no more than the format has, no resource twice
 pub record IsBundle (most : ℕ) (ps : List Pair) : Type 0 where
   pub some : 1 ≤ length ps
   pub few : length ps ≤ most
   pub pairs : ArePairs ps
 
+-- n arms from f on that a fork may name: 1 to 16 of them, the first from 1 to 63
 abbrev pub AreArms : ℕ → ℕ → Type 0
 AreArms f n = (1 ≤ f) × (f < MAX_ARMS) × (1 ≤ n) × (n ≤ MAX_FORK)
 
+-- an instruction with its numbers in range
 abbrev pub IsInstr : Format → Instr → Type 0
 IsInstr format (Push v) = IsSigned v
 IsInstr format (Load x) = x < MAX_INTEGERS
@@ -76,10 +80,12 @@ abbrev pub Each : {X : Type 0} → (List X → X → Type 0) → List X → List
 Each Good earlier [] = ⊤
 Each Good earlier (x ∷ xs) = Good earlier x × Each Good (earlier ++ x ∷ []) xs
 
+-- a resource with a new name, and a capital of at most 1,000,000
 pub record IsResource (earlier : List ResourceRow) (r : ResourceRow) : Type 0 where
   pub name : is_new_name (map (λ e. e.name) earlier) r.name ≡ true
   pub capital : r.capital ≤ MAX_AMOUNT
 
+-- an entry is a place from 0 to 39,999
 abbrev pub IsEntry : List ℕ → ℕ → Type 0
 IsEntry earlier e = e ≤ MAX_PLACES - 1
 
@@ -87,6 +93,7 @@ IsEntry earlier e = e ≤ MAX_PLACES - 1
 abbrev pub AreClaimsInRange : ℕ → List ℕ → Type 0
 AreClaimsInRange m claims = (length claims ≡ m) × AllByRecursion (λ claim. claim ≤ MAX_AMOUNT) claims
 
+-- a process with a new name, all of its numbers in range, and a claim on each of m resources
 pub record IsProcess (format : Format) (m : ℕ) (earlier : List ProcessRow) (p : ProcessRow) : Type 0 where
   pub name : is_new_name (map (λ e. e.name) earlier) p.name ≡ true
   pub integers : AreIntegers format p.integers
@@ -98,10 +105,12 @@ pub record IsProcess (format : Format) (m : ℕ) (earlier : List ProcessRow) (p 
   pub few_places : length p.places ≤ MAX_PLACES
   pub places : Each (λ earlier place. IsPlace format place) [] p.places
 
+-- how many processes an object may have
 abbrev pub most_processes : Format → ℕ
 most_processes One = MAX_FIRST_PROCESSES
 most_processes Two = MAX_PROCESSES
 
+-- an object that has a spelling
 pub record IsObject (o : Object) : Type 0 where
   pub few_resources : length o.resources ≤ MAX_RESOURCES
   pub resources : Each IsResource [] o.resources

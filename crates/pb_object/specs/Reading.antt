@@ -24,6 +24,7 @@ use Rattle.pb_object.specs.Ranges.{plain_names, most_processes}
 
 -- ---- what each line says
 
+-- `PBO 1` or `PBO 2`
 abbrev pub heading : List Word → Verdict Format
 heading [] = verdict.Malformed
 heading (k ∷ []) = verdict.Malformed
@@ -38,6 +39,7 @@ abbrev pub counted : Word → ℕ → ℕ → List Word → Verdict ℕ
 counted key low high [] = verdict.Malformed
 counted key low high (k ∷ ws) = select k key (alone (number low high) ws) verdict.Malformed
 
+-- `resource NAME K`: a resource with a new name
 abbrev pub resource : List ResourceRow → List Word → Verdict ResourceRow
 resource earlier [] = verdict.Malformed
 resource earlier (k ∷ []) = verdict.Malformed
@@ -50,6 +52,7 @@ resource earlier (k ∷ name ∷ capital ∷ []) =
     verdict.Malformed
 resource earlier (k ∷ name ∷ capital ∷ w ∷ ws) = verdict.Malformed
 
+-- `process NAME`: a new name
 abbrev pub process_name : List Word → List Word → Verdict Word
 process_name earlier [] = verdict.Malformed
 process_name earlier (k ∷ []) = verdict.Malformed
@@ -68,6 +71,7 @@ named_integers count names =
     (cond (nat_lt MAX_INTEGERS (length names)) verdict.Beyond (cond (are_new [] names) (verdict.Read names) verdict.Malformed))
     verdict.Malformed
 
+-- `vars V`, in the second format with V names behind it
 abbrev pub integers : Format → List Word → Verdict (List Word)
 integers One ws = mapped plain_names (counted (codes "vars") 0 MAX_INTEGERS ws)
 integers Two [] = verdict.Malformed
@@ -82,12 +86,15 @@ claims m (k ∷ ws) =
 
 -- ---- the parts of an object, each with what follows it
 
+-- a resource, after these
 abbrev pub resource_at : List ResourceRow → List ℕ → Result (ResourceRow × List ℕ) Fault
 resource_at earlier = line_by (resource earlier)
 
+-- an entry, after these
 abbrev pub entry_at : List ℕ → List ℕ → Result (ℕ × List ℕ) Fault
 entry_at earlier = line_by (counted (codes "arm") 0 (MAX_PLACES - 1))
 
+-- a place, after these
 abbrev pub place_at : Format → List (Option ℕ × Instr) → List ℕ → Result ((Option ℕ × Instr) × List ℕ) Fault
 place_at format earlier = line_by (place format)
 
@@ -103,9 +110,11 @@ process_after format m names text = do
   places ← many (place_at format) [] count.0 count.1
   Ok (record { name = name.0; integers = integers.0; claims = claims.0; entries = entries.0; places = places.0 }, places.1)
 
+-- a process with claims on m resources, after these
 abbrev pub process_at : Format → ℕ → List ProcessRow → List ℕ → Result (ProcessRow × List ℕ) Fault
 process_at format m earlier text = process_after format m (map (λ p. p.name) earlier) text
 
+-- an object
 unfoldable pub object_at : List ℕ → Result (Object × List ℕ) Fault
 object_at text = do
   format ← line_by heading text

@@ -30,6 +30,7 @@ is_fixed [] = false
 is_fixed (k ∷ []) = false
 is_fixed (k ∷ n ∷ names) = bytes_eq k (codes "PBO") || (bytes_eq k (codes "vars") && says_number n (length names))
 
+-- whether a keyword is that of a take or of a give
 abbrev pub lends : Word → Bool
 lends k = bytes_eq k (codes "take") || bytes_eq k (codes "give")
 

@@ -35,12 +35,15 @@ side_by_side [] ys = []
 side_by_side (x ∷ xs) [] = []
 side_by_side (x ∷ xs) (y ∷ ys) = (x, y) ∷ side_by_side xs ys
 
+-- a resource that was read
 abbrev pub resource_row : GivenResource → ResourceRow
 resource_row r = record { name = r.name.items; capital = r.capital }
 
+-- the places that were read
 abbrev pub places_row : Places → List (Option ℕ × Instr)
 places_row p = side_by_side p.lines.items (map (instr_view p.bundles.items) p.instrs.items)
 
+-- a process that was read
 abbrev pub process_row : GivenProcess → ProcessRow
 process_row p = record {
   name = p.name.items;
@@ -50,6 +53,7 @@ process_row p = record {
   places = side_by_side p.labels.lines.items (map (instr_view p.code.bundles.items) p.code.instrs.items);
 }
 
+-- an object that was read
 abbrev pub object_row : Rows → Object
 object_row rows = record {
   format = rows.format;

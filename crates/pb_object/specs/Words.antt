@@ -9,11 +9,13 @@ use Rattle.pb_object.specs.declared.words.Verdict.TheVariants.{Malformed, Beyond
 
 -- ---- what a line or a part of it says: first that it is of the form, then that its numbers are in range
 
+-- what is made of what was read; a fault stays
 abbrev pub mapped : {A B : Type 0} → (A → B) → Verdict A → Verdict B
 mapped f Malformed = Malformed
 mapped f Beyond = Beyond
 mapped f (Read x) = Read (f x)
 
+-- both of what was read, or the fault: that one is not of the form goes before a number out of range
 abbrev pub paired : {A B : Type 0} → Verdict A → Verdict B → Verdict (A × B)
 paired Malformed b = Malformed
 paired Beyond Malformed = Malformed
@@ -45,6 +47,7 @@ IsBetween low high Malformed = ⊤
 IsBetween low high Beyond = ⊤
 IsBetween low high (Read n) = (low ≤ n) × (n ≤ high)
 
+-- so it is with two numbers, each with its own range
 abbrev pub AreWithin : ℕ → ℕ → ℕ → ℕ → Verdict (ℕ × ℕ) → Type 0
 AreWithin a b c d Malformed = ⊤
 AreWithin a b c d Beyond = ⊤

@@ -5,6 +5,7 @@ use Rattle.pb_base.specs.declared.lending.Lending.TheVariants.{ByBanker, ByCash}
 use Rattle.pb_options.specs.declared.options.Lend.{Lend}
 use Rattle.pb_options.specs.declared.options.Lend.TheVariants.{Banker, Cash}
 
+-- the word that names who decides
 abbrev pub lend_word : Lend → List ℕ
 lend_word Banker = codes "banker"
 lend_word Cash = codes "cash"

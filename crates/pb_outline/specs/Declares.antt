@@ -40,6 +40,7 @@ behind_lexeme before (Name name) = behind_name before.coming before.processes
 behind_lexeme before (Number n) = record { coming = coming.Nothing; processes = before.processes }
 behind_lexeme before (Fixed m) = record { coming = behind_mark m before.coming; processes = before.processes }
 
+-- so it is by a whole token
 abbrev pub behind_token : Reading → Token → Reading
 behind_token before token = behind_lexeme before token.lexeme
 
@@ -55,6 +56,7 @@ kind_named coming.Process _ = Some Process
 kind_named coming.Integers zero = None
 kind_named coming.Integers (suc p) = Some (Integer p)
 
+-- what a name of this kind declares; nothing if it has no kind
 abbrev pub named : Option Kind → Token → List Place
 named None token = []
 named (Some kind) token = declared_at kind token
@@ -70,5 +72,6 @@ declared_from before [] = []
 declared_from before (token ∷ tokens) =
     declared_here before token token.lexeme ++ declared_from (behind_token before token) tokens
 
+-- what all tokens of a text declare
 abbrev pub declared_by : List Token → List Place
 declared_by tokens = declared_from unread tokens

@@ -52,6 +52,7 @@ start_text start = codes ",\"start\":" ++ (state_text start ++ codes ",\"rows\":
 abbrev pub end_text : List ℕ → List ℕ
 end_text end = codes "],\"end\":\"" ++ (end ++ codes "\"}\n")
 
+-- a document, by all of its parts
 abbrev pub document_text : (source object : List ℕ) → Lending → (picks from : ℕ) → (start : List (List ℕ)) → (rows end : List ℕ) → List ℕ
 document_text source object lending picks from start rows end =
     head_text source object lending picks from ++ (start_text start ++ (rows ++ end_text end))

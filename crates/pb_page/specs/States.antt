@@ -74,21 +74,26 @@ pub data IsWhyText (lending : Lending) (code : Code) (s : State CodeProcess) (p 
 
 -- ---- the entries
 
+-- where each arm of a process is
 abbrev pub places_of : CodeProcess → List (List ℕ)
 places_of process =
     parts_below (λ a. place_text process.faulted (thread process.threads a) ∷ []) (length process.threads)
 
+-- the operands of each arm of a process
 abbrev pub operands_of : CodeProcess → List (List ℕ)
 operands_of process = parts_below (λ a. operands_text (thread process.threads a) ∷ []) (length process.threads)
 
+-- the answer to `why` for each arm of a process
 abbrev pub AreWhysOf : Lending → Code → State CodeProcess → (p : ℕ) → CodeProcess → List (List ℕ) → Type 0
 AreWhysOf lending code s p process =
     ArePartsBelow (λ a part. (text : List ℕ) × IsWhyText lending code s p (thread process.threads a) text × (part ≡ text ∷ []))
     (length process.threads)
 
+-- each integer of a process
 abbrev pub integers_of : CodeProcess → List (List ℕ)
 integers_of process = map integer_text process.vars
 
+-- the loan of each resource of process p
 abbrev pub loans_of : BankerState → ℕ → List (List ℕ)
 loans_of bank p = parts_below (λ r. decimal (loan bank p r) ∷ []) (resources bank)
 

@@ -30,6 +30,7 @@ use Rattle.pb_joint.specs.Texts.{AreReadAs, IsFirstFault, are_several, names_of}
 use Rattle.pb_command_io.specs.declared.status.Status.{Status}
 use Rattle.pb_command_io.specs.declared.status.Status.TheVariants.{Deadlock, Done, Refused}
 
+-- the name of a resource, by its number
 abbrev pub resource_name : List Name → ℕ → Name
 resource_name names r = slice_index_or names r []
 
@@ -51,6 +52,7 @@ abbrev pub plan_lines_of : List Name → Name → Block → List ℕ → List �
 plan_lines_of resources process body row =
     each_below (λ r. claim_line process (slice_index row r) (resource_name resources r) (parts r body)) (length resources)
 
+-- the bodies of all processes
 abbrev pub bodies_of : Program → List Block
 bodies_of program = map (λ process. process.body) program.processes
 

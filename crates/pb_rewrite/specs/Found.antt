@@ -5,6 +5,7 @@ use Rattle.pb_names.specs.Source.{Arm, SourceProcess, find}
 use Rattle.pb_rewrite.specs.declared.arm.Found.{Found}
 use Rattle.pb_rewrite.specs.declared.arm.Found.TheVariants.{At, Nowhere}
 
+-- what is found of an arm, if there is such an arm
 abbrev pub found_line : Option Arm → Found
 found_line None = Nowhere
 found_line (Some arm) = At (head_line arm)

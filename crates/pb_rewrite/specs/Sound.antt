@@ -34,6 +34,7 @@ OwnsBlock n lo hi block =
     BlockNames n block
     × ((m : ℕ) × (lo ≤ m) × IsNumbered m block × (m + length (arms_in block) ≤ hi))
 
+-- so it is with what is inside an item
 abbrev pub OwnsItem : ℕ → ℕ → ℕ → Item → Type 0
 OwnsItem n lo hi (Item.Assign line x e) = ⊤
 OwnsItem n lo hi (Item.Print line e) = ⊤
@@ -45,6 +46,7 @@ OwnsItem n lo hi (Item.Parbegin line first arms) =
     ArmsName n arms × (lo ≤ first) × AreNumbered (first + count arms) arms
     × (first + count arms + length (arms_in_arms arms) ≤ hi)
 
+-- and inside each item of a list
 abbrev pub Owns : ℕ → ℕ → ℕ → List Item → Type 0
 Owns n lo hi [] = lo ≤ hi
 Owns n lo hi (item ∷ items) = OwnsItem n lo hi item × Owns n lo hi items

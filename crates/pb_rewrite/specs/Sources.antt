@@ -17,6 +17,7 @@ use Rattle.pb_rewrite.specs.declared.source.Source.{Source}
 abbrev pub source_view : {A : Type 0} → Source A → State SourceProcess
 source_view s = record { processes = map process_view s.processes.items; loans = s.banker.state.loans }
 
+-- the banker that lends to them
 abbrev pub source_banker : {A : Type 0} → Source A → BankerValue
 source_banker s = s.banker
 

@@ -24,6 +24,7 @@ item_view (item.GiveBack line bundle) = plain.GiveBack line bundle
 abbrev pub items_view : {A : Type 0} → List (Item A) → List plain.Item
 items_view items = map item_view (reverse items)
 
+-- a list of plain arms as running arms
 abbrev pub running_of : List plain.Arm → Running
 running_of [] = Nothing
 running_of (arm ∷ arms) = Beside arm (running_of arms)
@@ -36,12 +37,15 @@ arm_step (Arm-F.Waiting line first arms rest) =
     plain.Waiting line first (running_of arms.items) (items_view rest.items)
 arm_step Arm-F.Ended = plain.Ended
 
+-- the plain arm of an arm in memory
 abbrev pub arm_view : {A : Type 0} → Arm A → plain.Arm
 arm_view {A} = fold-Arm A plain.Arm arm_step
 
+-- the plain arms of running arms in memory
 abbrev pub running_view : {A : Type 0} → List (Arm A) → Running
 running_view arms = running_of (map arm_view arms)
 
+-- the plain process of a process in memory
 abbrev pub process_view : {A : Type 0} → SourceProcess A → plain.SourceProcess
 process_view p = record { vars = p.vars.items; run = option_map arm_view p.run }
 

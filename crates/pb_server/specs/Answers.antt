@@ -71,6 +71,7 @@ AnswersNew methods.Shutdown s id told after = Refuses s id faults.NotInitialized
 AnswersNew (methods.Query query) s id told after = Refuses s id faults.NotInitialized (codes "the server is not initialized") told after
 AnswersNew methods.Unknown s id told after = Refuses s id faults.NotInitialized (codes "the server is not initialized") told after
 
+-- a request, by how far the client has come
 abbrev pub AnswersIn : Finding → Phase → Method → Serving → (id : Data) → Option Data → List Data → Serving → Type 0
 AnswersIn Finds phases.New method s id params told after = AnswersNew method s id told after
 AnswersIn Finds phases.Open method s id params told after = AnswersOpen Finds method s id params told after
@@ -126,6 +127,7 @@ HearsExit notices.Closed s told after = StaysSilent s told after
 HearsExit notices.Exit s told after = Leaves s told after
 HearsExit notices.Other s told after = StaysSilent s told after
 
+-- a notification, by how far the client has come
 abbrev pub HearsIn : Diagnosing → Phase → Notice → Serving → Option Data → List Data → Serving → Type 0
 HearsIn Diagnoses phases.New notice s params told after = HearsExit notice s told after
 HearsIn Diagnoses phases.Open notice s params told after = HearsOpen Diagnoses notice s params told after
@@ -137,6 +139,7 @@ Hears Diagnoses s call told after = HearsIn Diagnoses s.phase (notice_of call.me
 
 -- ---- all messages
 
+-- a message, by what it is
 abbrev pub AnswersHeard : Diagnosing → Finding → Heard → Serving → List Data → Serving → Type 0
 AnswersHeard Diagnoses Finds (request id call) s told after = AnswersRequest Finds s id call told after
 AnswersHeard Diagnoses Finds (notification call) s told after = Hears Diagnoses s call told after

@@ -13,6 +13,7 @@ pub data FoundData : Type 0 where
   result : Data → FoundData
   refused : (message : List ℕ) → FoundData
 
+-- what contracts see of what is found
 abbrev pub found_view : Given → FoundData
 found_view (given.Result value) = result (view value)
 found_view (given.Refused message) = refused message.now

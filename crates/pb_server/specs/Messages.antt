@@ -22,6 +22,7 @@ pub record Called : Type 0 where
   pub method : List ℕ
   pub params : Option Data
 
+-- what contracts see of a call
 abbrev pub call_view : Call → Called
 call_view c = record { method = c.method.now; params = option_map (λ v. view v.now) c.params }
 
@@ -31,6 +32,7 @@ pub data Heard : Type 0 where
   notification : Called → Heard
   neither : Heard
 
+-- what contracts see of a message
 abbrev pub message_view : Message → Heard
 message_view (messages.Request id call) = request (view id.now) (call_view call)
 message_view (messages.Notification call) = notification (call_view call)
@@ -42,5 +44,6 @@ heard_of id None params = neither
 heard_of None (Some method) params = notification (record { method = method; params = params })
 heard_of (Some id) (Some method) params = cond (is_id id) (request id (record { method = method; params = params })) neither
 
+-- what a message is
 abbrev pub heard_in : Data → Heard
 heard_in d = heard_of (get (codes "id") d) (text_in (codes "method") d) (get (codes "params") d)

@@ -4,6 +4,7 @@ use Rattle.serde_json.specs.Data.{Data, Items, no_items, item}
 use Rattle.serde_json.specs.Find.{get, as_array}
 use Rattle.pb_adapter_requests.specs.Requests.{number_in, text_in}
 
+-- what the parameters say of a document, if they do
 abbrev pub document_in : Option Data → Option Data
 document_in params = option_and_then (get (codes "textDocument")) params
 
@@ -22,9 +23,11 @@ abbrev pub whole_if : (range : Option Data) → Data → Option (List ℕ)
 whole_if None change = text_in (codes "text") change
 whole_if (Some range) change = None
 
+-- the text of a change, if it is of the whole text
 abbrev pub whole_text : Data → Option (List ℕ)
 whole_text change = whole_if (get (codes "range") change) change
 
+-- the last of these items, if there are some
 abbrev pub last_item : Items → Option Data
 last_item no_items = None
 last_item (item d no_items) = Some d

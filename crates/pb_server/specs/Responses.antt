@@ -27,11 +27,13 @@ abbrev pub reason_data : Fault → (message : List ℕ) → Data
 reason_data fault message = object (member (codes "code") (number (of_integer (fault_number fault)))
     (member (codes "message") (string message) no_members))
 
+-- a response with a fault in the place of a result
 abbrev pub response_with : (id reason : Data) → Data
 response_with id reason = object (member (codes "error") reason
     (member (codes "id") id
     (member (codes "jsonrpc") (string (codes "2.0")) no_members)))
 
+-- the response to a request that is refused for this reason
 abbrev pub error_data : (id : Data) → Fault → (message : List ℕ) → Data
 error_data id fault message = response_with id (reason_data fault message)
 
@@ -39,11 +41,13 @@ error_data id fault message = response_with id (reason_data fault message)
 abbrev pub of_document : (uri : List ℕ) → (items : Data) → Data
 of_document uri items = object (member (codes "diagnostics") items (member (codes "uri") (string uri) no_members))
 
+-- so it is with a version that is told
 abbrev pub of_version : (uri : List ℕ) → (version : ℕ) → (items : Data) → Data
 of_version uri version items = object (member (codes "diagnostics") items
     (member (codes "uri") (string uri)
     (member (codes "version") (number (unsigned version)) no_members)))
 
+-- the parameters of a notification with diagnostics
 abbrev pub published_data : (uri : List ℕ) → (version : Option ℕ) → (items : Data) → Data
 published_data uri None items = of_document uri items
 published_data uri (Some version) items = of_version uri version items
@@ -54,6 +58,7 @@ publishing_with params = object (member (codes "jsonrpc") (string (codes "2.0"))
     (member (codes "method") (string (codes "textDocument/publishDiagnostics"))
     (member (codes "params") params no_members)))
 
+-- the notification with these diagnostics, and with the version if it is told
 abbrev pub publishing_data : (uri : List ℕ) → (version : Option ℕ) → (items : Data) → Data
 publishing_data uri version items = publishing_with (published_data uri version items)
 
@@ -72,6 +77,7 @@ able_data = object (member (codes "codeActionProvider") (boolean true)
     (member (codes "textDocumentSync") (object (member (codes "change") (number (unsigned 1))
     (member (codes "openClose") (boolean true) no_members))) no_members))))))))))
 
+-- the answer to `initialize`: what the server can do, and its name
 abbrev pub capabilities_data : Data
 capabilities_data = object (member (codes "capabilities") able_data
     (member (codes "serverInfo") (object (member (codes "name") (string (codes "parbegin")) no_members)) no_members))

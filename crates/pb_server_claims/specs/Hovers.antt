@@ -37,6 +37,7 @@ abbrev pub hover_if : (text : List ℕ) → Token → Option (List ℕ) → Data
 hover_if text token None = null
 hover_if text token (Some words) = hover_data (range_data text token.start token.end) words
 
+-- what is shown of a token, if there is one
 abbrev pub hover_token : (text : List ℕ) → Option Token → Data
 hover_token text None = null
 hover_token text (Some token) = hover_if text token (lexeme_words token.lexeme)

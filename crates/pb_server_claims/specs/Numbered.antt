@@ -43,6 +43,7 @@ capital n r = slice_index (capital_of n.program) r
 abbrev pub claim : Numbered → (p r : ℕ) → ℕ
 claim n p r = cell n.claims p r
 
+-- the bodies of all processes
 abbrev pub bodies_of : Program → List Block
 bodies_of program = map (λ process. process.body) program.processes
 

@@ -13,6 +13,7 @@ abbrev pub position_of_numbers : Option ℕ → Option ℕ → Option Position
 position_of_numbers (Some line) (Some character) = Some (record { line = line; character = character })
 position_of_numbers _ _ = None
 
+-- the position that a value says
 abbrev pub position_in : Data → Option Position
 position_in d = position_of_numbers (number_in (codes "line") d) (number_in (codes "character") d)
 

@@ -16,10 +16,12 @@ item_kind Resource = 21
 item_kind Process = 3
 item_kind (Integer p) = 6
 
+-- something that may be written, with its kind
 abbrev pub item_data : (kind : ℕ) → (label : List ℕ) → Data
 item_data kind label = object (member (codes "kind") (number (unsigned kind))
     (member (codes "label") (string label) no_members))
 
+-- a name
 abbrev pub name_item : Place → Data
 name_item place = item_data (item_kind place.kind) (utf8_lossy place.text)
 

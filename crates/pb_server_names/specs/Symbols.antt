@@ -37,6 +37,7 @@ symbol_data text place extent inside =
 abbrev pub own_extent : Place → Extent
 own_extent place = record { start = place.at; end = place.at + length place.text }
 
+-- the symbol of an integer
 abbrev pub integer_data : (text : List ℕ) → Place → Data
 integer_data text place = symbol_data text place (own_extent place) []
 
@@ -56,6 +57,7 @@ symbols_by Process text tokens places place =
     symbol_data text place (extent_of tokens place.at) (integers_at text places place.at) ∷ []
 symbols_by (Integer p) text tokens places place = []
 
+-- the symbols that a place makes: it makes none if it declares nothing
 abbrev pub symbols_of : (text : List ℕ) → List Token → List Place → Place → List Data
 symbols_of text tokens places place = cond place.declares (symbols_by place.kind text tokens places place) []
 

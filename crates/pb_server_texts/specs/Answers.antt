@@ -36,6 +36,7 @@ RenamesTo uri text params None d = d ≡ null
 RenamesTo uri text params (Some name) d =
     Answers (λ tokens places. rename_data uri text name places (asked_place text places params)) null text d
 
+-- what a new name that the parameters give changes
 abbrev pub AnswersRename : (uri text : List ℕ) → Option Data → Data → Type 0
 AnswersRename uri text params d = RenamesTo uri text params (asked_name params) d
 
@@ -54,5 +55,6 @@ abbrev pub CompletesAt : (text : List ℕ) → Option ℕ → Data → Type 0
 CompletesAt text None d = d ≡ items_data []
 CompletesAt text (Some at) d = CompletesIn text at d
 
+-- what may be written where the parameters ask for it
 abbrev pub AnswersCompletion : (text : List ℕ) → Option Data → Data → Type 0
 AnswersCompletion text params d = CompletesAt text (asked_offset text params) d

@@ -33,9 +33,11 @@ abbrev pub HasNumber : List Row → Text → ℕ → Type 0
 HasNumber rows id n = (t : Text) × (one_of id rows ≡ Some t)
     × IsNumeral 10 (without_leading_plus t) × (n ≡ digits_value 10 (without_leading_plus t))
 
+-- the same, in a range
 abbrev pub HasNumberIn : List Row → Text → ℕ → ℕ → ℕ → Type 0
 HasNumberIn rows id least most n = HasNumber rows id n × (least ≤ n) × (n ≤ most)
 
+-- the numbers of a run
 abbrev pub HasRunNumbers : List Row → RunOptions → Type 0
 HasRunNumbers rows o = HasNumber rows (codes "workers") o.workers × HasNumber rows (codes "quantum") o.quantum
     × HasNumber rows (codes "steps") o.steps
@@ -50,6 +52,7 @@ abbrev pub HasOptionalNumberIn : List Row → Text → (least most : ℕ) → Op
 HasOptionalNumberIn rows id least most (Some n) = HasNumberIn rows id least most n
 HasOptionalNumberIn rows id least most None = one_of id rows ≡ None
 
+-- the number of `check`, if it is given
 abbrev pub HasCheckNumbers : List Row → CheckOptions → Type 0
 HasCheckNumbers rows o = HasOptionalNumber rows (codes "heap") o.heap
 
@@ -66,10 +69,12 @@ abbrev pub HasRecordNumbers : List Row → RecordOptions → Type 0
 HasRecordNumbers rows o = HasRunNumbers rows o.run × HasOptionalNumber rows (codes "seed") o.seed
     × IfSome o.seed (λ n. n ≤ 18446744073709551615) × HasLend rows o.lend
 
+-- the number of a format
 abbrev pub format_number : Format → ℕ
 format_number One = 1
 format_number Two = 2
 
+-- the format of `emit`, by its number
 abbrev pub HasEmitNumber : List Row → EmitOptions → Type 0
 HasEmitNumber rows o = HasNumber rows (codes "object") (format_number o.object)
 
@@ -77,6 +82,7 @@ HasEmitNumber rows o = HasNumber rows (codes "object") (format_number o.object)
 abbrev pub HasCode : List Row → Option Code → Type 0
 HasCode rows code = one_of (codes "CODE") rows ≡ option_map code_name code
 
+-- the options of `outcomes`
 abbrev pub HasSearchOptions : List Row → OutcomesOptions → Type 0
 HasSearchOptions rows o = HasNumber rows (codes "states") o.states × HasLend rows o.lend
     × HasFlag rows (codes "first-deadlock") o.first_deadlock × HasFlag rows (codes "prints") o.prints
@@ -85,19 +91,24 @@ HasSearchOptions rows o = HasNumber rows (codes "states") o.states × HasLend ro
     × HasFlag rows (codes "graph") o.graph
     × HasOptionalNumberIn rows (codes "run") 1 MAX_STATES o.run × HasOptionalNumberIn rows (codes "deadlock") 1 MAX_STATES o.deadlock
 
+-- the options of `debug`
 abbrev pub HasDebugOptions : List Row → DebugOptions → Type 0
 HasDebugOptions rows o = HasFlag rows (codes "live") o.live × HasLend rows o.lend
 
+-- the options of `draw`
 abbrev pub HasDrawOptions : List Row → DrawOptions → Type 0
 HasDrawOptions rows o = HasLend rows o.lend × HasOptionalNumberIn rows (codes "width") MIN_WIDTH MAX_WIDTH o.width
     × HasNumberIn rows (codes "scale") MIN_SCALE MAX_SCALE o.scale
 
+-- who decides, for `plan`
 abbrev pub HasPlanLend : List Row → PlanOptions → Type 0
 HasPlanLend rows o = HasLend rows o.lend
 
+-- who decides, for `replay`
 abbrev pub HasReplayLend : List Row → ReplayOptions → Type 0
 HasReplayLend rows o = HasLend rows o.lend
 
+-- the options of `states`
 abbrev pub HasStatesOptions : List Row → StatesOptions → Type 0
 HasStatesOptions rows o = HasNumber rows (codes "rows") o.rows × HasNumber rows (codes "from") o.from × HasLend rows o.lend
 
