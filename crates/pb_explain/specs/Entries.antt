@@ -9,6 +9,7 @@ use Rattle.pb_explain.specs.Objects.{o1-entry, o2-entry, v1-entry, v2-entry, v3-
 use Rattle.pb_explain.specs.Objects.{v7-entry, v8-entry, v9-entry}
 use Rattle.pb_explain.specs.Runs.{k1-entry, k2-entry, h1-entry, g1-entry, g2-entry, g3-entry, g4-entry}
 
+-- what there is to say of a code
 unfoldable pub entry_of : Code → Explanation
 entry_of code.L1 = l1-entry
 entry_of code.L2 = l2-entry

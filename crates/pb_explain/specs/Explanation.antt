@@ -23,10 +23,12 @@ pub record Explanation : Type 0 where
   pub example : Option PlainExample
   pub mend : List ℕ
 
+-- what an example of the tables reads, as plain texts
 abbrev pub plain_input : ExampleInput → PlainInput
 plain_input (given.Text text) = Text text.now
 plain_input (given.Repeated repeated times) = Repeated repeated.now times
 
+-- an example of the tables, as plain texts
 abbrev pub plain_example : Example → PlainExample
 plain_example example = record {
   command = example.command.now;

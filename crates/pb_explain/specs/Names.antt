@@ -3,6 +3,7 @@
 use Rattle.std.specs.Prelude.{◌++◌, ℕ, List, Some, codes}
 use Rattle.pb_explain.specs.Explanation.{Explanation, Text}
 
+-- what the example of N1 reads
 abbrev pub n1-input : List ℕ
 n1-input =
     codes "process p\n"
@@ -13,6 +14,7 @@ n1-input =
     ++ codes "  parend\n"
     ++ codes "end\n"
 
+-- what there is to say of N1
 abbrev pub n1-entry : Explanation
 n1-entry = record {
   summary = codes "too many of a kind";
@@ -30,6 +32,7 @@ n1-entry = record {
       ++ codes "several between `begin` and `end`, or use an integer again.";
 }
 
+-- what the example of N2 reads
 abbrev pub n2-input : List ℕ
 n2-input =
     codes "process p\n"
@@ -38,6 +41,7 @@ n2-input =
     ++ codes "  skip\n"
     ++ codes "end\n"
 
+-- what there is to say of N2
 abbrev pub n2-entry : Explanation
 n2-entry = record {
   summary = codes "a name that is declared twice";
@@ -54,6 +58,7 @@ n2-entry = record {
       ++ codes "may an integer, a resource and a process.";
 }
 
+-- what the example of N3 reads
 abbrev pub n3-input : List ℕ
 n3-input =
     codes "process p\n"
@@ -61,6 +66,7 @@ n3-input =
     ++ codes "  x := 1\n"
     ++ codes "end\n"
 
+-- what there is to say of N3
 abbrev pub n3-entry : Explanation
 n3-entry = record {
   summary = codes "a name that is not declared";
@@ -79,6 +85,7 @@ n3-entry = record {
       ++ codes "`resource tape = 2;`.";
 }
 
+-- what the example of N4 reads
 abbrev pub n4-input : List ℕ
 n4-input =
     codes "resource tape = 2;\n"
@@ -87,6 +94,7 @@ n4-input =
     ++ codes "  hold 0 of tape do skip od\n"
     ++ codes "end\n"
 
+-- what there is to say of N4
 abbrev pub n4-entry : Explanation
 n4-entry = record {
   summary = codes "an amount that is out of range";
@@ -103,6 +111,7 @@ n4-entry = record {
       ++ codes "and `od`.";
 }
 
+-- what the example of N6 reads
 abbrev pub n6-input : List ℕ
 n6-input =
     codes "resource tape = 2;\n"
@@ -111,6 +120,7 @@ n6-input =
     ++ codes "  hold 1 of tape, 1 of tape do skip od\n"
     ++ codes "end\n"
 
+-- what there is to say of N6
 abbrev pub n6-entry : Explanation
 n6-entry = record {
   summary = codes "a resource that is named twice in a hold";
@@ -125,6 +135,7 @@ n6-entry = record {
   mend = codes "Add the amounts, as in `hold 2 of tape do`.";
 }
 
+-- what the example of C1 reads
 abbrev pub c1-input : List ℕ
 c1-input =
     codes "resource tape = 1;\n"
@@ -135,6 +146,7 @@ c1-input =
     ++ codes "  od\n"
     ++ codes "end\n"
 
+-- what there is to say of C1
 abbrev pub c1-entry : Explanation
 c1-entry = record {
   summary = codes "a claim over the capital";
@@ -154,6 +166,7 @@ c1-entry = record {
       ++ codes "shows the claims of all processes, whatever the capital is.";
 }
 
+-- what the example of E1 reads
 abbrev pub e1-input : List ℕ
 e1-input =
     codes "resource tape = 1;\n"
@@ -163,6 +176,7 @@ e1-input =
     ++ codes "  hold 1 of tape, 1 of disk do skip od\n"
     ++ codes "end\n"
 
+-- what there is to say of E1
 abbrev pub e1-entry : Explanation
 e1-entry = record {
   summary = codes "an object that the first format cannot have";

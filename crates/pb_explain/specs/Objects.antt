@@ -2,11 +2,13 @@
 use Rattle.std.specs.Prelude.{◌++◌, ℕ, List, Some, None, codes}
 use Rattle.pb_explain.specs.Explanation.{Explanation, Text}
 
+-- what the example of O1 reads
 abbrev pub o1-input : List ℕ
 o1-input =
     codes "PBO 2\n"
     ++ codes "resources none\n"
 
+-- what there is to say of O1
 abbrev pub o1-entry : Explanation
 o1-entry = record {
   summary = codes "a line of an object that is not of its form";
@@ -25,11 +27,13 @@ o1-entry = record {
       ++ codes "has the form of each.";
 }
 
+-- what the example of O2 reads
 abbrev pub o2-input : List ℕ
 o2-input =
     codes "PBO 2\n"
     ++ codes "resources 17\n"
 
+-- what there is to say of O2
 abbrev pub o2-entry : Explanation
 o2-entry = record {
   summary = codes "a number of an object that is out of range";
@@ -48,6 +52,7 @@ o2-entry = record {
       ++ codes "text\".";
 }
 
+-- what the example of V1 reads
 abbrev pub v1-input : List ℕ
 v1-input =
     codes "PBO 2\n"
@@ -62,6 +67,7 @@ v1-input =
     ++ codes "0 push 1\n"
     ++ codes "0 print\n"
 
+-- what there is to say of V1
 abbrev pub v1-entry : Explanation
 v1-entry = record {
   summary = codes "arms that are not sound";
@@ -76,6 +82,7 @@ v1-entry = record {
   mend = codes "End each arm with `end`, and let jumps stay within the places of their arm.";
 }
 
+-- what the example of V2 reads
 abbrev pub v2-input : List ℕ
 v2-input =
     codes "PBO 2\n"
@@ -90,6 +97,7 @@ v2-input =
     ++ codes "0 print\n"
     ++ codes "0 end\n"
 
+-- what there is to say of V2
 abbrev pub v2-entry : Explanation
 v2-entry = record {
   summary = codes "operands that do not fit";
@@ -107,6 +115,7 @@ v2-entry = record {
       ++ codes "to a place.";
 }
 
+-- what the example of V3 reads
 abbrev pub v3-input : List ℕ
 v3-input =
     codes "PBO 2\n"
@@ -122,6 +131,7 @@ v3-input =
     ++ codes "0 print\n"
     ++ codes "0 end\n"
 
+-- what there is to say of V3
 abbrev pub v3-entry : Explanation
 v3-entry = record {
   summary = codes "an integer or a resource that is not there";
@@ -136,6 +146,7 @@ v3-entry = record {
   mend = codes "Use a smaller number, or raise the number of integers in the line `vars`.";
 }
 
+-- what the example of V4 reads
 abbrev pub v4-input : List ℕ
 v4-input =
     codes "PBO 2\n"
@@ -151,6 +162,7 @@ v4-input =
     ++ codes "0 give 0 1\n"
     ++ codes "0 end\n"
 
+-- what there is to say of V4
 abbrev pub v4-entry : Explanation
 v4-entry = record {
   summary = codes "holdings that do not fit";
@@ -168,6 +180,7 @@ v4-entry = record {
       ++ codes "still open, on each way to it.";
 }
 
+-- what the example of V5 reads
 abbrev pub v5-input : List ℕ
 v5-input =
     codes "PBO 2\n"
@@ -182,6 +195,7 @@ v5-input =
     ++ codes "0 push 1\n"
     ++ codes "0 end\n"
 
+-- what there is to say of V5
 abbrev pub v5-entry : Explanation
 v5-entry = record {
   summary = codes "operands or holdings that are left at an end";
@@ -196,6 +210,7 @@ v5-entry = record {
   mend = codes "Print or store each operand, and give back what was taken, before the `end`.";
 }
 
+-- what the example of V6 reads
 abbrev pub v6-input : List ℕ
 v6-input =
     codes "PBO 2\n"
@@ -212,6 +227,7 @@ v6-input =
     ++ codes "0 end\n"
     ++ codes "0 end\n"
 
+-- what there is to say of V6
 abbrev pub v6-entry : Explanation
 v6-entry = record {
   summary = codes "forks and joins that do not fit";
@@ -227,6 +243,7 @@ v6-entry = record {
   mend = codes "Write each `fork` and its `join` as a pair, and start each arm by one of them.";
 }
 
+-- what the example of V7 reads
 abbrev pub v7-input : List ℕ
 v7-input =
     codes "PBO 2\n"
@@ -243,6 +260,7 @@ v7-input =
     ++ codes "0 give 0 1\n"
     ++ codes "0 end\n"
 
+-- what there is to say of V7
 abbrev pub v7-entry : Explanation
 v7-entry = record {
   summary = codes "a process that may hold more than it claims";
@@ -258,6 +276,7 @@ v7-entry = record {
   mend = codes "Raise the claim in the line `claims`, or take less.";
 }
 
+-- what the example of V8 reads
 abbrev pub v8-input : List ℕ
 v8-input =
     codes "PBO 2\n"
@@ -272,6 +291,7 @@ v8-input =
     ++ codes "code 1\n"
     ++ codes "0 end\n"
 
+-- what there is to say of V8
 abbrev pub v8-entry : Explanation
 v8-entry = record {
   summary = codes "a claim over the capital, in an object";
@@ -284,6 +304,7 @@ v8-entry = record {
   mend = codes "Lower the claim, or raise the capital in the line `resource`.";
 }
 
+-- what there is to say of V9
 abbrev pub v9-entry : Explanation
 v9-entry = record {
   summary = codes "code that is out of its limits";

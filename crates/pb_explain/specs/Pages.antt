@@ -47,6 +47,7 @@ abbrev pub page_of_entry : Code → Explanation → List ℕ
 page_of_entry code entry =
     meaning_text code entry ++ examples_text entry.example ++ codes "\n" ++ line entry.mend
 
+-- the page of this code
 abbrev pub page_of : Code → List ℕ
 page_of code = page_of_entry code (entry_of code)
 

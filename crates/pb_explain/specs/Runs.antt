@@ -2,12 +2,14 @@
 use Rattle.std.specs.Prelude.{◌++◌, ℕ, List, Some, codes}
 use Rattle.pb_explain.specs.Explanation.{Explanation, Text}
 
+-- what the example of K1 reads
 abbrev pub k1-input : List ℕ
 k1-input =
     codes "process p begin print 1 end\n"
     ++ codes "%%\n"
     ++ codes "p.1 1\n"
 
+-- what there is to say of K1
 abbrev pub k1-entry : Explanation
 k1-entry = record {
   summary = codes "a pick line that is not of its form";
@@ -27,6 +29,7 @@ k1-entry = record {
       ++ codes "body. Nothing but pick lines may follow the line `%%`, no empty line either.";
 }
 
+-- what the example of K2 reads
 abbrev pub k2-input : List ℕ
 k2-input =
     codes "process p begin print 1 end\n"
@@ -34,6 +37,7 @@ k2-input =
     ++ codes "p.0 10000000\n"
     ++ codes "p.0 1\n"
 
+-- what there is to say of K2
 abbrev pub k2-entry : Explanation
 k2-entry = record {
   summary = codes "too many picks";
@@ -46,6 +50,7 @@ k2-entry = record {
   mend = codes "Make fewer picks: record a shorter run, by `--steps`.";
 }
 
+-- what the example of H1 reads
 abbrev pub h1-input : List ℕ
 h1-input =
     codes "resource tape = 1;\n"
@@ -62,6 +67,7 @@ h1-input =
     ++ codes "a.0 1\n"
     ++ codes "b.0 1\n"
 
+-- what there is to say of H1
 abbrev pub h1-entry : Explanation
 h1-entry = record {
   summary = codes "a pick that is not enabled";
@@ -81,6 +87,7 @@ h1-entry = record {
       ++ codes "one, `why` says why an arm does not go on.";
 }
 
+-- what the example of G1 reads
 abbrev pub g1-input : List ℕ
 g1-input =
     codes "process p begin print 1 end\n"
@@ -89,6 +96,7 @@ g1-input =
     ++ codes "%%\n"
     ++ codes "to 3\n"
 
+-- what there is to say of G1
 abbrev pub g1-entry : Explanation
 g1-entry = record {
   summary = codes "no such position";
@@ -105,6 +113,7 @@ g1-entry = record {
       ++ codes "that there are.";
 }
 
+-- what the example of G2 reads
 abbrev pub g2-input : List ℕ
 g2-input =
     codes "process p begin print 1 end\n"
@@ -112,6 +121,7 @@ g2-input =
     ++ codes "%%\n"
     ++ codes "vars q\n"
 
+-- what there is to say of G2
 abbrev pub g2-entry : Explanation
 g2-entry = record {
   summary = codes "no process of this name";
@@ -126,6 +136,7 @@ g2-entry = record {
       ++ codes "text. Capital letters count.";
 }
 
+-- what the example of G3 reads
 abbrev pub g3-input : List ℕ
 g3-input =
     codes "process p begin print 1 end\n"
@@ -133,6 +144,7 @@ g3-input =
     ++ codes "%%\n"
     ++ codes "line p.1\n"
 
+-- what there is to say of G3
 abbrev pub g3-entry : Explanation
 g3-entry = record {
   summary = codes "no such arm";
@@ -145,6 +157,7 @@ g3-entry = record {
   mend = codes "`threads P` lists the arms of process P. Arm 0 is its body.";
 }
 
+-- what the example of G4 reads
 abbrev pub g4-input : List ℕ
 g4-input =
     codes "process p begin print 1 end\n"
@@ -152,6 +165,7 @@ g4-input =
     ++ codes "%%\n"
     ++ codes "jump 3\n"
 
+-- what there is to say of G4
 abbrev pub g4-entry : Explanation
 g4-entry = record {
   summary = codes "not a command";

@@ -2,6 +2,7 @@
 use Rattle.std.specs.Prelude.{◌++◌, ℕ, List, Some, codes}
 use Rattle.pb_explain.specs.Explanation.{Explanation, Text, Repeated}
 
+-- what there is to say of L1
 abbrev pub l1-entry : Explanation
 l1-entry = record {
   summary = codes "the text is too long";
@@ -18,9 +19,11 @@ l1-entry = record {
       ++ codes "repeated, or split the program.";
 }
 
+-- what the example of L2 reads
 abbrev pub l2-input : List ℕ
 l2-input = codes "process p begin print 7 % 2 end\n"
 
+-- what there is to say of L2
 abbrev pub l2-entry : Explanation
 l2-entry = record {
   summary = codes "a byte that is not allowed";
@@ -39,9 +42,11 @@ l2-entry = record {
       ++ codes "either.";
 }
 
+-- what the example of L3 reads
 abbrev pub l3-input : List ℕ
 l3-input = codes "process p begin print 9223372036854775808 end\n"
 
+-- what there is to say of L3
 abbrev pub l3-entry : Explanation
 l3-entry = record {
   summary = codes "a number that is too large";
@@ -56,6 +61,7 @@ l3-entry = record {
   mend = codes "Write a smaller number. The least integer is -9223372036854775807 - 1.";
 }
 
+-- what the example of L4 reads
 abbrev pub l4-input : List ℕ
 l4-input =
     codes "process p\n"
@@ -64,6 +70,7 @@ l4-input =
     ++ codes "  skip\n"
     ++ codes "end\n"
 
+-- what there is to say of L4
 abbrev pub l4-entry : Explanation
 l4-entry = record {
   summary = codes "a name that is too long";
@@ -76,9 +83,11 @@ l4-entry = record {
   mend = codes "Shorten the name, at each of its uses too.";
 }
 
+-- what the example of P1 reads
 abbrev pub p1-input : List ℕ
 p1-input = codes "process p begin print 1; end\n"
 
+-- what there is to say of P1
 abbrev pub p1-entry : Explanation
 p1-entry = record {
   summary = codes "the text is not a program";
@@ -99,6 +108,7 @@ p1-entry = record {
       ++ codes "in docs/LANGUAGE.md.";
 }
 
+-- what the example of P2 reads
 abbrev pub p2-input : List ℕ
 p2-input =
     codes "process p begin print\n"
@@ -108,6 +118,7 @@ p2-input =
     ++ codes "------------------------------------------------------------------\n"
     ++ codes "1 end\n"
 
+-- what there is to say of P2
 abbrev pub p2-entry : Explanation
 p2-entry = record {
   summary = codes "nested too deep";
@@ -126,6 +137,7 @@ p2-entry = record {
       ++ codes "200 terms is too high as well: add it up in several statements.";
 }
 
+-- what there is to say of P3
 abbrev pub p3-entry : Explanation
 p3-entry = record {
   summary = codes "too many nodes";
@@ -140,6 +152,7 @@ p3-entry = record {
   mend = codes "Write a loop in place of statements that are repeated, or split the program.";
 }
 
+-- what there is to say of `input`
 abbrev pub input-entry : Explanation
 input-entry = record {
   summary = codes "the input is too long";
@@ -156,11 +169,13 @@ input-entry = record {
       ++ codes "steps, by `--steps`.";
 }
 
+-- what the example of `output` reads
 abbrev pub output-input : List ℕ
 output-input =
     codes "process the_first_of_two_processes begin while 1 do skip od end\n"
     ++ codes "process the_second_of_two_processes begin while 1 do skip od end\n"
 
+-- what there is to say of `output`
 abbrev pub output-entry : Explanation
 output-entry = record {
   summary = codes "what `record` would write is too long";
