@@ -87,17 +87,17 @@ IsRefused text Memory = ⊤
 
 -- ---- out of memory is one fault, wherever it comes
 
--- the fault of a text whose tokens have this fault
+-- a fault of tokens as a fault of the text
 abbrev pub of_lex : LexFault → CompileFault
 of_lex lex.NoMemory = Memory
 of_lex fault = Lex fault
 
--- the fault of a text whose tree has this fault
+-- a fault of the grammar as a fault of the text
 abbrev pub of_parse : ParseFault → CompileFault
 of_parse parse.NoMemory = Memory
 of_parse fault = Parse fault
 
--- the fault of a text whose names and amounts have this fault
+-- a fault of names and amounts as a fault of the text
 abbrev pub of_names : NameFault → CompileFault
 of_names names.NoMemory = Memory
 of_names fault = Names fault

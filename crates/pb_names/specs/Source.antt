@@ -89,7 +89,7 @@ is_ended (Doing items) = false
 is_ended (Waiting line first arms items) = false
 is_ended Ended = true
 
--- whether all of them are
+-- whether all running arms are
 abbrev pub all_ended : Running → Bool
 all_ended Nothing = true
 all_ended (Beside arm arms) = is_ended arm && all_ended arms
