@@ -14,8 +14,8 @@ use Rattle.pb_code.specs.Names.{Word}
 abbrev pub line_text : List Word → List ℕ
 line_text words = join_with_byte 32 words ++ 10 ∷ []
 
-infixl 10 ◌>>=◌
 -- goes on with what was read; a fault stays
+infixl 10 ◌>>=◌
 abbrev pub ◌>>=◌ : {A B : Type 0} → Result A Fault → (A → Result B Fault) → Result B Fault
 (Ok x) >>= f = f x
 (Err e) >>= f = Err e
