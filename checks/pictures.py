@@ -15,6 +15,7 @@ from calls import DONE, TOP, Tally, call, recorded
 FOLDER = TOP / "docs/pictures"
 DOCUMENTS = [TOP / "README.md", *sorted((TOP / "docs").glob("*.md"))]
 SVG = "{http://www.w3.org/2000/svg}"
+EVENTS = {"grant", "return", "print", "fault", "end"}
 
 
 def runs():
@@ -25,12 +26,12 @@ def runs():
 
 
 def titles(picture):
-    """Returns the titles of the marks of a picture, or nothing if it is not XML."""
+    """Returns the titles of the marks of the events of a picture, or nothing if it is not XML."""
     try:
         top = xml.etree.ElementTree.fromstring(picture)
     except xml.etree.ElementTree.ParseError:
         return None
-    return [it.findtext(f"{SVG}title") for it in top.iter(f"{SVG}g")]
+    return [it.findtext(f"{SVG}title") for it in top.iter(f"{SVG}g") if it.get("class") in EVENTS]
 
 
 def look_at(tally, name, run, picture):

@@ -1,6 +1,6 @@
 -- Step curves that grow.
-use Rattle.std.proofs.Common.{◌≡◌, ◌⊎◌, ℕ, ◌+◌, ◌-◌, ◌<◌, ◌≤◌, Bool, true, false, cond, List, [], ◌∷◌, ◌++◌, refl}
-use Rattle.std.proofs.Common.{sym, ap, ◌∙◌, subst, inl, inr, arith}
+use Rattle.std.proofs.Common.{◌≡◌, ◌⊎◌, ℕ, zero, suc, ◌+◌, ◌-◌, ◌<◌, ◌≤◌, Bool, true, false, cond, List, [], ◌∷◌, ◌++◌, refl}
+use Rattle.std.proofs.Common.{sym, ap, ◌∙◌, subst, inl, inr, arith, length, get_or}
 use Rattle.std.specs.Prelude.{nat_le}
 use Rattle.std.proofs.lemmas.Bool.{le-leb, lt-leb, leb-true, leb-false}
 use Rattle.pb_draw.specs.Curves.{IsCurveOf, NoneBehind, shown_at}
@@ -93,7 +93,15 @@ module _ {S V : Type 0} (at : S → ℕ) (value : S → V) where
       subst (λ (k : ℕ). IsCurveOf at value v IsSo k (steps ++ s ∷ [])) e
       (curve_changes v IsSo (n - 1) steps s c (here ∙ sym e) (subst (λ (k : ℕ). IsSo k (value s)) (sym e) is))
 
-  -- behind the position up to which it is known a curve shows what it shows there
-  pub shown_still : (v : V) (IsSo : ℕ → V → Type 0) (n : ℕ) (steps : List S) → 0 < n → IsCurveOf at value v IsSo (n - 1) steps
-      → shown_at at value v steps n ≡ shown_at at value v steps (n - 1)
-  shown_still v IsSo n steps some c = shown_later v steps (n - 1) n c.early (omega arith)
+  -- behind all its steps a curve shows what the last of them says
+  pub shown_at_end : (v : V) (steps : List S) (k : ℕ) (s : S) (n : ℕ) → k + 1 ≡ length steps → s ≡ get_or steps k s
+      → NoneBehind at n steps → shown_at at value v steps n ≡ value s
+  shown_at_end v [] k s n many is early = absurd (omega (arith, many))
+  shown_at_end v (t ∷ []) k s n many is early =
+      let first : at t ≤ n = early.0 in
+      let zero_is : k ≡ 0 = omega (arith, many) in
+      let same : s ≡ t = is ∙ ap (λ (j : ℕ). get_or (t ∷ []) j s) zero_is in
+      ap (λ (b : Bool). cond b (value t) v) (le-leb (at t) n first) ∙ ap value (sym same)
+  shown_at_end v (t ∷ u ∷ steps) zero s n many is early = absurd (omega (arith, many))
+  shown_at_end v (t ∷ u ∷ steps) (suc k) s n many is early =
+      shown_at_end (cond (nat_le (at t) n) (value t) v) (u ∷ steps) k s n (omega (arith, many)) is early.1

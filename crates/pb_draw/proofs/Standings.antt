@@ -1,9 +1,10 @@
 -- What an arm is doing, by what is seen of it.
-use Rattle.std.proofs.Common.{◌≡◌, ℕ, ◌≤◌, Some, None, length, refl, sym, ap, ◌∙◌, subst, arith}
+use Rattle.std.proofs.Common.{◌≡◌, ℕ, ◌≤◌, List, Some, None, length, refl, sym, ap, ◌∙◌, subst, arith}
 use Rattle.std.specs.Prelude.{slice_get, true, false}
 use Rattle.std.specs.Option.{is_some}
 use Rattle.std.proofs.lemmas.List.{get_or_past}
 use Rattle.std.proofs.lemmas.Option.{slice_get_within}
+use Rattle.pb_base.specs.Banker.{IsLargestStuck, with_loan}
 use Rattle.pb_base.specs.Steppers.{Bundle, State}
 use Rattle.pb_base.specs.declared.lending.Lending.{Lending}
 use Rattle.pb_base.specs.declared.pick.Pick.{Pick}
@@ -13,7 +14,7 @@ use Rattle.pb_code.specs.Code.{CodeProcess, Idle, Live, Ended, Thread, thread}
 use Rattle.pb_code.specs.Whole.{Code}
 use Rattle.pb_machine.specs.Looks.{IsLiveArm}
 use Rattle.pb_machine.specs.Views.{place_of_thread}
-use Rattle.pb_draw.specs.Lanes.{AsksFor, IsAsking, IsStanding}
+use Rattle.pb_draw.specs.Lanes.{AreAlike, AsksFor, IsAsking, IsStanding}
 use Rattle.pb_draw.specs.declared.drawing.Standing.{Standing}
 use Rattle.pb_draw.specs.declared.drawing.Standing.TheVariants.{Away, Going, KeptBack, Short}
 
@@ -71,4 +72,21 @@ asking_so lending code s arm bundle Going live asks is = (
   λ other also. subst (λ (b : Bundle). IsAsking lending (bank_at code s) arm.process b Going) (asks_once code s arm bundle other asks also) is,
 )
 asking_so lending code s arm bundle Short live asks is = (bundle, asks, is)
-asking_so lending code s arm bundle KeptBack live asks is = (bundle, asks, is.0, is.1)
+asking_so lending code s arm bundle (KeptBack rest) live asks is = (bundle, asks, is.0, is.1, is.2)
+
+-- a standing like one that an arm has is one that it has
+pub alike_stands : (lending : Lending) (code : Code) (s : State CodeProcess) (arm : Pick) (a b : Standing) → AreAlike a b
+    → IsStanding lending code s arm b → IsStanding lending code s arm a
+alike_stands lending code s arm Away b same is = subst (λ (x : Standing). IsStanding lending code s arm x) same is
+alike_stands lending code s arm Going b same is = subst (λ (x : Standing). IsStanding lending code s arm x) same is
+alike_stands lending code s arm Short b same is = subst (λ (x : Standing). IsStanding lending code s arm x) same is
+alike_stands lending code s arm (KeptBack rest) Away same is = absurd same
+alike_stands lending code s arm (KeptBack rest) Going same is = absurd same
+alike_stands lending code s arm (KeptBack rest) Short same is = absurd same
+alike_stands lending code s arm (KeptBack rest) (KeptBack others) same is = (
+  is.0,
+  is.1,
+  is.2,
+  is.3,
+  subst (λ (found : List ℕ). IsLargestStuck (with_loan (bank_at code s) arm.process is.0) found) (sym same) is.4,
+)

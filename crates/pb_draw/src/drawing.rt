@@ -42,7 +42,7 @@ pub struct Bar {
 }
 
 /// The state of an arm.
-#[derive(Clone, Copy, Debug, PartialEq, Eq)]
+#[derive(Drop)]
 pub enum Standing {
     /// It is not live.
     Away,
@@ -50,12 +50,13 @@ pub enum Standing {
     Going,
     /// It asks for more of a resource than there is cash of it.
     Short,
-    /// The cash suffices for what it asks for, and the banker keeps it back.
-    KeptBack,
+    /// The cash suffices for what it asks for, and the banker keeps it back: with that lent, these processes, by
+    /// their numbers, could not finish.
+    KeptBack(Vec<u8>),
 }
 
 /// The state of an arm from a position on.
-#[derive(Clone, Copy)]
+#[derive(Drop)]
 pub struct LaneStep {
     pub at: u32,
     pub standing: Standing,

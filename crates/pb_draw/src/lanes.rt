@@ -2,13 +2,15 @@
 
 ghost use Rattle.std.specs.Prelude.{◌≡◌, ◌↔◌, ◌++◌, ◌-◌, ◌<◌, ℕ, List, All, IfOk, IsTrue, OnOk, Some, length, map, slice_get};
 ghost use Rattle.pb_banker.specs.Lenders.{lender_state, lending_by};
-ghost use Rattle.pb_base.specs.Banker.{processes, resources, IsWithinCash, IsWithinClaim};
+ghost use Rattle.pb_base.specs.Banker.{BankerState, processes, resources, IsWithinClaim};
+ghost use Rattle.pb_base.specs.Steppers.{Bundle as AnyBundle};
 ghost use Rattle.pb_base.specs.declared.lending.Lending.{Lending as LendingValue};
 ghost use Rattle.pb_code.specs.Code.{ProcessCode};
 ghost use Rattle.pb_draw.specs.Arms.{arms_before, arms_from};
 ghost use Rattle.pb_draw.specs.Drawings.{AreLanes};
 ghost use Rattle.pb_code.specs.Whole.{Code as AnyCode};
-ghost use Rattle.pb_draw.specs.Lanes.{IsAsking, IsLane, IsStanding, IsStandingAfter, ShowsStandings, last_of};
+ghost use Rattle.pb_draw.specs.Lanes.{AreAlike, IsAsking, IsLane, IsStanding, IsStandingAfter, ShowsStandings};
+ghost use Rattle.pb_debug_texts.specs.Reasons.{IsReasonBy};
 ghost use Rattle.pb_history.specs.Entries.{picks_of};
 ghost use Rattle.pb_history.specs.Positions.{AreEnabledBy};
 ghost use Rattle.pb_machine.specs.Views.{IsMachine, IsMachineBy, machine_view};
@@ -17,7 +19,7 @@ use crate::drawing::{Lane, LaneStep, Standing};
 use crate::walk::advance;
 use pb_banker::Lender;
 use pb_base::{Bundle, Lending, NoMemory, Pick};
-use pb_circles::asked;
+use pb_debug_texts::{Why, asked, reason};
 use pb_history::Trace;
 use pb_machine::Machine;
 use pb_verifier::Verified;
@@ -26,92 +28,95 @@ use std::alloc::Global;
 /// No code has as many processes, and no process as many arms.
 const MAX_LANES: usize = 255;
 
-/// Returns whether the cash suffices for a bundle.
-fn cash_suffices(bank: &Lender, bundle: &Bundle) -> bool
-    requires { All (λ pair. pair.resource < resources (lender_state bank.now)) bundle.now }
-    ensures { IsTrue result ↔ IsWithinCash (lender_state bank.now) bundle.now }
+/// Returns the state of an arm whose request comes to this.
+fn standing_for(why: Why) -> Standing
+    ensures { (lending : LendingValue) (s : BankerState) (p : ℕ) (bundle : AnyBundle) → IsReasonBy lending s p bundle why
+        → IsAsking lending s p bundle result }
 {
-    for i in 0..bundle.len() {
-        let pair = bundle.get(i);
-        if bank.cash(usize::from(pair.resource)) < pair.amount {
-            return false;
-        }
+    match why {
+        Why::Cash { .. } => Standing::Short,
+        Why::Rest(rest) => Standing::KeptBack(rest),
+        Why::NotAsking | Why::Order(_) | Why::Granted => Standing::Going,
     }
-    true
 }
 
 /// Returns the state of an arm of a process that asks for a bundle within its claim.
-fn asking(bank: &Lender, p: usize, bundle: &Bundle) -> Standing
+fn asking(alloc: Global, bank: &Lender, p: usize, bundle: &Bundle) -> Result<Standing, NoMemory>
     requires process { p < processes (lender_state bank.now) }
     requires below { All (λ pair. pair.resource < resources (lender_state bank.now)) bundle.now }
     requires within_claim { IsWithinClaim (lender_state bank.now) p bundle.now }
-    ensures { IsAsking (lending_by bank.now) (lender_state bank.now) p bundle.now result }
+    ensures { IfOk result (IsAsking (lending_by bank.now) (lender_state bank.now) p bundle.now) }
 {
-    if !cash_suffices(bank, bundle) {
-        return Standing::Short;
-    }
-    let mut next = bank.copy();
-    if next.lend(p, bundle) {
-        Standing::Going
-    } else {
-        Standing::KeptBack
-    }
+    let why = reason(alloc, bank, p, bundle)?;
+    Ok(standing_for(why))
 }
 
 /// Returns the state of an arm.
-fn standing_of(verified: &Verified, machine: &Machine, pick: Pick) -> Standing
+fn standing_of(
+    alloc: Global,
+    verified: &Verified,
+    machine: &Machine,
+    pick: Pick,
+) -> Result<Standing, NoMemory>
     requires { IsMachine verified.now machine.now }
-    ensures { (lending : LendingValue) → IsMachineBy lending verified.now machine.now
-        → IsStanding lending verified.now.code (machine_view machine.now) pick result }
+    ensures { IfOk result (λ standing. (lending : LendingValue) → IsMachineBy lending verified.now machine.now
+        → IsStanding lending verified.now.code (machine_view machine.now) pick standing) }
 {
     let code = verified.code();
     let p = usize::from(pick.process);
     let arm = usize::from(pick.arm);
     if machine.processes() <= p || machine.proc(p).arms() <= arm {
-        return Standing::Away;
+        return Ok(Standing::Away);
     }
     let thread = machine.proc(p).thread(arm);
     if thread.place().is_none() {
-        return Standing::Away;
+        return Ok(Standing::Away);
     }
     match asked(&code.processes[p], thread) {
-        Some(bundle) => asking(machine.lender(), p, bundle),
-        None => Standing::Going,
+        Some(bundle) => asking(alloc, machine.lender(), p, bundle),
+        None => Ok(Standing::Going),
     }
 }
 
 /// Returns a lane that begins so.
 fn first_step(alloc: Global, standing: Standing) -> Result<Vec<LaneStep>, NoMemory>
-    ensures { IfOk result (λ steps. (lending : LendingValue) (code : AnyCode) (picks : List Pick) (arm : Pick)
+    ensures some { IfOk result (λ steps. 0 < length steps.items) }
+    ensures shows { IfOk result (λ steps. (lending : LendingValue) (code : AnyCode) (picks : List Pick) (arm : Pick)
         → IsStandingAfter lending code picks arm 0 standing
-        → ShowsStandings (IsStandingAfter lending code picks arm) 0 steps.items × (last_of steps.items 0 ≡ standing)) }
+        → ShowsStandings (IsStandingAfter lending code picks arm) 0 steps.items) }
 {
     let mut steps = Vec::new(alloc);
     steps.push(LaneStep { at: 0, standing })?;
     Ok(steps)
 }
 
-/// Returns whether both are the same.
-fn is_same(a: Standing, b: Standing) -> bool
-    ensures { IsTrue result ↔ (a ≡ b) }
+/// Returns whether both say the same of an arm.
+fn are_alike(a: &Standing, b: &Standing) -> bool
+    ensures { IsTrue result ↔ AreAlike a.now b.now }
 {
-    a == b
+    match a {
+        Standing::Away => matches!(b, Standing::Away),
+        Standing::Going => matches!(b, Standing::Going),
+        Standing::Short => matches!(b, Standing::Short),
+        Standing::KeptBack(rest) => match b {
+            Standing::KeptBack(others) => rest.as_slice() == others.as_slice(),
+            Standing::Away | Standing::Going | Standing::Short => false,
+        },
+    }
 }
 
 /// Adds a step to a lane if the state of its arm is another than it was.
-fn add_step(
-    steps: &mut Vec<LaneStep>,
-    last: Standing,
-    at: u32,
-    standing: Standing,
-) -> Result<(), NoMemory>
-    requires { 0 < at }
-    ensures { OnOk result ((lending : LendingValue) (code : AnyCode) (picks : List Pick) (arm : Pick)
-        → last_of steps.old.items (at - 1) ≡ last → IsStandingAfter lending code picks arm at standing
+fn add_step(steps: &mut Vec<LaneStep>, at: u32, standing: Standing) -> Result<(), NoMemory>
+    requires later { 0 < at }
+    requires some { 0 < length steps.old.items }
+    ensures some { OnOk result (0 < length steps.new.items) }
+    ensures shows { OnOk result ((lending : LendingValue) (code : AnyCode) (picks : List Pick) (arm : Pick)
+        → IsStandingAfter lending code picks arm at standing
         → ShowsStandings (IsStandingAfter lending code picks arm) (at - 1) steps.old.items
-        → ShowsStandings (IsStandingAfter lending code picks arm) at steps.new.items × (last_of steps.new.items at ≡ standing)) }
+        → ShowsStandings (IsStandingAfter lending code picks arm) at steps.new.items) }
 {
-    if is_same(standing, last) {
+    let last = &steps[steps.len() - 1];
+    if are_alike(&last.standing, &standing) {
         return Ok(());
     }
     steps.push(LaneStep { at, standing })?;
@@ -131,13 +136,12 @@ fn lane_of(
     ensures arm { IfOk result (λ lane. lane.pick ≡ pick) }
 {
     let mut machine = Machine::new_by(alloc, verified, lending)?;
-    let mut last = standing_of(verified, &machine, pick);
-    let mut steps = first_step(alloc, last)?;
+    let first = standing_of(alloc, verified, &machine, pick)?;
+    let mut steps = first_step(alloc, first)?;
     for i in 0..trace.len() {
         let _ = advance(verified, trace, &mut machine, i);
-        let standing = standing_of(verified, &machine, pick);
-        add_step(&mut steps, last, i + 1, standing)?;
-        last = standing;
+        let standing = standing_of(alloc, verified, &machine, pick)?;
+        add_step(&mut steps, i + 1, standing)?;
     }
     Ok(Lane { pick, steps })
 }

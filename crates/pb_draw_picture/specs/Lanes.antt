@@ -17,18 +17,18 @@ abbrev pub is_live : Standing → Bool
 is_live Away = false
 is_live Going = true
 is_live Short = true
-is_live KeptBack = true
+is_live (KeptBack rest) = true
 
 -- an arm is ever live
 abbrev pub is_ever_live : Lane → Bool
 is_ever_live lane = list_any (λ s. is_live s.standing) lane.steps.items
 
--- the line of an arm in a state: none unless it is live
+-- the line of an arm in a state: none unless it is live, and none here while the banker keeps something back (Waits.antt)
 abbrev pub line_in : Standing → (x to y : ℕ) → List Rect
 line_in Away x to y = []
 line_in Going x to y = if_wide (rect_to line.Going x to y TRACK)
 line_in Short x to y = if_wide (rect_to line.Short x to y TRACK)
-line_in KeptBack x to y = if_wide (rect_to line.KeptBack x to y TRACK)
+line_in (KeptBack rest) x to y = []
 
 -- where the first of some steps is, if there is one
 abbrev pub next_of : List LaneStep → Option ℕ

@@ -10,3 +10,4 @@ pub mod Rows
 pub mod Shapes
 pub mod Svg
 pub mod Texts
+pub mod Waits

@@ -14,7 +14,8 @@ use Rattle.pb_draw_picture.specs.Lanes.{lane_names, lines}
 use Rattle.pb_draw_picture.specs.Marks.{AreFromLeft, numbers, signs}
 use Rattle.pb_draw_picture.specs.Places.{Places}
 use Rattle.pb_draw_picture.specs.Rows.{AreStacked, AreWithin}
-use Rattle.pb_draw_picture.specs.Shapes.{Text, sign_of, text_of}
+use Rattle.pb_draw_picture.specs.Shapes.{Text, sign_of, stretch_of, text_of}
+use Rattle.pb_draw_picture.specs.Waits.{waits}
 use Rattle.pb_draw_picture.specs.declared.sizes.TheConstants.{BOTTOM, CURVE_ROW, MAX_ROWS, MIN_WIDTH, RIGHT, TOP}
 
 -- where the rows of a picture end: those of the arms, and below them those of the resources
@@ -51,6 +52,7 @@ pub record IsLayout (names : NameTable) (capital : List ℕ) (d : Drawing) (dead
   pub within : AreWithin places d.lanes.items d.bars.items
   pub rising : AreInOrder d.marks.items → AreFromLeft (map sign_of p.ticks.items)
   pub rects : AreRects capital d places p.rects.items
+  pub waits : map stretch_of p.waits.items ≡ waits names places d.lanes.items
   pub texts : AreTexts names capital d deadlock places (map text_of p.labels.items)
   pub marks : map sign_of p.ticks.items ≡ signs names places d.marks.items
   pub wide : p.width ≡ max (places.right + RIGHT) MIN_WIDTH

@@ -6,6 +6,7 @@ use Rattle.pb_draw_picture.specs.declared.picture.Rect.{Rect}
 use Rattle.pb_draw_picture.specs.declared.picture.RectKind.{RectKind}
 use Rattle.pb_draw_picture.specs.declared.picture.Tick.{Tick}
 use Rattle.pb_draw_picture.specs.declared.picture.TickKind.{TickKind}
+use Rattle.pb_draw_picture.specs.declared.picture.Wait.{Wait}
 
 -- a text at a place
 pub record Text : Type 0 where
@@ -36,6 +37,23 @@ sign_of t = record {
   label = t.label.items;
   label_x = t.label_x;
   label_y = t.label_y;
+}
+
+-- the line of an arm that is kept back, with its title and the text above it
+pub record Stretch : Type 0 where
+  pub rect : Rect
+  pub title : List ℕ
+  pub label : List ℕ
+  pub label_x : ℕ
+  pub label_y : ℕ
+
+abbrev pub stretch_of : Wait → Stretch
+stretch_of w = record {
+  rect = w.rect;
+  title = w.title.items;
+  label = w.label.items;
+  label_x = w.label_x;
+  label_y = w.label_y;
 }
 
 -- a rectangle from one place to another

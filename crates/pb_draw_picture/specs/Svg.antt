@@ -14,6 +14,7 @@ use Rattle.pb_draw_picture.specs.declared.picture.Picture.{Picture}
 use Rattle.pb_draw_picture.specs.declared.picture.Rect.{Rect}
 use Rattle.pb_draw_picture.specs.declared.picture.Size.{Size}
 use Rattle.pb_draw_picture.specs.declared.picture.Tick.{Tick}
+use Rattle.pb_draw_picture.specs.declared.picture.Wait.{Wait}
 
 -- the word for what a rectangle stands for
 abbrev pub rect_word : RectKind → List ℕ
@@ -59,10 +60,20 @@ outline Fault = codes "m-5-5l10 10m0-10l-10 10"
 outline End = codes "m-4-4h8v8h-8z"
 
 -- a rectangle
-unfoldable pub rect_text : Rect → List ℕ
-rect_text r =
+unfoldable pub rect_shape : Rect → List ℕ
+rect_shape r =
     codes "<rect class=\"" ++ rect_word r.kind ++ colour_text r.kind ++ codes "\" x=\"" ++ decimal r.x ++ codes "\" y=\"" ++ decimal r.y
-    ++ codes "\" width=\"" ++ decimal r.width ++ codes "\" height=\"" ++ decimal r.height ++ codes "\"/>\n"
+    ++ codes "\" width=\"" ++ decimal r.width ++ codes "\" height=\"" ++ decimal r.height ++ codes "\"/>"
+
+-- and its line
+abbrev pub rect_text : Rect → List ℕ
+rect_text r = rect_shape r ++ codes "\n"
+
+-- the line of an arm that is kept back: why as a title, its rectangle, and the text above it
+unfoldable pub wait_text : Wait → List ℕ
+wait_text w =
+    codes "<g class=\"wait\"><title>" ++ w.title.items ++ codes "</title>" ++ rect_shape w.rect ++ codes "<text x=\"" ++ decimal w.label_x
+    ++ codes "\" y=\"" ++ decimal w.label_y ++ codes "\">" ++ w.label.items ++ codes "</text></g>\n"
 
 -- a text
 unfoldable pub label_text : Label → List ℕ
@@ -98,8 +109,9 @@ head_for width height p =
 abbrev pub head_text : Size → Picture → List ℕ
 head_text size p = head_for (shown_width size p) (shown_height size p) p
 
--- a picture, shown at a size: a line for each shape, the rectangles first, then the texts, and then the marks of events
+-- a picture, shown at a size: a line for each shape, the rectangles first, then the lines of arms that are kept back, then the
+-- texts, and then the marks of events
 abbrev pub svg : Size → Picture → List ℕ
 svg size p =
-    head_text size p ++ flat_map rect_text p.rects.items ++ flat_map label_text p.labels.items
+    head_text size p ++ flat_map rect_text p.rects.items ++ flat_map wait_text p.waits.items ++ flat_map label_text p.labels.items
     ++ flat_map tick_text p.ticks.items ++ codes "</svg>\n"

@@ -1,10 +1,13 @@
 -- The texts of a picture.
-use Rattle.std.specs.Prelude.{ℕ, List, [], ◌++◌, Option, Some, None, codes, drop}
+use Rattle.std.specs.Prelude.{ℕ, ◌/◌, nat_le, Bool, cond, List, [], ◌++◌, length, Option, Some, None, codes, drop}
 use Rattle.std.specs.Fmt.{decimal, signed_decimal}
-use Rattle.pb_base.specs.Lines.{NameTable, fault_text, name_of, pairs_text}
+use Rattle.std.specs.List.{flat_map}
+use Rattle.pb_base.specs.Lines.{NameTable, fault_text, name_of, pairs_text, pick_text}
 use Rattle.pb_base.specs.declared.event.Event.{Event}
 use Rattle.pb_base.specs.declared.event.Event.TheVariants.{Granted, Returned, Printed, Faulted, Finished}
 use Rattle.pb_base.specs.declared.pair.Pair.{Pair}
+use Rattle.pb_base.specs.declared.pick.Pick.{Pick}
+use Rattle.pb_draw_picture.specs.declared.sizes.TheConstants.{SMALL_CHARACTER}
 
 -- the amounts of a bundle, each with its resource: `k R`, with a space between two
 abbrev pub bundle_text : NameTable → List Pair → List ℕ
@@ -30,6 +33,35 @@ label_of names source (Returned pick bundle) = []
 label_of names source (Printed pick value) = caption names source (Printed pick value)
 label_of names source (Faulted pick kind) = caption names source (Faulted pick kind)
 label_of names source (Finished process) = caption names source (Finished process)
+
+-- `, P` for each of these processes
+abbrev pub listed_text : NameTable → List ℕ → List ℕ
+listed_text names rest = flat_map (λ p. codes ", " ++ name_of names.processes p) rest
+
+-- the names of these processes, with a comma between two
+abbrev pub names_text : NameTable → List ℕ → List ℕ
+names_text names rest = drop 2 (listed_text names rest)
+
+-- `P could not finish`
+abbrev pub stuck_text : NameTable → List ℕ → List ℕ
+stuck_text names rest = names_text names rest ++ codes " could not finish"
+
+-- why an arm is kept back: `P.a kept back: Q could not finish`
+abbrev pub kept_text : NameTable → Pick → List ℕ → List ℕ
+kept_text names arm rest = pick_text names arm ++ codes " kept back: " ++ stuck_text names rest
+
+-- there is room for a text
+abbrev pub has_room : (width : ℕ) → List ℕ → Bool
+has_room width text = nat_le (length text) (width / SMALL_CHARACTER)
+
+-- a text if there is room for it, and else nothing
+abbrev pub if_room : (width : ℕ) → List ℕ → List ℕ
+if_room width text = cond (has_room width text) text []
+
+-- who could not finish, as far as there is room: in words, or the names alone, or nothing
+abbrev pub room_text : NameTable → (width : ℕ) → List ℕ → List ℕ
+room_text names width rest =
+    cond (has_room width (stuck_text names rest)) (stuck_text names rest) (if_room width (names_text names rest))
 
 -- `R of k`: a resource, and its capital
 abbrev pub resource_text : NameTable → (r capital : ℕ) → List ℕ

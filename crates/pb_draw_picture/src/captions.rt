@@ -1,10 +1,11 @@
 //! The texts of a picture.
 
-ghost use Rattle.std.specs.Prelude.{◌≡◌, ◌++◌, IfOk, OnOk, map};
+ghost use Rattle.std.specs.Prelude.{◌≡◌, ◌++◌, IfOk, OnOk, codes, map};
 ghost use Rattle.std.specs.Fmt.{decimal};
 ghost use Rattle.pb_base.specs.Lines.{fault_text, name_of, names_view, pair_text, pairs_text, pick_text};
 ghost use Rattle.pb_draw_picture.specs.Texts as spec;
 
+use crate::sizes::SMALL_CHARACTER;
 use pb_base::writing::{put, put_number};
 use pb_base::{Bundle, Event, FaultKind, Names, NoMemory, Pair, Pick};
 use std::alloc::Global;
@@ -134,6 +135,87 @@ pub(crate) fn label_of(
         Event::Faulted { .. } => caption(alloc, names, line, event),
         Event::Finished { .. } => caption(alloc, names, line, event),
     }
+}
+
+/// Appends a comma and the name of a process to `text`.
+fn put_listed(text: &mut Vec<u8>, names: &Names, p: u8) -> Result<(), NoMemory>
+    ensures { OnOk result (text.new.items ≡ text.old.items ++ (codes ", " ++ name_of (names_view names.now).processes p)) }
+{
+    put(text, b", ")?;
+    put_name(text, &names.processes, usize::from(p))
+}
+
+/// Returns `, P` for each of these processes.
+fn listed(alloc: Global, names: &Names, rest: &[u8]) -> Result<Vec<u8>, NoMemory>
+    ensures { IfOk result (λ text. text.items ≡ spec.listed_text (names_view names.now) rest.now) }
+{
+    let mut text = Vec::new(alloc);
+    for i in 0..rest.len() {
+        put_listed(&mut text, names, rest[i])?;
+    }
+    Ok(text)
+}
+
+/// Returns the names of these processes, with a comma between two.
+fn names_text(alloc: Global, names: &Names, rest: &[u8]) -> Result<Vec<u8>, NoMemory>
+    ensures { IfOk result (λ text. text.items ≡ spec.names_text (names_view names.now) rest.now) }
+{
+    let listed = listed(alloc, names, rest)?;
+    let start = listed.len().min(2);
+    let text = Vec::from_slice(alloc, &listed[start..])?;
+    Ok(text)
+}
+
+/// Returns `P could not finish`, for these processes.
+fn stuck_text(alloc: Global, names: &Names, rest: &[u8]) -> Result<Vec<u8>, NoMemory>
+    ensures { IfOk result (λ text. text.items ≡ spec.stuck_text (names_view names.now) rest.now) }
+{
+    let mut text = names_text(alloc, names, rest)?;
+    put(&mut text, b" could not finish")?;
+    Ok(text)
+}
+
+/// Returns why an arm is kept back, `P.a kept back: Q could not finish`.
+pub(crate) fn kept_text(
+    alloc: Global,
+    names: &Names,
+    arm: Pick,
+    rest: &[u8],
+) -> Result<Vec<u8>, NoMemory>
+    ensures { IfOk result (λ text. text.items ≡ spec.kept_text (names_view names.now) arm rest.now) }
+{
+    let stuck = stuck_text(alloc, names, rest)?;
+    let mut text = arm_text(alloc, names, arm)?;
+    put(&mut text, b" kept back: ")?;
+    put(&mut text, &stuck)?;
+    Ok(text)
+}
+
+/// Returns whether there is room for a text.
+fn has_room(width: u64, text: &[u8]) -> bool
+    ensures { result ≡ spec.has_room width text.now }
+{
+    text.len() as u64 <= width / SMALL_CHARACTER
+}
+
+/// Returns who could not finish, as far as there is room: in words, or the names alone, or nothing.
+pub(crate) fn room_text(
+    alloc: Global,
+    names: &Names,
+    width: u64,
+    rest: &[u8],
+) -> Result<Vec<u8>, NoMemory>
+    ensures { IfOk result (λ text. text.items ≡ spec.room_text (names_view names.now) width rest.now) }
+{
+    let stuck = stuck_text(alloc, names, rest)?;
+    if has_room(width, &stuck) {
+        return Ok(stuck);
+    }
+    let who = names_text(alloc, names, rest)?;
+    if has_room(width, &who) {
+        return Ok(who);
+    }
+    Ok(Vec::new(alloc))
 }
 
 /// Returns `R of k`, a resource with its capital.

@@ -20,7 +20,7 @@ pub(crate) const NOTE: &[u8] =
     b"time goes from left to right, pick by pick, with the numbers of picks above. grey: shortened";
 
 pub(crate) const LINE_NOTE: &[u8] =
-    b"line: an arm. hatched: it asks for more than is there. dotted: the banker keeps back what is there";
+    b"line: an arm. hatched: asks for more than is there. dotted: kept back, else those named could not finish";
 
 pub(crate) const MARK_NOTE: &[u8] =
     b"bar: what it holds. triangle: taken or given back, circle: print, cross: fault, square: end";

@@ -17,26 +17,26 @@ use pb_base::{Names, NoMemory};
 use pb_draw::{Lane, LaneStep, Standing};
 use std::alloc::Global;
 
-/// Adds the line of an arm in a state; it has none unless it is live.
+/// Adds the line of an arm in a state: none unless it is live, and none here if it is kept back.
 fn add_line_in(
     rects: &mut Vec<Rect>,
-    standing: Standing,
+    standing: &Standing,
     x: u64,
     to: u64,
     y: u64,
 ) -> Result<(), NoMemory>
-    ensures { OnOk result (rects.new.items ≡ rects.old.items ++ spec.line_in standing x to y) }
+    ensures { OnOk result (rects.new.items ≡ rects.old.items ++ spec.line_in standing.now x to y) }
 {
     match standing {
         Standing::Away => Ok(()),
         Standing::Going => add_if_wide(rects, rect_to(RectKind::Going, x, to, y, TRACK)),
         Standing::Short => add_if_wide(rects, rect_to(RectKind::Short, x, to, y, TRACK)),
-        Standing::KeptBack => add_if_wide(rects, rect_to(RectKind::KeptBack, x, to, y, TRACK)),
+        Standing::KeptBack(_) => Ok(()),
     }
 }
 
 /// Returns where the first of some steps is, if there is one.
-fn next_of(steps: &[LaneStep]) -> Option<u64>
+pub(crate) fn next_of(steps: &[LaneStep]) -> Option<u64>
     ensures { result ≡ spec.next_of steps.now }
 {
     match steps.first() {
@@ -56,10 +56,10 @@ fn add_lines_in(
     ensures { OnOk result (rects.new.items ≡ rects.old.items ++ spec.lines_in (places_of grid.now) y steps.now) }
 {
     for i in 0..steps.len() {
-        let step = steps[i];
+        let step = &steps[i];
         let x = grid.x(u64::from(step.at));
         let to = grid.x_or_end(next_of(&steps[i + 1..]));
-        add_line_in(rects, step.standing, x, to, y)?;
+        add_line_in(rects, &step.standing, x, to, y)?;
     }
     Ok(())
 }

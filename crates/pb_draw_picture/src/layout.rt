@@ -15,6 +15,7 @@ use crate::lanes::{add_lines, add_names};
 use crate::marks::{add_numbers, marks_of};
 use crate::picture::{Label, Picture, Rect};
 use crate::sizes::{BOTTOM, CURVE_ROW, LOWEST, MIN_WIDTH, RIGHT};
+use crate::waits::waits_of;
 use pb_base::{Capital, Names, NoMemory};
 use pb_draw::Drawing;
 use std::alloc::Global;
@@ -95,12 +96,14 @@ pub fn lay_out(
 {
     let grid = grid_of(alloc, names, drawing)?;
     let rects = rects_of(alloc, capital, &grid, drawing)?;
+    let waits = waits_of(alloc, names, &grid, &drawing.lanes)?;
     let labels = labels_of(alloc, names, capital, &grid, drawing, deadlock)?;
     let ticks = marks_of(alloc, names, &grid, &drawing.marks)?;
     Ok(Picture {
         width: (grid.right() + RIGHT).max(MIN_WIDTH),
         height: foot_of_all(&grid, capital, drawing) + BOTTOM,
         rects,
+        waits,
         labels,
         ticks,
     })

@@ -17,6 +17,7 @@ mod rows;
 mod shapes;
 mod sizes;
 mod svg;
+mod waits;
 
 pub use layout::lay_out;
 pub use picture::{Picture, Size};

@@ -32,6 +32,18 @@ pub struct Rect {
     pub height: u64,
 }
 
+/// The line of an arm that is kept back.
+#[derive(Drop)]
+pub struct Wait {
+    pub rect: Rect,
+    /// Why, which a viewer shows when it is pointed at.
+    pub title: Vec<u8>,
+    /// What is written above the line, if there is room: who could not finish.
+    pub label: Vec<u8>,
+    pub label_x: u64,
+    pub label_y: u64,
+}
+
 /// What a label stands for.
 #[derive(Clone, Copy, Debug, PartialEq, Eq)]
 pub enum LabelKind {
@@ -92,6 +104,7 @@ pub struct Picture {
     pub width: u64,
     pub height: u64,
     pub rects: Vec<Rect>,
+    pub waits: Vec<Wait>,
     pub labels: Vec<Label>,
     pub ticks: Vec<Tick>,
     pub ghost near: { width ≤ WIDEST },

@@ -53,14 +53,14 @@ pub(crate) fn track_of(rows: &[Row], pick: Pick) -> u64
 }
 
 /// Returns whether an arm is live from a step on.
-fn is_live(step: LaneStep) -> bool
-    ensures { result ≡ lanes.is_live step.standing }
+fn is_live(step: &LaneStep) -> bool
+    ensures { result ≡ lanes.is_live step.now.standing }
 {
-    match step.standing {
+    match &step.standing {
         Standing::Away => false,
         Standing::Going => true,
         Standing::Short => true,
-        Standing::KeptBack => true,
+        Standing::KeptBack(_) => true,
     }
 }
 
@@ -69,7 +69,7 @@ pub(crate) fn is_ever_live(lane: &Lane) -> bool
     ensures { result ≡ lanes.is_ever_live lane.now }
 {
     for step in &lane.steps {
-        if is_live(*step) {
+        if is_live(step) {
             return true;
         }
     }

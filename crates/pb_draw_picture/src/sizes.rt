@@ -9,6 +9,9 @@ pub const MAX_SILENT: u64 = 15;
 /// How wide a character is.
 pub const CHARACTER: u64 = 7;
 
+/// How wide a character of a small text is.
+pub const SMALL_CHARACTER: u64 = 6;
+
 /// The room beside the text of an event: each event is at least so wide.
 pub const SIDE: u64 = 16;
 
@@ -29,13 +32,13 @@ pub const MARGIN: u64 = 8;
 /// How far apart the places are at which the name of an arm is written once more, and how far above its line.
 pub const AGAIN: u64 = 800;
 
-pub const AGAIN_UP: u64 = 17;
+pub const AGAIN_UP: u64 = 25;
 
 /// Where the first row begins, below the numbers of the picks.
 pub const TOP: u64 = 40;
 
 /// The heights of a row: above the line of its arm, that line, the gap below it, each hold, and at its end.
-pub const ABOVE: u64 = 18;
+pub const ABOVE: u64 = 26;
 
 pub const TRACK: u64 = 8;
 
@@ -60,6 +63,9 @@ pub const MIDDLE: u64 = 4;
 pub const LABEL_LEFT: u64 = 4;
 
 pub const LABEL_UP: u64 = 9;
+
+/// How far above the line of an arm that is kept back it is written who could not finish.
+pub const WAIT_UP: u64 = 14;
 
 /// Where the numbers of picks are.
 pub const NUMBER_Y: u64 = 28;

@@ -5,7 +5,7 @@ ghost use Rattle.std.specs.Fmt.{decimal};
 ghost use Rattle.std.specs.List.{flat_map};
 ghost use Rattle.pb_draw_picture.specs.Svg as spec;
 
-use crate::picture::{Label, LabelKind, Picture, Rect, RectKind, Size, Tick, TickKind};
+use crate::picture::{Label, LabelKind, Picture, Rect, RectKind, Size, Tick, TickKind, Wait};
 use pb_base::NoMemory;
 use pb_base::writing::{put, put_number};
 use std::alloc::Global;
@@ -83,8 +83,8 @@ fn put_colour(text: &mut Vec<u8>, kind: RectKind) -> Result<(), NoMemory>
 }
 
 /// Appends a rectangle to `text`.
-fn put_rect(text: &mut Vec<u8>, rect: &Rect) -> Result<(), NoMemory>
-    ensures { OnOk result (text.new.items ≡ text.old.items ++ spec.rect_text rect.now) }
+fn put_shape(text: &mut Vec<u8>, rect: &Rect) -> Result<(), NoMemory>
+    ensures { OnOk result (text.new.items ≡ text.old.items ++ spec.rect_shape rect.now) }
 {
     let word = rect_word(rect.kind);
     put(text, b"<rect class=\"")?;
@@ -94,7 +94,33 @@ fn put_rect(text: &mut Vec<u8>, rect: &Rect) -> Result<(), NoMemory>
     put_number(text, b"\" y=\"", rect.y)?;
     put_number(text, b"\" width=\"", rect.width)?;
     put_number(text, b"\" height=\"", rect.height)?;
-    put(text, b"\"/>\n")?;
+    put(text, b"\"/>")?;
+    Ok(())
+}
+
+/// Appends the line of a rectangle to `text`.
+fn put_rect(text: &mut Vec<u8>, rect: &Rect) -> Result<(), NoMemory>
+    ensures { OnOk result (text.new.items ≡ text.old.items ++ spec.rect_text rect.now) }
+{
+    put_shape(text, rect)?;
+    put(text, b"\n")
+}
+
+/// Appends the line of an arm that is kept back to `text`.
+fn put_wait(text: &mut Vec<u8>, wait: &Wait) -> Result<(), NoMemory>
+    ensures { OnOk result (text.new.items ≡ text.old.items ++ spec.wait_text wait.now) }
+{
+    let why = wait.title.as_slice();
+    let label = wait.label.as_slice();
+    put(text, b"<g class=\"wait\"><title>")?;
+    put(text, why)?;
+    put(text, b"</title>")?;
+    put_shape(text, &wait.rect)?;
+    put_number(text, b"<text x=\"", wait.label_x)?;
+    put_number(text, b"\" y=\"", wait.label_y)?;
+    put(text, b"\">")?;
+    put(text, label)?;
+    put(text, b"</text></g>\n")?;
     Ok(())
 }
 
@@ -207,7 +233,7 @@ const COLOURS: usize = 8;
 
 /// What each kind of shape looks like.
 const STYLE: &[u8] =
-    b"\">\n<title>A run, pick by pick</title>\n<style>\ntext{font:11px monospace;fill:#000}\npath{fill:#000}\n.name{font-weight:bold}\n.number,.silent,.note,.again{fill:#555;font-size:10px}\n.amount{font-size:10px}\n.paper{fill:#fff}\n.gap{fill:#eee}\n.going{fill:#999}\n.short{fill:url(#hatch);stroke:#000;stroke-width:.5}\n.kept{fill:url(#dots);stroke:#000;stroke-width:.5}\n.hatch{stroke:#000}\n.deadlock{fill:#c00;font-weight:bold}\n.hold{stroke:#000;stroke-width:.5}\n.level{fill:#333}\n.r0{fill:#bfe1f6}\n.r1{fill:#f7dca3}\n.r2{fill:#a3dccb}\n.r3{fill:#edcbdd}\n.r4{fill:#f9f5b9}\n.r5{fill:#8fb8dc}\n.r6{fill:#f1c4a6}\n.r7{fill:#d9d9d9}\n.print path{fill:#fff;stroke:#000;stroke-width:1.5}\n.fault path{stroke:#c00;stroke-width:2.5}\n@media (prefers-color-scheme:dark){\ntext{fill:#eee}\npath{fill:#eee}\n.number,.silent,.note,.again{fill:#aaa}\n.paper{fill:#1b1b1b}\n.gap{fill:#333}\n.going{fill:#888}\n.short,.kept{stroke:#eee}\n.hatch{stroke:#eee}\n.deadlock{fill:#f66}\n.hold{stroke:#eee}\n.level{fill:#ddd}\n.r0{fill:#1f5f86}\n.r1{fill:#7a5600}\n.r2{fill:#00604a}\n.r3{fill:#74405d}\n.r4{fill:#6b6600}\n.r5{fill:#00436a}\n.r6{fill:#7d3800}\n.r7{fill:#555}\n.print path{fill:#1b1b1b;stroke:#eee}\n.fault path{stroke:#f66}\n}\n</style>\n<defs><pattern id=\"hatch\" width=\"5\" height=\"5\" patternUnits=\"userSpaceOnUse\"><path class=\"hatch\" d=\"M0 5L5 0\"/></pattern><pattern id=\"dots\" width=\"8\" height=\"8\" patternUnits=\"userSpaceOnUse\"><path d=\"M2 4a2 2 0 1 0 4 0a2 2 0 1 0-4 0z\"/></pattern></defs>\n<rect class=\"paper\" width=\"100%\" height=\"100%\"/>\n";
+    b"\">\n<title>A run, pick by pick</title>\n<style>\ntext{font:11px monospace;fill:#000}\npath{fill:#000}\n.name{font-weight:bold}\n.number,.silent,.note,.again,.wait text{fill:#555;font-size:10px}\n.amount{font-size:10px}\n.paper{fill:#fff}\n.gap{fill:#eee}\n.going{fill:#999}\n.short{fill:url(#hatch);stroke:#000;stroke-width:.5}\n.kept{fill:url(#dots);stroke:#000;stroke-width:.5}\n.hatch{stroke:#000}\n.deadlock{fill:#c00;font-weight:bold}\n.hold{stroke:#000;stroke-width:.5}\n.level{fill:#333}\n.r0{fill:#bfe1f6}\n.r1{fill:#f7dca3}\n.r2{fill:#a3dccb}\n.r3{fill:#edcbdd}\n.r4{fill:#f9f5b9}\n.r5{fill:#8fb8dc}\n.r6{fill:#f1c4a6}\n.r7{fill:#d9d9d9}\n.print path{fill:#fff;stroke:#000;stroke-width:1.5}\n.fault path{stroke:#c00;stroke-width:2.5}\n@media (prefers-color-scheme:dark){\ntext{fill:#eee}\npath{fill:#eee}\n.number,.silent,.note,.again,.wait text{fill:#aaa}\n.paper{fill:#1b1b1b}\n.gap{fill:#333}\n.going{fill:#888}\n.short,.kept{stroke:#eee}\n.hatch{stroke:#eee}\n.deadlock{fill:#f66}\n.hold{stroke:#eee}\n.level{fill:#ddd}\n.r0{fill:#1f5f86}\n.r1{fill:#7a5600}\n.r2{fill:#00604a}\n.r3{fill:#74405d}\n.r4{fill:#6b6600}\n.r5{fill:#00436a}\n.r6{fill:#7d3800}\n.r7{fill:#555}\n.print path{fill:#1b1b1b;stroke:#eee}\n.fault path{stroke:#f66}\n}\n</style>\n<defs><pattern id=\"hatch\" width=\"5\" height=\"5\" patternUnits=\"userSpaceOnUse\"><path class=\"hatch\" d=\"M0 5L5 0\"/></pattern><pattern id=\"dots\" width=\"8\" height=\"8\" patternUnits=\"userSpaceOnUse\"><path d=\"M2 4a2 2 0 1 0 4 0a2 2 0 1 0-4 0z\"/></pattern></defs>\n<rect class=\"paper\" width=\"100%\" height=\"100%\"/>\n";
 
 /// Appends rectangles to `text`.
 fn put_rects(text: &mut Vec<u8>, rects: &[Rect]) -> Result<(), NoMemory>
@@ -215,6 +241,16 @@ fn put_rects(text: &mut Vec<u8>, rects: &[Rect]) -> Result<(), NoMemory>
 {
     for i in 0..rects.len() {
         put_rect(text, &rects[i])?;
+    }
+    Ok(())
+}
+
+/// Appends the lines of arms that are kept back to `text`.
+fn put_waits(text: &mut Vec<u8>, waits: &[Wait]) -> Result<(), NoMemory>
+    ensures { OnOk result (text.new.items ≡ text.old.items ++ flat_map spec.wait_text waits.now) }
+{
+    for i in 0..waits.len() {
+        put_wait(text, &waits[i])?;
     }
     Ok(())
 }
@@ -239,14 +275,15 @@ fn put_ticks(text: &mut Vec<u8>, ticks: &[Tick]) -> Result<(), NoMemory>
     Ok(())
 }
 
-/// Returns a picture as SVG, shown at a size: a line for each shape, the rectangles first, then the labels, and then the marks
-/// of events.
+/// Returns a picture as SVG, shown at a size: a line for each shape, the rectangles first, then the lines of arms that are kept
+/// back, then the labels, and then the marks of events.
 pub fn write_svg(alloc: Global, size: Size, picture: &Picture) -> Result<Vec<u8>, NoMemory>
     ensures { IfOk result (λ text. text.items ≡ spec.svg size picture.now) }
 {
     let mut text = Vec::new(alloc);
     put_head(&mut text, size, picture)?;
     put_rects(&mut text, picture.rects.as_slice())?;
+    put_waits(&mut text, picture.waits.as_slice())?;
     put_labels(&mut text, picture.labels.as_slice())?;
     put_ticks(&mut text, picture.ticks.as_slice())?;
     put(&mut text, b"</svg>\n")?;

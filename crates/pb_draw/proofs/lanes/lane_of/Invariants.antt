@@ -1,6 +1,6 @@
-use Rattle.std.proofs.Common.{◌≡◌}
+use Rattle.std.proofs.Common.{◌<◌, length}
 use Rattle.pb_history.specs.Entries.{picks_of}
-use Rattle.pb_draw.specs.Lanes.{IsStandingAfter, ShowsStandings, last_of}
+use Rattle.pb_draw.specs.Lanes.{IsStandingAfter, ShowsStandings}
 use Rattle.pb_history.specs.Positions.{IsAfterBy}
 use Rattle.pb_draw.proofs.lanes.lane_of.Given as goal
 
@@ -8,6 +8,6 @@ use Rattle.pb_draw.proofs.lanes.lane_of.Given as goal
 abbrev pub invariant-loop-i : goal.invariant-loop-i
 invariant-loop-i l = record {
   stands : IsAfterBy l.fn.lending l.verified (picks_of l.trace.entries) l.i l.machine;
-  last : last_of l.steps.items l.i ≡ l.last;
+  some : 0 < length l.steps.items;
   lane : ShowsStandings (IsStandingAfter l.fn.lending l.verified.code (picks_of l.trace.entries) l.fn.pick) l.i l.steps.items;
 }

@@ -1,6 +1,7 @@
 use Rattle.std.proofs.Common.{◌<◌, length, sym, ap, ◌∙◌, subst, arith}
 use Rattle.std.specs.Prelude.{All}
 use Rattle.std.specs.Option.{is_some}
+use Rattle.std.proofs.lemmas.Result.{IfOk-weaker}
 use Rattle.pb_banker.specs.Lenders.{lender_state, lending_by}
 use Rattle.pb_base.specs.Banker.{BankerState, processes, resources, IsWithinClaim}
 use Rattle.pb_base.specs.declared.lending.Lending.{Lending}
@@ -10,8 +11,9 @@ use Rattle.pb_circles.proofs.Requests.{asked_so, asks_in, lender_is, bundle_belo
 use Rattle.pb_code.specs.View.{process_view}
 use Rattle.pb_machine.proofs.GivenCode.{codes_number, code_at}
 use Rattle.pb_machine.specs.Looks.{IsLiveArm}
-use Rattle.pb_machine.specs.Views.{machine_view, place_of_thread, proc_view, thread_view}
+use Rattle.pb_machine.specs.Views.{IsMachineBy, machine_view, place_of_thread, proc_view, thread_view}
 use Rattle.pb_draw.specs.Lanes.{IsAsking, IsStanding}
+use Rattle.pb_draw.specs.declared.drawing.Standing.{Standing}
 use Rattle.pb_draw.specs.declared.drawing.Standing.TheVariants.{Going}
 use Rattle.pb_draw.proofs.Standings.{asking_so, asks_live, has_place, no_arm, no_process, pick_is}
 use Rattle.pb_draw.proofs.lanes.standing_of.Goals as goal
@@ -105,7 +107,7 @@ asking-requires-clause-within_claim c =
     (record { process = c.from-p.result; arm = c.from-arm.result }) c.in-Some.bundle.now asks)
 
 pub returns-in-Some : goal.returns-in-Some
-returns-in-Some c = λ lending is.
+returns-in-Some c =
     let v = c.args.verified.now in
     let m = c.args.machine.now in
     let given = c.code-code.result.now in
@@ -119,14 +121,19 @@ returns-in-Some c = λ lending is.
     (proc_view c.proc-2.result.now) (thread_view c.thread-thread.result.now)
     (code_at given v.code c.code-code.ensures.code c.from-p.result c.index.result.now within c.index.ensures)
     c.proc-2.ensures.state c.thread-thread.ensures c.in-Some.bundle.now c.in-Some.ensures.some in
-    let made = subst (λ (l : Lending). IsAsking l (lender_state c.lender.result.now) c.from-p.result c.in-Some.bundle.now c.asking.result)
-    (ap lending_by c.lender.ensures.bank ∙ is.lends) c.asking.ensures in
-    let here = subst (λ (s : BankerState). IsAsking lending s c.from-p.result c.in-Some.bundle.now c.asking.result)
+    IfOk-weaker c.asking.result
+    (IsAsking (lending_by c.lender.result.now) (lender_state c.lender.result.now) c.from-p.result c.in-Some.bundle.now)
+    (λ (standing : Standing). (lending : Lending) → IsMachineBy lending v m → IsStanding lending v.code (machine_view m) c.args.pick standing)
+    (λ standing asked lending is.
+    let made = subst (λ (l : Lending). IsAsking l (lender_state c.lender.result.now) c.from-p.result c.in-Some.bundle.now standing)
+    (ap lending_by c.lender.ensures.bank ∙ is.lends) asked in
+    let here = subst (λ (s : BankerState). IsAsking lending s c.from-p.result c.in-Some.bundle.now standing)
     (lender_is c.requires.0 v m c.requires.1 c.lender.result.now c.lender.ensures.bank) made in
-    subst (λ (a : Pick). IsStanding lending v.code (machine_view m) a c.asking.result)
+    subst (λ (a : Pick). IsStanding lending v.code (machine_view m) a standing)
     (pick_is c.args.pick c.from-p.result c.from-arm.result c.from-p.ensures c.from-arm.ensures)
-    (asking_so lending v.code (machine_view m) arm c.in-Some.bundle.now c.asking.result
-    (asks_live v.code (machine_view m) arm c.in-Some.bundle.now asks) asks here)
+    (asking_so lending v.code (machine_view m) arm c.in-Some.bundle.now standing
+    (asks_live v.code (machine_view m) arm c.in-Some.bundle.now asks) asks here))
+    c.asking.ensures
 
 pub returns-in-None : goal.returns-in-None
 returns-in-None c = λ lending is.

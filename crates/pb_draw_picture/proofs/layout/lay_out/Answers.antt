@@ -4,6 +4,7 @@ use Rattle.pb_base.specs.Lines.{names_view}
 use Rattle.pb_draw_picture.specs.Axis.{x_at}
 use Rattle.pb_draw_picture.specs.Marks.{AreFromLeft, signs}
 use Rattle.pb_draw_picture.specs.Shapes.{sign_of}
+use Rattle.pb_draw_picture.specs.Waits.{waits}
 use Rattle.pb_draw_picture.proofs.MarkPlaces.{signs_rise}
 use Rattle.pb_draw_picture.specs.Places.{places_of}
 use Rattle.pb_draw_picture.proofs.layout.lay_out.Goals as goal
@@ -14,7 +15,7 @@ returns c =
     let places = places_of c.in_ok-grid.grid in
     let marks = c.args.drawing.now.marks.items in
     let are : map sign_of c.in_ok-ticks.ticks.items ≡ signs names places marks =
-    c.in_ok-ticks.ensures ∙ ap (signs names places) c.deref.ensures.value in
+    c.in_ok-ticks.ensures ∙ ap (signs names places) c.deref-2.ensures.value in
     record {
       places = places_of c.in_ok-grid.grid;
       axis = c.in_ok-grid.ensures.axis;
@@ -23,6 +24,7 @@ returns c =
       within = c.in_ok-grid.ensures.within;
       rising = λ ordered. subst AreFromLeft (sym are) (signs_rise names places marks c.in_ok-grid.ensures.axis ordered);
       rects = c.in_ok-rects.ensures;
+      waits = c.in_ok-waits.ensures ∙ ap (waits names places) c.deref.ensures.value;
       texts = c.in_ok-labels.ensures;
       marks = are;
       wide = grind (arith, common_steps);

@@ -1,9 +1,9 @@
 use Rattle.std.proofs.Common.{append_assoc}
-use Rattle.pb_draw_picture.specs.Svg.{rect_text}
-use Rattle.pb_draw_picture.proofs.svg.put_rect.Goals as goal
+use Rattle.pb_draw_picture.specs.Svg.{rect_shape}
+use Rattle.pb_draw_picture.proofs.svg.put_shape.Goals as goal
 
 pub returns : goal.returns
-unfolding rect_text
+unfolding rect_shape
 returns c =
     rw (
       c.in_ok-put-3.ensures,
