@@ -38,7 +38,7 @@ pub enum Watch {
 }
 
 /// Returns an integer of a process of a machine, if both are there.
-fn value_of(machine: &Machine, p: usize, x: usize) -> Option<i64>
+pub fn value_of(machine: &Machine, p: usize, x: usize) -> Option<i64>
     ensures { result ≡ value_in (slice_get (machine_view machine.now).processes p) x }
 {
     if machine.processes() <= p {

@@ -5,4 +5,5 @@ pub mod LaneSteps
 pub mod MarkOrder
 pub mod PickMarks
 pub mod Standings
+pub mod Stores
 pub mod Walks

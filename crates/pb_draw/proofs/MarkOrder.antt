@@ -1,12 +1,11 @@
 -- The marks of a run are in the order of its picks.
-use Rattle.std.proofs.Common.{◌≡◌, ℕ, zero, suc, ◌<◌, List, [], ◌∷◌, ◌++◌, length, Option, Some, None, refl, sym, ap, inl, inr, subst, arith}
+use Rattle.std.proofs.Common.{◌≡◌, ℕ, Bool, zero, suc, ◌<◌, List, [], ◌∷◌, ◌++◌, length, Option, Some, None, refl, sym, ap, inl, inr, subst, arith}
 use Rattle.std.specs.Prelude.{slice_get}
 use Rattle.std.proofs.lemmas.List.{append-nil}
-use Rattle.pb_base.specs.declared.event.Event.{Event}
 use Rattle.pb_base.specs.declared.pick.Pick.{Pick}
 use Rattle.pb_code.specs.Whole.{Code, ProcessLabels}
-use Rattle.pb_draw.specs.Marks.{AreInOrder, line_before, mark_list, marks_before}
-use Rattle.pb_draw.specs.Walks.{event_at}
+use Rattle.pb_draw.specs.Marks.{AreInOrder, happening_at, line_before, mark_list, marks_before}
+use Rattle.pb_draw.specs.declared.drawing.Happening.{Happening}
 use Rattle.pb_draw.specs.declared.drawing.Mark.{Mark}
 use Rattle.pb_machine.proofs.BuiltLists.{at_push}
 
@@ -52,21 +51,21 @@ order_push marks x n early here ordered = λ i j a b lt one two.
           omega (arith, same, here, first))
     ]
 
-both : (code : Code) (labels : List ProcessLabels) (picks : List Pick) (n : ℕ)
-    → AreBefore n (marks_before code labels picks n) × AreInOrder (marks_before code labels picks n)
-both code labels picks zero = (λ i m there. cc, λ i j a b lt one two. cc)
-both code labels picks (suc n) =
-    go (marks_before code labels picks n) (event_at code picks n) (slice_get picks n) (line_before code labels picks n)
-    (both code labels picks n).0 (both code labels picks n).1
+both : (integers : Bool) (code : Code) (labels : List ProcessLabels) (picks : List Pick) (n : ℕ)
+    → AreBefore n (marks_before integers code labels picks n) × AreInOrder (marks_before integers code labels picks n)
+both integers code labels picks zero = (λ i m there. cc, λ i j a b lt one two. cc)
+both integers code labels picks (suc n) =
+    go (marks_before integers code labels picks n) (happening_at integers code picks n) (slice_get picks n) (line_before code labels picks n)
+    (both integers code labels picks n).0 (both integers code labels picks n).1
   where
-    go : (marks : List Mark) (event : Option Event) (pick : Option Pick) (source : Option ℕ) → AreBefore n marks → AreInOrder marks
-        → AreBefore (suc n) (marks ++ mark_list event pick source n) × AreInOrder (marks ++ mark_list event pick source n)
+    go : (marks : List Mark) (what : Option Happening) (pick : Option Pick) (source : Option ℕ) → AreBefore n marks → AreInOrder marks
+        → AreBefore (suc n) (marks ++ mark_list what pick source n) × AreInOrder (marks ++ mark_list what pick source n)
     go marks None pick source early ordered =
         subst (λ (ms : List Mark). AreBefore (suc n) ms × AreInOrder ms) (sym (append-nil marks)) (early_later marks n early, ordered)
-    go marks (Some event) None source early ordered =
+    go marks (Some what) None source early ordered =
         subst (λ (ms : List Mark). AreBefore (suc n) ms × AreInOrder ms) (sym (append-nil marks)) (early_later marks n early, ordered)
-    go marks (Some event) (Some pick) source early ordered =
+    go marks (Some what) (Some pick) source early ordered =
         (early_push marks _ n early refl, order_push marks _ n early refl ordered)
 
-pub marks_in_order : (code : Code) (labels : List ProcessLabels) (picks : List Pick) (n : ℕ) → AreInOrder (marks_before code labels picks n)
-marks_in_order code labels picks n = (both code labels picks n).1
+pub marks_in_order : (integers : Bool) (code : Code) (labels : List ProcessLabels) (picks : List Pick) (n : ℕ) → AreInOrder (marks_before integers code labels picks n)
+marks_in_order integers code labels picks n = (both integers code labels picks n).1

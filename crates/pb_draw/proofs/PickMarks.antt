@@ -1,5 +1,5 @@
 -- The marks of one pick more.
-use Rattle.std.proofs.Common.{◌≡◌, ℕ, zero, suc, ◌+◌, ◌++◌, [], List, Option, Some, None, refl, sym, ap, ◌∙◌, arith}
+use Rattle.std.proofs.Common.{◌≡◌, ℕ, ℤ, zero, suc, ◌+◌, ◌++◌, [], List, Bool, true, false, cond, Option, Some, None, refl, sym, ap, ◌∙◌, arith}
 use Rattle.std.specs.Prelude.{option_and_then, slice_get, All}
 use Rattle.std.proofs.lemmas.List.Elements.{All-nil, All-cons, All-append}
 use Rattle.pb_base.specs.declared.lending.Lending.{Lending}
@@ -9,9 +9,12 @@ use Rattle.pb_base.specs.declared.event.Event.{Event}
 use Rattle.pb_base.specs.declared.pick.Pick.{Pick}
 use Rattle.pb_code.specs.Code.{CodeProcess, code_step}
 use Rattle.pb_code.specs.Whole.{Code, ProcessLabels, bank_by, code_opening}
-use Rattle.pb_debug_positions.specs.Searches.{arm_line_at, line_in}
-use Rattle.pb_draw.specs.Marks.{line_before, mark_list, marks_at, marks_before}
+use Rattle.pb_debug_positions.specs.Searches.{arm_line_at, line_in, value_at, value_in}
+use Rattle.pb_draw.specs.Assignments.{stored_before}
+use Rattle.pb_draw.specs.Marks.{IsNamed, assigned, happening_at, happening_of, line_before, mark_list, marks_at, marks_before, value_behind}
 use Rattle.pb_draw.specs.Walks.{event_at, shown_in}
+use Rattle.pb_draw.specs.declared.drawing.Happening.{Happening}
+use Rattle.pb_draw.specs.declared.drawing.Happening.TheVariants as happening
 use Rattle.pb_draw.specs.declared.drawing.Mark.{Mark}
 use Rattle.pb_history.proofs.Positions.{enabled_at, position_reached}
 use Rattle.pb_history.specs.Positions.{AreEnabledBy, IsAfterBy, state_after}
@@ -20,17 +23,42 @@ use Rattle.pb_machine.specs.Views.{machine_view}
 use Rattle.pb_machine.specs.declared.machine.Machine.{Machine}
 use Rattle.pb_verifier.specs.Verified.{VerifiedCode, IsVerified}
 
-pub marks_more : (code : Code) (labels : List ProcessLabels) (picks : List Pick) (i : ℕ) (pick : Pick) (event : Option Event)
-    (source : Option ℕ) (old new : List Mark) → old ≡ marks_before code labels picks i → slice_get picks i ≡ Some pick
-    → event ≡ event_at code picks i → source ≡ line_before code labels picks i
-    → new ≡ old ++ mark_list event (Some pick) source i → new ≡ marks_before code labels picks (i + 1)
-marks_more code labels picks i pick event source old new before there same known is =
+pub marks_more : (integers : Bool) (code : Code) (labels : List ProcessLabels) (picks : List Pick) (i : ℕ) (pick : Pick)
+    (what : Option Happening) (source : Option ℕ) (old new : List Mark) → old ≡ marks_before integers code labels picks i
+    → slice_get picks i ≡ Some pick → what ≡ happening_at integers code picks i → source ≡ line_before code labels picks i
+    → new ≡ old ++ mark_list what (Some pick) source i → new ≡ marks_before integers code labels picks (i + 1)
+marks_more integers code labels picks i pick what source old new before there same known is =
+    let earlier = marks_before integers code labels picks i in
+    let here = happening_at integers code picks i in
     is
-    ∙ (ap (λ (ms : List Mark). ms ++ mark_list event (Some pick) source i) before
-    ∙ (ap (λ (e : Option Event). marks_before code labels picks i ++ mark_list e (Some pick) source i) same
-    ∙ (ap (λ (l : Option ℕ). marks_before code labels picks i ++ mark_list (event_at code picks i) (Some pick) l i) known
-    ∙ (ap (λ (p : Option Pick). marks_before code labels picks i ++ mark_list (event_at code picks i) p (line_before code labels picks i) i) (sym there)
-    ∙ ap (marks_before code labels picks) (let e : suc i ≡ i + 1 = omega arith in e)))))
+    ∙ (ap (λ (ms : List Mark). ms ++ mark_list what (Some pick) source i) before
+    ∙ (ap (λ (w : Option Happening). earlier ++ mark_list w (Some pick) source i) same
+    ∙ (ap (λ (l : Option ℕ). earlier ++ mark_list here (Some pick) l i) known
+    ∙ (ap (λ (p : Option Pick). earlier ++ mark_list here p (line_before code labels picks i) i) (sym there)
+    ∙ ap (marks_before integers code labels picks) (let e : suc i ≡ i + 1 = omega arith in e)))))
+
+-- what a pick shows, by its event, by the integer to which its arm assigns and by a machine behind it
+pub happening_here : (lending : Lending) (v : VerifiedCode) (picks : List Pick) (integers : Bool) (i : ℕ) (pick : Pick) (event : Option Event)
+    (stored : Option ℕ) (m : Machine) → IsAfterBy lending v picks (i + 1) m → slice_get picks i ≡ Some pick
+    → event ≡ event_at v.code picks i → stored ≡ stored_before v.code picks i
+    → happening_of event (option_and_then (λ x. assigned x (value_in (slice_get (machine_view m).processes pick.process) x)) (cond integers stored None))
+    ≡ happening_at integers v.code picks i
+happening_here lending v picks integers i pick event stored m at there same known =
+    ap (λ (e : Option Event). happening_of e
+    (option_and_then (λ x. assigned x (value_in (slice_get (machine_view m).processes pick.process) x)) (cond integers stored None))) same
+    ∙ (ap (λ (s : State CodeProcess). happening_of (event_at v.code picks i)
+    (option_and_then (λ x. assigned x (value_in (slice_get s.processes pick.process) x)) (cond integers stored None))) at.state
+    ∙ (ap (λ (o : Option ℕ). happening_of (event_at v.code picks i)
+    (option_and_then (λ x. assigned x (value_at v.code picks (i + 1) pick.process x)) (cond integers o None))) known
+    ∙ (ap (λ (p : Option Pick). happening_of (event_at v.code picks i)
+    (option_and_then (λ x. assigned x (option_and_then (λ q. value_at v.code picks (i + 1) q.process x) p)) (cond integers (stored_before v.code picks i) None)))
+    (sym there) ∙ drawn_or_not integers)))
+  where
+    drawn_or_not : (b : Bool)
+        → happening_of (event_at v.code picks i) (option_and_then (λ x. assigned x (value_behind v.code picks i x)) (cond b (stored_before v.code picks i) None))
+        ≡ happening_at b v.code picks i
+    drawn_or_not true = refl
+    drawn_or_not false = refl
 
 -- the line of the arm of a pick in a machine is that at its position
 pub line_here : (lending : Lending) (v : VerifiedCode) (labels : List ProcessLabels) (picks : List Pick) (i : ℕ) (pick : Pick) (m : Machine)
@@ -42,6 +70,23 @@ line_here lending v labels picks i pick m at there =
     ∙ ap (λ (o : Option Pick). option_and_then (λ q. arm_line_at v.code labels picks i q.process q.arm) o) (sym there)
 
 -- ---- all that a mark speaks of has a name
+
+-- an assignment is no event
+no_event : (x : ℕ) (value : Option ℤ) (event : Event) → assigned x value ≡ Some (happening.Did event) → ⊥
+no_event x None event e = cc
+no_event x (Some value) event e = cc
+
+assigns_only : (integers : Bool) (stored : Option ℕ) (values : ℕ → Option ℤ) (e : Event)
+    → cond integers (option_and_then (λ x. assigned x (values x)) stored) None ≡ Some (happening.Did e) → ⊥
+assigns_only false stored values e is = cc
+assigns_only true None values e is = cc
+assigns_only true (Some x) values e is = no_event x (values x) e is
+
+-- what a mark has as an event is the event of its pick
+is_event : (shown : Option Event) (event : Event) (other : Option Happening) → happening_of shown other ≡ Some (happening.Did event)
+    → ((e : Event) → other ≡ Some (happening.Did e) → ⊥) → shown ≡ Some event
+is_event None event other e not = absurd (not event e)
+is_event (Some shown) event other e not = cc
 
 module _ (lending : Lending) (v : VerifiedCode) (picks : List Pick) (verified : IsVerified v)
     (all : AreEnabledBy lending v.code picks) where
@@ -57,16 +102,22 @@ module _ (lending : Lending) (v : VerifiedCode) (picks : List Pick) (verified : 
       events_have_names lending v verified s (position_reached v.code picks i all) pick event e.move.next
       (e.move.effect, e.moves, e.granted, sym here ∙ shows)
 
-  named_list : (event : Option Event) (pick : Option Pick) (source : Option ℕ) (i : ℕ) → event_at v.code picks i ≡ event
-      → slice_get picks i ≡ pick → All (λ m. HasNames v.code.names m.event) (mark_list event pick source i)
-  named_list None pick source i shows there = All-nil (λ (m : Mark). HasNames v.code.names m.event)
-  named_list (Some event) None source i shows there = All-nil (λ (m : Mark). HasNames v.code.names m.event)
-  named_list (Some event) (Some pick) source i shows there =
-      All-cons (λ (m : Mark). HasNames v.code.names m.event) _ [] (shown_named i pick event there shows)
-      (All-nil (λ (m : Mark). HasNames v.code.names m.event))
+  named_list : (integers : Bool) (what : Option Happening) (pick : Option Pick) (source : Option ℕ) (i : ℕ)
+      → happening_at integers v.code picks i ≡ what → slice_get picks i ≡ pick
+      → All (λ m. IsNamed v.code.names m.what) (mark_list what pick source i)
+  named_list integers None pick source i shows there = All-nil (λ (m : Mark). IsNamed v.code.names m.what)
+  named_list integers (Some what) None source i shows there = All-nil (λ (m : Mark). IsNamed v.code.names m.what)
+  named_list integers (Some (happening.Assigned x value)) (Some pick) source i shows there =
+      All-cons (λ (m : Mark). IsNamed v.code.names m.what) _ [] tt (All-nil (λ (m : Mark). IsNamed v.code.names m.what))
+  named_list integers (Some (happening.Did event)) (Some pick) source i shows there =
+      All-cons (λ (m : Mark). IsNamed v.code.names m.what) _ []
+      (shown_named i pick event there (is_event (event_at v.code picks i) event _ shows (assigns_only integers (stored_before v.code picks i) (value_behind v.code picks i))))
+      (All-nil (λ (m : Mark). IsNamed v.code.names m.what))
 
-  pub marks_named : (labels : List ProcessLabels) (n : ℕ) → All (λ m. HasNames v.code.names m.event) (marks_before v.code labels picks n)
-  marks_named labels zero = All-nil (λ (m : Mark). HasNames v.code.names m.event)
-  marks_named labels (suc n) =
-      All-append (λ (m : Mark). HasNames v.code.names m.event) (marks_before v.code labels picks n) (marks_at v.code labels picks n)
-      (marks_named labels n) (named_list (event_at v.code picks n) (slice_get picks n) (line_before v.code labels picks n) n refl refl)
+  pub marks_named : (integers : Bool) (labels : List ProcessLabels) (n : ℕ)
+      → All (λ m. IsNamed v.code.names m.what) (marks_before integers v.code labels picks n)
+  marks_named integers labels zero = All-nil (λ (m : Mark). IsNamed v.code.names m.what)
+  marks_named integers labels (suc n) =
+      All-append (λ (m : Mark). IsNamed v.code.names m.what) (marks_before integers v.code labels picks n)
+      (marks_at integers v.code labels picks n) (marks_named integers labels n)
+      (named_list integers (happening_at integers v.code picks n) (slice_get picks n) (line_before v.code labels picks n) n refl refl)

@@ -4,7 +4,7 @@ ghost use Rattle.std.specs.Prelude.{◌≡◌, ◌++◌, IfOk, OnOk, if◌then�
 ghost use Rattle.pb_draw.specs.Bars as spec;
 ghost use Rattle.pb_history.specs.Entries.{are_same};
 
-use crate::drawing::{Bar, Mark};
+use crate::drawing::{Bar, Happening, Mark};
 use pb_base::{Event, NoMemory, Pick};
 use std::alloc::Global;
 
@@ -47,6 +47,16 @@ fn turn_of(pick: Pick, event: &Event) -> Turn
     }
 }
 
+/// Returns what a pick shows is to the last hold of an arm.
+fn turn_in(pick: Pick, what: &Happening) -> Turn
+    ensures { result ≡ spec.turn_in pick what.now }
+{
+    match what {
+        Happening::Did(event) => turn_of(pick, event),
+        Happening::Assigned { .. } => Turn::Other,
+    }
+}
+
 /// Returns the number of the pick by which an arm gives back a hold that it has before these marks, if one
 /// does.
 fn given_back(pick: Pick, marks: &[Mark]) -> Option<u32>
@@ -54,7 +64,7 @@ fn given_back(pick: Pick, marks: &[Mark]) -> Option<u32>
 {
     let mut inner: usize = 0;
     for mark in marks {
-        match turn_of(pick, &mark.event) {
+        match turn_in(pick, &mark.what) {
             Turn::Opens => inner += 1,
             Turn::Closes => {
                 if inner == 0 {
@@ -69,15 +79,15 @@ fn given_back(pick: Pick, marks: &[Mark]) -> Option<u32>
     None
 }
 
-/// Adds the bar of a mark, before these further marks: a grant has one.
-fn add_bar(bars: &mut Vec<Bar>, mark: &Mark, later: &[Mark]) -> Result<(), NoMemory>
-    ensures { OnOk result (bars.new.items ≡ bars.old.items ++ spec.bar_of mark.now.at mark.now.event later.now) }
+/// Adds the bar of an event of a pick, before these further marks: a grant has one.
+fn add_bar(bars: &mut Vec<Bar>, at: u32, event: Event, later: &[Mark]) -> Result<(), NoMemory>
+    ensures { OnOk result (bars.new.items ≡ bars.old.items ++ spec.bar_of at event later.now) }
 {
-    match mark.event {
+    match event {
         Event::Granted { pick, bundle } => bars.push(Bar {
             pick,
             bundle,
-            taken: mark.at,
+            taken: at,
             returned: given_back(pick, later),
         })?,
         Event::Returned { .. } => {}
@@ -88,13 +98,23 @@ fn add_bar(bars: &mut Vec<Bar>, mark: &Mark, later: &[Mark]) -> Result<(), NoMem
     Ok(())
 }
 
+/// Adds the bar of a mark, before these further marks: an assignment has none.
+fn add_bar_for(bars: &mut Vec<Bar>, mark: &Mark, later: &[Mark]) -> Result<(), NoMemory>
+    ensures { OnOk result (bars.new.items ≡ bars.old.items ++ spec.bar_for mark.now.at mark.now.what later.now) }
+{
+    match mark.what {
+        Happening::Did(event) => add_bar(bars, mark.at, event, later),
+        Happening::Assigned { .. } => Ok(()),
+    }
+}
+
 /// Returns a bar for each grant, up to where it is given back.
 pub(crate) fn bars_of(alloc: Global, marks: &[Mark]) -> Result<Vec<Bar>, NoMemory>
     ensures { IfOk result (λ bars. bars.items ≡ spec.bars_of marks.now) }
 {
     let mut bars = Vec::new(alloc);
     for i in 0..marks.len() {
-        add_bar(&mut bars, &marks[i], &marks[i + 1..])?;
+        add_bar_for(&mut bars, &marks[i], &marks[i + 1..])?;
     }
     Ok(bars)
 }

@@ -1,15 +1,15 @@
 //! What a run shows over its picks.
 
 ghost use Rattle.std.specs.Prelude.{◌≡◌, ◌≤◌, ◌*◌, All, IfOk, length, map};
-ghost use Rattle.pb_base.specs.Lines.{HasNames};
 ghost use Rattle.pb_base.specs.declared.limits.TheConstants.{MAX_ARMS, MAX_PROCESSES};
 ghost use Rattle.pb_code.specs.View.{labels_view};
 ghost use Rattle.pb_draw.specs.Arms.{AreDifferent};
 ghost use Rattle.pb_draw.specs.Drawings.{IsDrawing};
-ghost use Rattle.pb_draw.specs.Marks.{AreInOrder};
+ghost use Rattle.pb_draw.specs.Marks.{AreInOrder, IsNamed};
 ghost use Rattle.pb_history.specs.Entries.{picks_of};
 ghost use Rattle.pb_history.specs.Positions.{AreEnabledBy};
 
+use crate::assignments::{are_drawn, assignments_of};
 use crate::bars::bars_of;
 use crate::cash::cash_curves;
 use crate::lanes::lanes_of;
@@ -21,13 +21,22 @@ use pb_history::Trace;
 use pb_verifier::Verified;
 use std::alloc::Global;
 
-/// An event, the number of the pick that shows it, counted from 0, and the source line of its arm before that pick, if
-/// the place there has one.
+/// What a pick shows.
+#[derive(Clone, Copy)]
+pub enum Happening {
+    /// An event.
+    Did(Event),
+    /// An integer of its process, by its number, is assigned to, and is this then.
+    Assigned { integer: u8, value: i64 },
+}
+
+/// What a pick shows, the number of that pick, counted from 0, and the source line of its arm before it, if the place
+/// there has one.
 #[derive(Clone, Copy)]
 pub struct Mark {
     pub at: u32,
     pub pick: Pick,
-    pub event: Event,
+    pub what: Happening,
     pub line: Option<u32>,
 }
 
@@ -87,7 +96,9 @@ pub struct CashCurve {
 pub struct Drawing {
     /// How many picks there are, at most 10,000,000.
     pub picks: u32,
-    /// Each event, in the order of the picks.
+    /// How many picks assign to an integer.
+    pub assignments: u32,
+    /// Each event, and each assignment if they are few enough to be drawn, in the order of the picks.
     pub marks: Vec<Mark>,
     /// Each hold, in the order in which they begin.
     pub bars: Vec<Bar>,
@@ -109,7 +120,7 @@ pub fn draw(
     requires enabled { AreEnabledBy lending verified.now.code (picks_of trace.now.entries) }
     requires few { length trace.now.entries ≤ MAX_PICKS }
     ensures drawing { IfOk result (IsDrawing lending verified.now.code (labels_view labels.now) (picks_of trace.now.entries)) }
-    ensures named { IfOk result (λ d. All (λ m. HasNames verified.now.code.names m.event) d.marks.items) }
+    ensures named { IfOk result (λ d. All (λ m. IsNamed verified.now.code.names m.what) d.marks.items) }
     ensures ordered { IfOk result (λ d. AreInOrder d.marks.items) }
     ensures different { IfOk result (λ d. AreDifferent (map (λ lane. lane.pick) d.lanes.items)) }
     ensures rows { IfOk result (λ d. length d.lanes.items ≤ MAX_PROCESSES * MAX_ARMS) }
@@ -118,12 +129,15 @@ pub fn draw(
     // Called for its contract alone, which the proof needs.
     let _ = verified.code();
     let picks = trace.len();
-    let marks = marks_of(alloc, verified, labels, lending, trace)?;
+    let assignments = assignments_of(alloc, verified, lending, trace)?;
+    let integers = are_drawn(assignments);
+    let marks = marks_of(alloc, verified, labels, lending, integers, trace)?;
     let bars = bars_of(alloc, marks.as_slice())?;
     let lanes = lanes_of(alloc, verified, lending, trace)?;
     let curves = cash_curves(alloc, verified, lending, trace)?;
     Ok(Drawing {
         picks,
+        assignments,
         marks,
         bars,
         lanes,

@@ -1,6 +1,7 @@
 //! What runs show over their picks: events, holds, the state of each arm, and the cash of each resource.
 #![tactic(auto)]
 
+mod assignments;
 mod bars;
 mod cash;
 mod drawing;
@@ -8,4 +9,7 @@ mod lanes;
 mod marks;
 mod walk;
 
-pub use drawing::{Bar, CashCurve, CashStep, Drawing, Lane, LaneStep, Mark, Standing, draw};
+pub use assignments::MAX_ASSIGNMENTS;
+pub use drawing::{
+    Bar, CashCurve, CashStep, Drawing, Happening, Lane, LaneStep, Mark, Standing, draw,
+};

@@ -40,7 +40,7 @@ pub record IsPictured (lending : Lending) (size : Size) (code : Code) (labels : 
   pub drawing : Drawing
   pub picture : Picture
   pub drawn : IsDrawing lending code labels (picks_of entries) drawing
-  pub laid_out : IsLayout code.names code.capital drawing deadlock picture
+  pub laid_out : IsLayout code.names labels code.capital drawing deadlock picture
   pub stacked : AreStacked laid_out.places TOP drawing.lanes.items laid_out.places.bottom
   pub rising : AreFromLeft (map sign_of picture.ticks.items)
   pub written : text ≡ svg size picture

@@ -159,6 +159,7 @@ fn drawn(
     let picture = lay_out(
         alloc,
         &code.names,
+        labels,
         &code.capital,
         &drawing,
         is_stuck(ending),

@@ -1,16 +1,20 @@
--- The marks of a picture, and the numbers of their picks above them: of each event one.
-use Rattle.std.specs.Prelude.{◌≡◌, ◌<◌, ℕ, ◌+◌, ◌-◌, List, Option, Some, map, slice_get}
+-- The marks of a picture, and the numbers of their picks above them: of each event one, and of each assignment that is drawn.
+use Rattle.std.specs.Prelude.{◌≡◌, ◌<◌, ℕ, ℤ, ◌+◌, ◌-◌, List, Option, Some, map, slice_get}
 use Rattle.std.specs.Fmt.{decimal}
 use Rattle.pb_base.specs.Lines.{NameTable, line_of}
 use Rattle.pb_base.specs.declared.event.Event.{Event}
 use Rattle.pb_base.specs.declared.event.Event.TheVariants.{Granted, Returned, Printed, Faulted, Finished}
+use Rattle.pb_base.specs.declared.pick.Pick.{Pick}
+use Rattle.pb_code.specs.Whole.{ProcessLabels}
+use Rattle.pb_draw.specs.declared.drawing.Happening.{Happening}
+use Rattle.pb_draw.specs.declared.drawing.Happening.TheVariants as happening
 use Rattle.pb_draw.specs.declared.drawing.Mark.{Mark}
 use Rattle.pb_draw_picture.specs.declared.picture.LabelKind.TheVariants.{Number}
 use Rattle.pb_draw_picture.specs.declared.picture.TickKind.{TickKind}
-use Rattle.pb_draw_picture.specs.declared.picture.TickKind.TheVariants.{Grant, Return, Print, Fault, End}
+use Rattle.pb_draw_picture.specs.declared.picture.TickKind.TheVariants.{Grant, Return, Print, Fault, End, Assign}
 use Rattle.pb_draw_picture.specs.Places.{Places}
 use Rattle.pb_draw_picture.specs.Shapes.{Sign, Text}
-use Rattle.pb_draw_picture.specs.Texts.{label_of}
+use Rattle.pb_draw_picture.specs.Texts.{assigned_text, assignment_line, label_of}
 use Rattle.pb_draw_picture.specs.declared.sizes.TheConstants.{LABEL_LEFT, LABEL_UP, MIDDLE, NUMBER_Y}
 
 -- what an event is
@@ -33,9 +37,27 @@ sign_at names x y source event = record {
   label_y = y - LABEL_UP;
 }
 
--- each event at the position behind its pick, on the line of its arm
-abbrev pub signs : NameTable → Places → List Mark → List Sign
-signs names places marks = map (λ m. sign_at names (places.x (m.at + 1)) (places.line m.pick + MIDDLE) m.line m.event) marks
+-- the mark of an assignment at a place
+abbrev pub assign_at : NameTable → List ProcessLabels → (x y : ℕ) → Pick → (integer : ℕ) → ℤ → Sign
+assign_at names labels x y pick integer value = record {
+  kind = Assign;
+  x = x;
+  y = y;
+  title = assignment_line names labels pick integer value;
+  label = assigned_text labels pick.process integer value;
+  label_x = x - LABEL_LEFT;
+  label_y = y - LABEL_UP;
+}
+
+-- the mark of what a pick shows
+abbrev pub sign_for : NameTable → List ProcessLabels → (x y : ℕ) → Pick → (source : Option ℕ) → Happening → Sign
+sign_for names labels x y pick source (happening.Did event) = sign_at names x y source event
+sign_for names labels x y pick source (happening.Assigned integer value) = assign_at names labels x y pick integer value
+
+-- each at the position behind its pick, on the line of its arm
+abbrev pub signs : NameTable → List ProcessLabels → Places → List Mark → List Sign
+signs names labels places marks =
+    map (λ m. sign_for names labels (places.x (m.at + 1)) (places.line m.pick + MIDDLE) m.pick m.line m.what) marks
 
 -- and above it the number of the pick
 abbrev pub numbers : Places → List Mark → List Text

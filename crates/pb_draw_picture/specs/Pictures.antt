@@ -1,6 +1,7 @@
 -- What a picture shows of a run.
 use Rattle.std.specs.Prelude.{◌≡◌, ◌≤◌, ℕ, ◌+◌, ◌*◌, max, Bool, List, ◌++◌, length, map}
 use Rattle.pb_base.specs.Lines.{NameTable}
+use Rattle.pb_code.specs.Whole.{ProcessLabels}
 use Rattle.pb_draw.specs.Marks.{AreInOrder}
 use Rattle.pb_draw.specs.Arms.{AreDifferent}
 use Rattle.pb_draw.specs.declared.drawing.Drawing.{Drawing}
@@ -43,7 +44,7 @@ pub record AreTexts (names : NameTable) (capital : List ℕ) (d : Drawing) (dead
 
 -- a picture shows a drawing at some places, which go from left to right with the picks, in rows that are one below
 -- the other: a mark for each event, and all that stands above; there are no other shapes
-pub record IsLayout (names : NameTable) (capital : List ℕ) (d : Drawing) (deadlock : Bool) (p : Picture) : Type 0 where
+pub record IsLayout (names : NameTable) (labels : List ProcessLabels) (capital : List ℕ) (d : Drawing) (deadlock : Bool) (p : Picture) : Type 0 where
   pub places : Places
   pub axis : IsAxis d.marks.items places.x
   pub right : places.right ≡ places.x (d.picks + 1)
@@ -54,6 +55,6 @@ pub record IsLayout (names : NameTable) (capital : List ℕ) (d : Drawing) (dead
   pub rects : AreRects capital d places p.rects.items
   pub waits : map stretch_of p.waits.items ≡ waits names places d.lanes.items
   pub texts : AreTexts names capital d deadlock places (map text_of p.labels.items)
-  pub marks : map sign_of p.ticks.items ≡ signs names places d.marks.items
+  pub marks : map sign_of p.ticks.items ≡ signs names labels places d.marks.items
   pub wide : p.width ≡ max (places.right + RIGHT) MIN_WIDTH
   pub high : p.height ≡ foot_of_all places d + BOTTOM

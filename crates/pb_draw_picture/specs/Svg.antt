@@ -8,7 +8,7 @@ use Rattle.pb_draw_picture.specs.declared.picture.LabelKind.TheVariants.{Name, A
 use Rattle.pb_draw_picture.specs.declared.picture.RectKind.{RectKind}
 use Rattle.pb_draw_picture.specs.declared.picture.RectKind.TheVariants.{Gap, Going, Short, KeptBack, Hold, Cash, Level}
 use Rattle.pb_draw_picture.specs.declared.picture.TickKind.{TickKind}
-use Rattle.pb_draw_picture.specs.declared.picture.TickKind.TheVariants.{Grant, Return, Print, Fault, End}
+use Rattle.pb_draw_picture.specs.declared.picture.TickKind.TheVariants.{Grant, Return, Print, Fault, End, Assign}
 use Rattle.pb_draw_picture.specs.declared.picture.Label.{Label}
 use Rattle.pb_draw_picture.specs.declared.picture.Picture.{Picture}
 use Rattle.pb_draw_picture.specs.declared.picture.Rect.{Rect}
@@ -50,6 +50,7 @@ tick_word Return = codes "return"
 tick_word Print = codes "print"
 tick_word Fault = codes "fault"
 tick_word End = codes "end"
+tick_word Assign = codes "assign"
 
 -- the outline of a mark, from its place on
 abbrev pub outline : TickKind → List ℕ
@@ -58,6 +59,7 @@ outline Return = codes "m0-6v12l-7-6z"
 outline Print = codes "m-4 0a4 4 0 1 0 8 0a4 4 0 1 0-8 0z"
 outline Fault = codes "m-5-5l10 10m0-10l-10 10"
 outline End = codes "m-4-4h8v8h-8z"
+outline Assign = codes "m-4 0l4-4l4 4l-4 4z"
 
 -- a rectangle
 unfoldable pub rect_shape : Rect → List ℕ

@@ -1,5 +1,5 @@
 -- The texts of a picture.
-use Rattle.std.specs.Prelude.{ℕ, ◌/◌, nat_le, Bool, cond, List, [], ◌++◌, length, Option, Some, None, codes, drop}
+use Rattle.std.specs.Prelude.{ℕ, ℤ, ◌/◌, nat_le, slice_get, Bool, cond, List, [], ◌++◌, length, Option, Some, None, codes, drop}
 use Rattle.std.specs.Fmt.{decimal, signed_decimal}
 use Rattle.std.specs.List.{flat_map}
 use Rattle.pb_base.specs.Lines.{NameTable, fault_text, name_of, pairs_text, pick_text}
@@ -7,6 +7,9 @@ use Rattle.pb_base.specs.declared.event.Event.{Event}
 use Rattle.pb_base.specs.declared.event.Event.TheVariants.{Granted, Returned, Printed, Faulted, Finished}
 use Rattle.pb_base.specs.declared.pair.Pair.{Pair}
 use Rattle.pb_base.specs.declared.pick.Pick.{Pick}
+use Rattle.pb_code.specs.Whole.{ProcessLabels}
+use Rattle.pb_draw.specs.declared.drawing.Happening.{Happening}
+use Rattle.pb_draw.specs.declared.drawing.Happening.TheVariants as happening
 use Rattle.pb_draw_picture.specs.declared.sizes.TheConstants.{SMALL_CHARACTER}
 
 -- the amounts of a bundle, each with its resource: `k R`, with a space between two
@@ -33,6 +36,28 @@ label_of names source (Returned pick bundle) = []
 label_of names source (Printed pick value) = caption names source (Printed pick value)
 label_of names source (Faulted pick kind) = caption names source (Faulted pick kind)
 label_of names source (Finished process) = caption names source (Finished process)
+
+-- the name of an integer of a process, if it has one
+abbrev pub integer_in : Option ProcessLabels → (x : ℕ) → List ℕ
+integer_in None x = []
+integer_in (Some labels) x = name_of labels.integers x
+
+abbrev pub integer_text : List ProcessLabels → (p x : ℕ) → List ℕ
+integer_text labels p x = integer_in (slice_get labels p) x
+
+-- an assignment: `x 1`
+abbrev pub assigned_text : List ProcessLabels → (p x : ℕ) → ℤ → List ℕ
+assigned_text labels p x value = integer_text labels p x ++ codes " " ++ signed_decimal value
+
+-- and as the title of its mark: `P.a x := 1`
+abbrev pub assignment_line : NameTable → List ProcessLabels → Pick → (x : ℕ) → ℤ → List ℕ
+assignment_line names labels pick x value =
+    pick_text names pick ++ codes " " ++ integer_text labels pick.process x ++ codes " := " ++ signed_decimal value
+
+-- what is written of what a pick shows, for which there is room
+abbrev pub caption_of : NameTable → List ProcessLabels → Pick → (source : Option ℕ) → Happening → List ℕ
+caption_of names labels pick source (happening.Did event) = caption names source event
+caption_of names labels pick source (happening.Assigned x value) = assigned_text labels pick.process x value
 
 -- `, P` for each of these processes
 abbrev pub listed_text : NameTable → List ℕ → List ℕ

@@ -3,10 +3,11 @@
 ghost use Rattle.std.specs.Prelude.{◌≡◌, ◌≤◌, ◌<◌, ◌+◌, ◌-◌, ◌*◌, ◌^◌, IfOk};
 ghost use Rattle.pb_draw_picture.specs.Axis as spec;
 
-use crate::captions::{caption, number_text};
+use crate::captions::{caption_of, number_text};
 use crate::knot::{Knot, Start};
 use crate::sizes::{CHARACTER, MAX_CHARACTERS, MAX_SILENT, SIDE, SILENT, START};
 use pb_base::{Names, NoMemory};
+use pb_code::Labels;
 use pb_draw::Mark;
 use std::alloc::Global;
 
@@ -53,11 +54,11 @@ impl Knot {
 }
 
 /// Returns how wide the pick of an event is.
-fn width_of(alloc: Global, names: &Names, mark: &Mark) -> Result<u64, NoMemory>
+fn width_of(alloc: Global, names: &Names, labels: &Labels, mark: &Mark) -> Result<u64, NoMemory>
     ensures wide { IfOk result (λ width. SIDE ≤ width) }
     ensures narrow { IfOk result (λ width. width ≤ 900) }
 {
-    let said = caption(alloc, names, mark.line, &mark.event)?;
+    let said = caption_of(alloc, names, labels, mark.pick, mark.line, &mark.what)?;
     let number = number_text(alloc, u64::from(mark.at), b"")?;
     let characters = said.len().max(number.len()) as u64;
     Ok(SIDE + characters.min(MAX_CHARACTERS) * CHARACTER)
@@ -113,6 +114,7 @@ fn first_start(left: u64) -> Start
 pub(crate) fn axis_of(
     alloc: Global,
     names: &Names,
+    labels: &Labels,
     marks: &[Mark],
     picks: u32,
     left: u64,
@@ -128,7 +130,7 @@ pub(crate) fn axis_of(
         if start.position < next {
             let knot = knot_to(start, next);
             knots.push(knot)?;
-            start = start_at(&knot, next, width_of(alloc, names, mark)?);
+            start = start_at(&knot, next, width_of(alloc, names, labels, mark)?);
         }
     }
     let end = u64::from(picks).max(start.position) + 1;

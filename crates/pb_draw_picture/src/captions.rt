@@ -3,11 +3,14 @@
 ghost use Rattle.std.specs.Prelude.{◌≡◌, ◌++◌, IfOk, OnOk, codes, map};
 ghost use Rattle.std.specs.Fmt.{decimal};
 ghost use Rattle.pb_base.specs.Lines.{fault_text, name_of, names_view, pair_text, pairs_text, pick_text};
+ghost use Rattle.pb_code.specs.View.{labels_view};
 ghost use Rattle.pb_draw_picture.specs.Texts as spec;
 
 use crate::sizes::SMALL_CHARACTER;
 use pb_base::writing::{put, put_number};
 use pb_base::{Bundle, Event, FaultKind, Names, NoMemory, Pair, Pick};
+use pb_code::Labels;
+use pb_draw::Happening;
 use std::alloc::Global;
 
 /// Returns a number as text, with words behind it.
@@ -134,6 +137,70 @@ pub(crate) fn label_of(
         Event::Printed { .. } => caption(alloc, names, line, event),
         Event::Faulted { .. } => caption(alloc, names, line, event),
         Event::Finished { .. } => caption(alloc, names, line, event),
+    }
+}
+
+/// Appends the name of an integer of a process to `text`, if it has one.
+fn put_integer(text: &mut Vec<u8>, labels: &Labels, p: usize, x: usize) -> Result<(), NoMemory>
+    ensures { OnOk result (text.new.items ≡ text.old.items ++ spec.integer_text (labels_view labels.now) p x) }
+{
+    match labels.processes.get(p) {
+        Some(process) => put_name(text, &process.integers, x),
+        None => Ok(()),
+    }
+}
+
+/// Returns an assignment, `x 1`.
+pub(crate) fn assigned_text(
+    alloc: Global,
+    labels: &Labels,
+    pick: Pick,
+    x: u8,
+    value: i64,
+) -> Result<Vec<u8>, NoMemory>
+    ensures { IfOk result (λ text. text.items ≡ spec.assigned_text (labels_view labels.now) pick.process x value) }
+{
+    let mut text = Vec::new(alloc);
+    put_integer(&mut text, labels, usize::from(pick.process), usize::from(x))?;
+    put_number(&mut text, b" ", value)?;
+    Ok(text)
+}
+
+/// Returns an assignment with its arm, `P.a x := 1`.
+pub(crate) fn assignment_line(
+    alloc: Global,
+    names: &Names,
+    labels: &Labels,
+    pick: Pick,
+    x: u8,
+    value: i64,
+) -> Result<Vec<u8>, NoMemory>
+    ensures { IfOk result (λ text. text.items ≡ spec.assignment_line (names_view names.now) (labels_view labels.now) pick x value) }
+{
+    let mut text = arm_text(alloc, names, pick)?;
+    put(&mut text, b" ")?;
+    put_integer(&mut text, labels, usize::from(pick.process), usize::from(x))?;
+    put_number(&mut text, b" := ", value)?;
+    Ok(text)
+}
+
+/// Returns what is written of what a pick shows, for which there is room.
+pub(crate) fn caption_of(
+    alloc: Global,
+    names: &Names,
+    labels: &Labels,
+    pick: Pick,
+    line: Option<u32>,
+    what: &Happening,
+) -> Result<Vec<u8>, NoMemory>
+    ensures { IfOk result (λ text. text.items
+        ≡ spec.caption_of (names_view names.now) (labels_view labels.now) pick line what.now) }
+{
+    match what {
+        Happening::Did(event) => caption(alloc, names, line, event),
+        Happening::Assigned { integer, value } => assigned_text(
+            alloc, labels, pick, *integer, *value,
+        ),
     }
 }
 

@@ -12,6 +12,7 @@ use crate::row::Row;
 use crate::rows::{rows_of, track_of};
 use crate::sizes::{BETWEEN, CHARACTER, HOLD, LOWEST, MAX_NAME, MAX_ROWS, NAME_SIDE, TOP, TRACK};
 use pb_base::{Names, NoMemory, Pick};
+use pb_code::Labels;
 use pb_draw::Drawing;
 use std::alloc::Global;
 
@@ -101,7 +102,12 @@ fn left_of(names: &Names) -> u64
 }
 
 /// Returns where things are in the picture of a drawing.
-pub(crate) fn grid_of(alloc: Global, names: &Names, drawing: &Drawing) -> Result<Grid, NoMemory>
+pub(crate) fn grid_of(
+    alloc: Global,
+    names: &Names,
+    labels: &Labels,
+    drawing: &Drawing,
+) -> Result<Grid, NoMemory>
     ensures chain { IfOk result (λ grid. IsChain grid.knots.items) }
     ensures axis { IfOk result (λ grid. IsAxis drawing.now.marks.items (spec.places_of grid).x) }
     ensures end { IfOk result (λ grid. grid.end ≡ drawing.now.picks + 1) }
@@ -110,7 +116,14 @@ pub(crate) fn grid_of(alloc: Global, names: &Names, drawing: &Drawing) -> Result
         → length drawing.now.lanes.items ≤ MAX_ROWS → AreStacked (spec.places_of grid) TOP drawing.now.lanes.items grid.bottom) }
     ensures within { IfOk result (λ grid. AreWithin (spec.places_of grid) drawing.now.lanes.items drawing.now.bars.items) }
 {
-    let knots = axis_of(alloc, names, &drawing.marks, drawing.picks, left_of(names))?;
+    let knots = axis_of(
+        alloc,
+        names,
+        labels,
+        &drawing.marks,
+        drawing.picks,
+        left_of(names),
+    )?;
     let rows = rows_of(alloc, drawing)?;
     Ok(Grid {
         knots,

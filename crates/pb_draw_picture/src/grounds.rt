@@ -23,7 +23,7 @@ pub(crate) const LINE_NOTE: &[u8] =
     b"line: an arm. hatched: asks for more than is there. dotted: kept back, else those named could not finish";
 
 pub(crate) const MARK_NOTE: &[u8] =
-    b"bar: what it holds. triangle: taken or given back, circle: print, cross: fault, square: end";
+    b"bar: what it holds. triangle: taken or given back, circle: print, cross: fault, square: end, diamond: assigned";
 
 pub(crate) const DEADLOCK_NOTE: &[u8] = b"deadlock: no arm can go on";
 

@@ -1,7 +1,9 @@
 //! Where each shape of a picture is.
 
 ghost use Rattle.std.specs.Prelude.{◌≡◌, ◌≤◌, ◌+◌, All, IfOk, length, map};
-ghost use Rattle.pb_base.specs.Lines.{HasNames, names_view};
+ghost use Rattle.pb_base.specs.Lines.{names_view};
+ghost use Rattle.pb_code.specs.View.{labels_view};
+ghost use Rattle.pb_draw.specs.Marks.{IsNamed};
 ghost use Rattle.pb_draw_picture.specs.Axis.{IsChain};
 ghost use Rattle.pb_draw_picture.specs.Pictures as spec;
 ghost use Rattle.pb_draw_picture.specs.Places.{places_of};
@@ -17,6 +19,7 @@ use crate::picture::{Label, Picture, Rect};
 use crate::sizes::{BOTTOM, CURVE_ROW, LOWEST, MIN_WIDTH, RIGHT};
 use crate::waits::waits_of;
 use pb_base::{Capital, Names, NoMemory};
+use pb_code::Labels;
 use pb_draw::Drawing;
 use std::alloc::Global;
 
@@ -80,31 +83,32 @@ fn labels_of(
     Ok(labels)
 }
 
-/// Returns the picture of a drawing, with the names and the capital of its code, and whether its run ends in a
+/// Returns the picture of a drawing, with the names, the labels and the capital of its code, and whether its run ends in a
 /// deadlock.
 pub fn lay_out(
     alloc: Global,
     names: &Names,
+    labels: &Labels,
     capital: &Capital,
     drawing: &Drawing,
     deadlock: bool,
 ) -> Result<Picture, NoMemory>
-    requires named { All (λ m. HasNames (names_view names.now) m.event) drawing.now.marks.items }
+    requires named { All (λ m. IsNamed (names_view names.now) m.what) drawing.now.marks.items }
     requires curves { length drawing.now.curves.items ≡ length capital.now }
     requires resources { length (names_view names.now).resources ≡ length capital.now }
-    ensures { IfOk result (spec.IsLayout (names_view names.now) capital.now drawing.now deadlock) }
+    ensures { IfOk result (spec.IsLayout (names_view names.now) (labels_view labels.now) capital.now drawing.now deadlock) }
 {
-    let grid = grid_of(alloc, names, drawing)?;
+    let grid = grid_of(alloc, names, labels, drawing)?;
     let rects = rects_of(alloc, capital, &grid, drawing)?;
     let waits = waits_of(alloc, names, &grid, &drawing.lanes)?;
-    let labels = labels_of(alloc, names, capital, &grid, drawing, deadlock)?;
-    let ticks = marks_of(alloc, names, &grid, &drawing.marks)?;
+    let texts = labels_of(alloc, names, capital, &grid, drawing, deadlock)?;
+    let ticks = marks_of(alloc, names, labels, &grid, &drawing.marks)?;
     Ok(Picture {
         width: (grid.right() + RIGHT).max(MIN_WIDTH),
         height: foot_of_all(&grid, capital, drawing) + BOTTOM,
         rects,
         waits,
-        labels,
+        labels: texts,
         ticks,
     })
 }

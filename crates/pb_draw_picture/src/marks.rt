@@ -1,19 +1,22 @@
-//! The marks of events, and the numbers of their picks.
+//! The marks of events and assignments, and the numbers of their picks.
 
 ghost use Rattle.std.specs.Prelude.{◌≡◌, ◌≤◌, ◌++◌, ◌+◌, ◌^◌, [], All, IfOk, OnOk, length, map};
 ghost use Rattle.pb_base.specs.Lines.{HasNames, names_view};
+ghost use Rattle.pb_code.specs.View.{labels_view};
+ghost use Rattle.pb_draw.specs.Marks.{IsNamed};
 ghost use Rattle.pb_draw_picture.specs.Axis.{IsChain};
 ghost use Rattle.pb_draw_picture.specs.Marks as spec;
 ghost use Rattle.pb_draw_picture.specs.Places.{places_of};
 ghost use Rattle.pb_draw_picture.specs.Shapes.{sign_of, text_of};
 ghost use Rattle.std.specs.Fmt.{decimal};
 
-use crate::captions::{label_of, number_text};
+use crate::captions::{assigned_text, assignment_line, label_of, number_text};
 use crate::grid::Grid;
 use crate::picture::{Label, LabelKind, Tick, TickKind};
 use crate::sizes::{LABEL_LEFT, LABEL_UP, MIDDLE, NUMBER_Y};
-use pb_base::{Event, Names, NoMemory, event_line};
-use pb_draw::Mark;
+use pb_base::{Event, Names, NoMemory, Pick, event_line};
+use pb_code::Labels;
+use pb_draw::{Happening, Mark};
 use std::alloc::Global;
 
 /// Returns what an event is.
@@ -54,6 +57,54 @@ fn mark_at(
     })
 }
 
+/// Returns the mark of an assignment at a place.
+fn assign_at(
+    alloc: Global,
+    names: &Names,
+    labels: &Labels,
+    x: u64,
+    y: u64,
+    pick: Pick,
+    integer: u8,
+    value: i64,
+) -> Result<Tick, NoMemory>
+    ensures { IfOk result (λ t. sign_of t
+        ≡ spec.assign_at (names_view names.now) (labels_view labels.now) x y pick integer value) }
+{
+    let title = assignment_line(alloc, names, labels, pick, integer, value)?;
+    let label = assigned_text(alloc, labels, pick, integer, value)?;
+    Ok(Tick {
+        kind: TickKind::Assign,
+        x,
+        y,
+        title,
+        label,
+        label_x: x.saturating_sub(LABEL_LEFT),
+        label_y: y.saturating_sub(LABEL_UP),
+    })
+}
+
+/// Returns the mark of what a pick shows, at a place.
+fn mark_for(
+    alloc: Global,
+    names: &Names,
+    labels: &Labels,
+    x: u64,
+    y: u64,
+    mark: &Mark,
+) -> Result<Tick, NoMemory>
+    requires { IsNamed (names_view names.now) mark.now.what }
+    ensures { IfOk result (λ t. sign_of t
+        ≡ spec.sign_for (names_view names.now) (labels_view labels.now) x y mark.now.pick mark.now.line mark.now.what) }
+{
+    match &mark.what {
+        Happening::Did(event) => mark_at(alloc, names, x, y, mark.line, event),
+        Happening::Assigned { integer, value } => {
+            assign_at(alloc, names, labels, x, y, mark.pick, *integer, *value)
+        }
+    }
+}
+
 /// Returns the position behind the pick of a mark.
 fn behind(mark: &Mark) -> u64
     ensures { result ≡ mark.now.at + 1 }
@@ -61,23 +112,24 @@ fn behind(mark: &Mark) -> u64
     u64::from(mark.at) + 1
 }
 
-/// Returns the marks of events.
+/// Returns the marks of events and assignments.
 pub(crate) fn marks_of(
     alloc: Global,
     names: &Names,
+    labels: &Labels,
     grid: &Grid,
     marks: &[Mark],
 ) -> Result<Vec<Tick>, NoMemory>
     requires chain { IsChain grid.now.knots.items }
-    requires named { All (λ m. HasNames (names_view names.now) m.event) marks.now }
-    ensures { IfOk result (λ ticks. map sign_of ticks.items ≡ spec.signs (names_view names.now) (places_of grid.now) marks.now) }
+    requires named { All (λ m. IsNamed (names_view names.now) m.what) marks.now }
+    ensures { IfOk result (λ ticks. map sign_of ticks.items ≡ spec.signs (names_view names.now) (labels_view labels.now) (places_of grid.now) marks.now) }
 {
     let mut ticks = Vec::new(alloc);
     for i in 0..marks.len() {
         let mark = &marks[i];
         let x = grid.x(behind(mark));
         let y = grid.line(mark.pick) + MIDDLE;
-        let tick = mark_at(alloc, names, x, y, mark.line, &mark.event)?;
+        let tick = mark_for(alloc, names, labels, x, y, mark)?;
         ticks.push(tick)?;
     }
     Ok(ticks)

@@ -8,7 +8,7 @@ ghost use Rattle.pb_draw_picture.specs.Places as places;
 use crate::row::Row;
 use crate::sizes::{ABOVE, BELOW, BETWEEN, HOLD, LOWEST, ROW_MOST, TOP, TRACK};
 use pb_base::{Event, NoMemory, Pick};
-use pb_draw::{Bar, Drawing, Lane, LaneStep, Mark, Standing};
+use pb_draw::{Bar, Drawing, Happening, Lane, LaneStep, Mark, Standing};
 use std::alloc::Global;
 
 impl Row {
@@ -131,10 +131,14 @@ fn depths_of(alloc: Global, lanes: &[Lane], marks: &[Mark]) -> Result<Vec<u32>, 
     let mut held = no_holds(alloc, lanes)?;
     let mut depths = Vec::new(alloc);
     for mark in marks {
-        match mark.event {
-            Event::Granted { pick, .. } => depths.push(take_hold(held.as_mut_slice(), pick))?,
-            Event::Returned { pick, .. } => return_hold(held.as_mut_slice(), pick),
-            Event::Faulted { pick, .. } => return_all(held.as_mut_slice(), pick.process),
+        match mark.what {
+            Happening::Did(Event::Granted { pick, .. }) => {
+                depths.push(take_hold(held.as_mut_slice(), pick))?
+            }
+            Happening::Did(Event::Returned { pick, .. }) => return_hold(held.as_mut_slice(), pick),
+            Happening::Did(Event::Faulted { pick, .. }) => {
+                return_all(held.as_mut_slice(), pick.process)
+            }
             _ => {}
         }
     }

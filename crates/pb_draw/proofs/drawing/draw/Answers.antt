@@ -1,4 +1,4 @@
-use Rattle.std.proofs.Common.{◌≡◌, ◌≤◌, ◌*◌, List, length, sym, ap, ◌∙◌, subst, arith}
+use Rattle.std.proofs.Common.{◌≡◌, Bool, ◌≤◌, ◌*◌, List, length, sym, ap, ◌∙◌, subst, arith}
 use Rattle.pb_base.specs.declared.pick.Pick.{Pick}
 use Rattle.pb_verifier.specs.declared.fault.VerifyFault.TheVariants.{OutOfLimits}
 use Rattle.pb_draw.specs.Arms.{AreDifferent, arms_from}
@@ -6,11 +6,11 @@ use Rattle.pb_draw.specs.declared.drawing.Lane.{Lane}
 use Rattle.pb_draw.proofs.ArmOrder.{arms_apart, arms_few}
 use Rattle.std.specs.Prelude.{All}
 use Rattle.std.proofs.lemmas.List.{length-map}
-use Rattle.pb_base.specs.Lines.{HasNames}
 use Rattle.pb_code.specs.View.{labels_view}
 use Rattle.pb_history.specs.Entries.{Entry, picks_of}
+use Rattle.pb_draw.specs.Assignments.{are_drawn, assignments}
 use Rattle.pb_draw.specs.Bars.{bars_of}
-use Rattle.pb_draw.specs.Marks.{AreInOrder, marks_before}
+use Rattle.pb_draw.specs.Marks.{AreInOrder, IsNamed, marks_before}
 use Rattle.pb_draw.specs.declared.drawing.Mark.{Mark}
 use Rattle.pb_draw.proofs.MarkOrder.{marks_in_order}
 use Rattle.pb_draw.proofs.PickMarks.{marks_named}
@@ -23,7 +23,10 @@ returns-clause-drawing c =
     let many : length entries ≡ length picks = sym (length-map entries (λ (e : Entry). e.pick)) in
     record {
       many = c.len-picks.ensures ∙ many;
-      marks = c.in_ok-marks.ensures ∙ ap (marks_before c.args.verified.now.code (labels_view c.args.labels.now) picks) many;
+      assignments = c.in_ok-assignments.ensures ∙ ap (assignments c.args.verified.now.code picks) many;
+      marks = c.in_ok-marks.ensures
+          ∙ (ap (λ (b : Bool). marks_before b c.args.verified.now.code (labels_view c.args.labels.now) picks (length entries)) c.are_drawn-integers.ensures
+          ∙ ap (marks_before (are_drawn c.in_ok-assignments.assignments) c.args.verified.now.code (labels_view c.args.labels.now) picks) many);
       bars = c.in_ok-bars.ensures ∙ ap bars_of c.as_slice.ensures.value;
       arms = c.in_ok-lanes.ensures.arms;
       lanes = c.in_ok-lanes.ensures.lanes;
@@ -34,13 +37,13 @@ pub returns-clause-named : goal.returns-clause-named
 returns-clause-named c =
     let v = c.args.verified.now in
     let entries = c.args.trace.now.entries in
-    subst (λ (ms : List Mark). All (λ (m : Mark). HasNames v.code.names m.event) ms) (sym c.in_ok-marks.ensures)
-    (marks_named c.args.lending v (picks_of entries) c.code.ensures.verified c.requires.enabled (labels_view c.args.labels.now) (length entries))
+    subst (λ (ms : List Mark). All (λ (m : Mark). IsNamed v.code.names m.what) ms) (sym c.in_ok-marks.ensures)
+    (marks_named c.args.lending v (picks_of entries) c.code.ensures.verified c.requires.enabled c.are_drawn-integers.result (labels_view c.args.labels.now) (length entries))
 
 pub returns-clause-ordered : goal.returns-clause-ordered
 returns-clause-ordered c =
     let entries = c.args.trace.now.entries in
-    subst AreInOrder (sym c.in_ok-marks.ensures) (marks_in_order c.args.verified.now.code (labels_view c.args.labels.now) (picks_of entries) (length entries))
+    subst AreInOrder (sym c.in_ok-marks.ensures) (marks_in_order c.are_drawn-integers.result c.args.verified.now.code (labels_view c.args.labels.now) (picks_of entries) (length entries))
 
 pub returns-clause-different : goal.returns-clause-different
 returns-clause-different c =

@@ -1,7 +1,14 @@
-use Rattle.std.proofs.Common.{◌∙◌}
+use Rattle.std.proofs.Common.{◌≡◌, ◌+◌, ◌∙◌, ap, cond, None, Option, ℕ}
+use Rattle.std.specs.Prelude.{option_and_then, slice_get}
 use Rattle.pb_history.specs.Entries.{picks_of}
+use Rattle.pb_history.specs.Positions.{IsAfterBy}
 use Rattle.pb_code.specs.View.{labels_view}
-use Rattle.pb_draw.proofs.PickMarks.{line_here, marks_more}
+use Rattle.pb_draw.specs.Assignments.{stored_in}
+use Rattle.pb_debug_positions.specs.Searches.{value_in}
+use Rattle.pb_machine.specs.Views.{machine_view}
+use Rattle.pb_draw.specs.Marks.{assigned, happening_at, happening_of}
+use Rattle.pb_draw.proofs.PickMarks.{happening_here, line_here, marks_more}
+use Rattle.pb_draw.proofs.Stores.{stored_here}
 use Rattle.pb_draw.proofs.marks.marks_of.Goals as goal
 
 pub loop-at-init : goal.loop-at-init
@@ -11,16 +18,28 @@ loop-at-init c = record {
 }
 
 pub loop-at-preserved : goal.loop-at-preserved
-loop-at-preserved c = record {
-  stands = (c.advance-event.ensures.stands c.args.lending c.requires c.loop-at.invariant.stands);
-  marks = marks_more c.args.verified.now.code (labels_view c.args.labels.now) (picks_of c.args.trace.now.entries) c.loop-at.at
-      c.pick-pick.result c.advance-event.result c.line_of-line.result _ _ c.loop-at.invariant.marks c.pick-pick.ensures
-      c.advance-event.ensures.event
-      (c.line_of-line.ensures
-      ∙ line_here c.args.lending c.args.verified.now (labels_view c.args.labels.now) (picks_of c.args.trace.now.entries) c.loop-at.at
-      c.pick-pick.result c.loop-at.machine c.loop-at.invariant.stands c.pick-pick.ensures)
-      c.in_ok-add_mark.ensures;
-}
+loop-at-preserved c =
+    let v = c.args.verified.now in
+    let picks = picks_of c.args.trace.now.entries in
+    let labels = labels_view c.args.labels.now in
+    let i = c.loop-at.at in
+    let pick = c.pick-pick.result in
+    let stands = c.advance-event.ensures.stands c.args.lending c.requires c.loop-at.invariant.stands in
+    let what : c.happening-what.result ≡ happening_at c.args.integers v.code picks i =
+    c.happening-what.ensures
+    ∙ (ap (λ (o : Option ℕ). happening_of c.advance-event.result
+    (option_and_then (λ x. assigned x (value_in (slice_get (machine_view c.advance-event.new.machine).processes pick.process) x)) o))
+    c.assigned_by-integer.ensures
+    ∙ happening_here c.args.lending v picks c.args.integers i pick c.advance-event.result _ c.advance-event.new.machine stands
+    c.pick-pick.ensures c.advance-event.ensures.event
+    (stored_here c.args.lending v picks i pick c.loop-at.machine c.loop-at.invariant.stands c.pick-pick.ensures)) in
+    record {
+      stands = stands;
+      marks = marks_more c.args.integers v.code labels picks i pick c.happening-what.result c.line_of-line.result _ _
+          c.loop-at.invariant.marks c.pick-pick.ensures what
+          (c.line_of-line.ensures ∙ line_here c.args.lending v labels picks i pick c.loop-at.machine c.loop-at.invariant.stands c.pick-pick.ensures)
+          c.in_ok-add_mark.ensures;
+    }
 
 pub advance-event-requires-clause-stands : goal.advance-event-requires-clause-stands
 advance-event-requires-clause-stands c = (c.args.lending, c.requires, c.loop-at.invariant.stands)

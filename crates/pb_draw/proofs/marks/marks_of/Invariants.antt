@@ -9,5 +9,5 @@ use Rattle.pb_draw.proofs.marks.marks_of.Given as goal
 abbrev pub invariant-loop-at : goal.invariant-loop-at
 invariant-loop-at l = record {
   stands : IsAfterBy l.fn.lending l.verified (picks_of l.trace.entries) l.at l.machine;
-  marks : l.marks.items ≡ marks_before l.verified.code (labels_view l.labels) (picks_of l.trace.entries) l.at;
+  marks : l.marks.items ≡ marks_before l.fn.integers l.verified.code (labels_view l.labels) (picks_of l.trace.entries) l.at;
 }

@@ -1,6 +1,8 @@
 use Rattle.std.proofs.Common.{arith, Bool, length, sym, ap, ◌∙◌, subst}
 use Rattle.std.specs.Prelude.{All}
-use Rattle.pb_base.specs.Lines.{NameTable, HasNames}
+use Rattle.pb_base.specs.Lines.{NameTable}
+use Rattle.pb_code.specs.View.{labels_view}
+use Rattle.pb_draw.specs.Marks.{IsNamed}
 use Rattle.pb_code.specs.Whole.{Code}
 use Rattle.pb_draw_picture.specs.Pictures.{IsLayout}
 use Rattle.pb_draw.specs.declared.drawing.Mark.{Mark}
@@ -11,7 +13,7 @@ use Rattle.pb_draw_engine.proofs.draw.drawn.Goals as goal
 
 pub lay_out-requires-clause-named : goal.lay_out-requires-clause-named
 lay_out-requires-clause-named c =
-    subst (λ (n : NameTable). All (λ (m : Mark). HasNames n m.event) c.in_ok-drawing.drawing.marks.items)
+    subst (λ (n : NameTable). All (λ (m : Mark). IsNamed n m.what) c.in_ok-drawing.drawing.marks.items)
     (sym (ap (λ (x : Code). x.names) c.code-code.ensures.code)) c.in_ok-drawing.ensures.named
 
 pub lay_out-requires-clause-curves : goal.lay_out-requires-clause-curves
@@ -29,9 +31,9 @@ returns c =
     let drawing = c.in_ok-drawing.drawing in
     let picture = c.in_ok-picture.picture in
     let code = c.args.verified.now.code in
-    let laid_out : IsLayout code.names code.capital drawing (is_stuck c.ending_of-ending.result) picture =
-    subst (λ (b : Bool). IsLayout code.names code.capital drawing b picture) c.is_stuck.ensures
-    (subst (λ (x : Code). IsLayout x.names x.capital drawing c.is_stuck.result picture) c.code-code.ensures.code c.in_ok-picture.ensures) in
+    let laid_out : IsLayout code.names (labels_view c.args.labels.now) code.capital drawing (is_stuck c.ending_of-ending.result) picture =
+    subst (λ (b : Bool). IsLayout code.names (labels_view c.args.labels.now) code.capital drawing b picture) c.is_stuck.ensures
+    (subst (λ (x : Code). IsLayout x.names (labels_view c.args.labels.now) x.capital drawing c.is_stuck.result picture) c.code-code.ensures.code c.in_ok-picture.ensures) in
     let few = c.in_ok-drawing.ensures.rows in
     record {
       ending = c.ending_of-ending.result;

@@ -1,6 +1,7 @@
 use Rattle.std.proofs.Common.{◌≡◌, map, ap, sym, ◌∙◌, subst, arith}
 use Rattle.std.proofs.lemmas.Grind.{common_steps}
 use Rattle.pb_base.specs.Lines.{names_view}
+use Rattle.pb_code.specs.View.{labels_view}
 use Rattle.pb_draw_picture.specs.Axis.{x_at}
 use Rattle.pb_draw_picture.specs.Marks.{AreFromLeft, signs}
 use Rattle.pb_draw_picture.specs.Shapes.{sign_of}
@@ -12,20 +13,21 @@ use Rattle.pb_draw_picture.proofs.layout.lay_out.Goals as goal
 pub returns : goal.returns
 returns c =
     let names = names_view c.args.names.now in
+    let labels = labels_view c.args.labels.now in
     let places = places_of c.in_ok-grid.grid in
     let marks = c.args.drawing.now.marks.items in
-    let are : map sign_of c.in_ok-ticks.ticks.items ≡ signs names places marks =
-    c.in_ok-ticks.ensures ∙ ap (signs names places) c.deref-2.ensures.value in
+    let are : map sign_of c.in_ok-ticks.ticks.items ≡ signs names labels places marks =
+    c.in_ok-ticks.ensures ∙ ap (signs names labels places) c.deref-2.ensures.value in
     record {
       places = places_of c.in_ok-grid.grid;
       axis = c.in_ok-grid.ensures.axis;
       right = ap (x_at c.in_ok-grid.grid.knots.items) c.in_ok-grid.ensures.end;
       rows = c.in_ok-grid.ensures.rows;
       within = c.in_ok-grid.ensures.within;
-      rising = λ ordered. subst AreFromLeft (sym are) (signs_rise names places marks c.in_ok-grid.ensures.axis ordered);
+      rising = λ ordered. subst AreFromLeft (sym are) (signs_rise names labels places marks c.in_ok-grid.ensures.axis ordered);
       rects = c.in_ok-rects.ensures;
       waits = c.in_ok-waits.ensures ∙ ap (waits names places) c.deref.ensures.value;
-      texts = c.in_ok-labels.ensures;
+      texts = c.in_ok-texts.ensures;
       marks = are;
       wide = grind (arith, common_steps);
       high = grind (arith, common_steps);
