@@ -2,7 +2,8 @@
 
 use crate::open::{Open, closer, spelled};
 use crate::tokens::{
-    begins_statement, closes, ends_statement, is_at, line_at, mark_at, process_before, process_name,
+    begins_statement, closes, ends_statement, is_at, line_at, mark_at, opens, process_before,
+    process_name,
 };
 use crate::wording::{Shown, Wording};
 use pb_lexer::{Mark, Token};
@@ -31,6 +32,9 @@ pub fn closing_mistake(
     if !closes(tokens, number) || last.is_closed_by(tokens, number) {
         return None;
     }
+    if last.is_closed_by(tokens, number.saturating_add(1)) && has_one_too_many(tokens, number) {
+        return Some(closed_behind(alloc, tokens, number, last));
+    }
     if is_closing(tokens, number, open) {
         return Some(not_closed(alloc, tokens, last));
     }
@@ -40,6 +44,43 @@ pub fn closing_mistake(
 /// Returns whether the token with a number closes something that is open.
 fn is_closing(tokens: &[Token], number: usize, open: &[Open]) -> bool {
     open.iter().any(|one| one.is_closed_by(tokens, number))
+}
+
+/// Returns whether the process in which a token is has more words that close a statement than words that open one.
+fn has_one_too_many(tokens: &[Token], number: usize) -> bool {
+    let mut opened = 0usize;
+    let mut closed = 0usize;
+    for i in process_before(tokens, number).unwrap_or(0)..tokens.len() {
+        if number < i && is_at(tokens, i, Mark::Process) {
+            break;
+        }
+        if opens(tokens, i) {
+            opened = opened.saturating_add(1);
+        } else if closes(tokens, i) {
+            closed = closed.saturating_add(1);
+        }
+    }
+    opened < closed
+}
+
+/// Returns the wording of a word that closes nothing, just before the one that closes what is open.
+fn closed_behind(alloc: Global, tokens: &[Token], number: usize, last: &Open) -> Wording {
+    let word = spelled_at(tokens, number);
+    let closing = spelled(closer(last.word));
+    let mut wording = Wording::new(
+        alloc,
+        format!(in alloc;
+            "this `{word}` is one too many: the `{closing}` behind it closes the `{}` of line {}",
+            spelled(last.word),
+            line_at(tokens, last.number)
+        ),
+    );
+    wording.spot_token(alloc, "it is opened at ", tokens.get(last.number));
+    wording.hint(
+        alloc,
+        "leave it out, or look for a begin that is missing above",
+    );
+    wording
 }
 
 /// Returns the wording of an `else` that cannot be here.

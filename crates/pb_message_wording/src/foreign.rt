@@ -14,6 +14,12 @@ struct Meaning {
     hint: &'static str,
 }
 
+/// The words with which other languages read their input, in small letters, with a blank before and behind each.
+const INPUT: &str = " read readln input scanf scan cin ";
+
+/// What is written in the place of these.
+const INPUT_HINT: &str = "a program reads no input: assign a number, as in x := 5";
+
 /// The words of each meaning, in small letters, with a blank before and behind each.
 const MEANINGS: [Meaning; 13] = [
     Meaning {
@@ -33,8 +39,8 @@ const MEANINGS: [Meaning; 13] = [
         hint: "the integers of a process are declared behind its first begin: integer x, y;",
     },
     Meaning {
-        words: " read readln input scanf scan cin ",
-        hint: "a program reads no input: assign a number, as in x := 5",
+        words: INPUT,
+        hint: INPUT_HINT,
     },
     Meaning {
         words: " write writeln printf println echo cout puts output ",
@@ -84,8 +90,30 @@ pub fn foreign_word(
     }
     match number.checked_sub(1) {
         Some(before) if is_call(tokens, before) => meant(alloc, tokens, before),
+        Some(before) if is_at(tokens, number, Mark::Open) && is_name(tokens, before) => called(
+            alloc,
+            text_at(tokens, before),
+        ),
         _ => Ok(None),
     }
+}
+
+/// Returns the wording of a word before `(` in an expression, if other languages read their input with it.
+fn called(alloc: Global, text: &[u8]) -> Result<Option<Wording>, NoMemory> {
+    Ok(match input_hint(alloc, text)? {
+        Some(hint) => Some(unknown_word(alloc, text, hint)),
+        None => None,
+    })
+}
+
+/// Returns what is written in the place of a word, if other languages read their input with it.
+pub fn input_hint(alloc: Global, text: &[u8]) -> Result<Option<&'static str>, NoMemory> {
+    let word = small(alloc, text)?;
+    Ok(if INPUT.contains(word.as_str()) {
+        Some(INPUT_HINT)
+    } else {
+        None
+    })
 }
 
 /// Returns whether the token with a number is a name at which a statement begins, and behind which no operator

@@ -12,6 +12,7 @@ mod names;
 mod objects;
 mod open;
 mod parts;
+mod resources;
 mod syntax;
 mod texts;
 mod tokens;

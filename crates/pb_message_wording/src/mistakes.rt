@@ -4,6 +4,7 @@ use crate::closing::closing_mistake;
 use crate::foreign::foreign_word;
 use crate::open::{Open, open_before};
 use crate::parts::part_mistake;
+use crate::resources::resource_mistake;
 use crate::tokens::{
     begins_list, begins_statement, ends_list, ends_statement, is_at, is_declaration, is_name,
     is_number, is_reserved, is_statement_start, mark_at, process_before, text_at,
@@ -38,6 +39,9 @@ pub fn likely_mistake(
     let open = open_before(alloc, tokens, number)?;
     if let Some(told) = plain_mistake(tokens, number, open.last()) {
         return Ok(Some(wording_of(alloc, told)));
+    }
+    if let Some(wording) = resource_mistake(alloc, tokens, number) {
+        return Ok(Some(wording));
     }
     if let Some(wording) = named_mistake(alloc, tokens, number, open.last()) {
         return Ok(Some(wording));
@@ -86,6 +90,9 @@ fn plain_mistake(tokens: &[Token], number: usize, open: Option<&Open>) -> Option
         return Some(told);
     }
     if let Some(told) = program_mistake(tokens, number) {
+        return Some(told);
+    }
+    if let Some(told) = joined_mistake(tokens, number) {
         return Some(told);
     }
     equals_mistake(tokens, number, open)
@@ -186,6 +193,56 @@ fn program_mistake(tokens: &[Token], number: usize) -> Option<Mistake> {
         );
     }
     None
+}
+
+/// Returns a mistake of what is joined by a comma, by `and`, or by `**`.
+fn joined_mistake(tokens: &[Token], number: usize) -> Option<Mistake> {
+    let before = number.checked_sub(1)?;
+    if is_at(tokens, before, Mark::And) && begins_command(tokens, number) {
+        return usual(
+            "`and` stands between two statements",
+            "a semicolon separates statements, and the arms of a parbegin",
+        );
+    }
+    if is_at(tokens, before, Mark::Star) && is_at(tokens, number, Mark::Star) {
+        return usual(
+            "there is no `**`",
+            "a power is written as a product, 2 * 2 * 2, or multiplied in a while",
+        );
+    }
+    if !is_at(tokens, number, Mark::Comma) || !ends_before(tokens, number) {
+        return None;
+    }
+    if begins_command(tokens, number.saturating_add(1)) {
+        return usual(
+            "a comma stands between two statements",
+            "a semicolon separates statements, and the arms of a parbegin",
+        );
+    }
+    if is_at(tokens, statement_before(tokens, number)?, Mark::Print) {
+        return usual(
+            "a print has one value",
+            "write a print for each value: print x; print y",
+        );
+    }
+    None
+}
+
+/// Returns whether a statement begins with a token that cannot be part of an expression, or assigns.
+fn begins_command(tokens: &[Token], number: usize) -> bool {
+    begins_statement(tokens, number)
+        && (!is_name(tokens, number) || is_at(tokens, number.saturating_add(1), Mark::Assign))
+}
+
+/// Returns the number of the token with which the statement before a token begins.
+fn statement_before(tokens: &[Token], number: usize) -> Option<usize> {
+    let mut found = None;
+    for i in 0..number.min(tokens.len()) {
+        if is_statement_start(tokens, i) {
+            found = Some(i);
+        }
+    }
+    found
 }
 
 /// Returns a mistake of `=`, `:=` and comparisons.
@@ -318,6 +375,9 @@ fn changed_in_place(alloc: Global, tokens: &[Token], name: usize) -> Wording {
 fn hold_mistake(alloc: Global, tokens: &[Token], number: usize) -> Option<Wording> {
     let before = number.checked_sub(1)?;
     let name = Shown(text_at(tokens, number));
+    if let Some(next) = next_amount(tokens, number) {
+        return Some(missing_comma(alloc, tokens, before, next));
+    }
     if is_number(tokens, before) && is_name(tokens, number) {
         let amount = Shown(text_at(tokens, before));
         let mut wording = Wording::of(alloc, "`of` is missing");
@@ -339,4 +399,35 @@ fn hold_mistake(alloc: Global, tokens: &[Token], number: usize) -> Option<Wordin
         );
     }
     Some(wording)
+}
+
+/// Returns the number of the amount that follows a resource of a hold with something other than a comma
+/// between them, at this token.
+fn next_amount(tokens: &[Token], number: usize) -> Option<usize> {
+    if !is_at(tokens, number.checked_sub(2)?, Mark::Of) || is_at(tokens, number, Mark::Comma) {
+        return None;
+    }
+    let next = if is_number(tokens, number) {
+        number
+    } else {
+        number.saturating_add(1)
+    };
+    if is_number(tokens, next) && is_at(tokens, next.saturating_add(1), Mark::Of) {
+        Some(next)
+    } else {
+        None
+    }
+}
+
+/// Returns the wording of a hold with no comma between a resource, at this token, and the next amount.
+fn missing_comma(alloc: Global, tokens: &[Token], resource: usize, next: usize) -> Wording {
+    let mut wording = Wording::of(alloc, "a comma separates the parts of a hold");
+    wording.note(format!(in alloc;
+        "hint: write hold {} of {}, {} of {} do .. od",
+        Shown(text_at(tokens, resource.saturating_sub(2))),
+        Shown(text_at(tokens, resource)),
+        Shown(text_at(tokens, next)),
+        Shown(text_at(tokens, next.saturating_add(2)))
+    ));
+    wording
 }

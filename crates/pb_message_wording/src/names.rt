@@ -1,6 +1,9 @@
 //! The wording of a fault of names.
 
-use crate::tokens::{closes, is_at, opens, process_before, process_name, text_at, token_at};
+use crate::foreign::input_hint;
+use crate::tokens::{
+    closes, is_at, is_name, opens, process_before, process_name, text_at, token_at,
+};
 use crate::wording::{Shown, Wording};
 use pb_base::NoMemory;
 use pb_base::limits::{MAX_FORK, MAX_INTEGERS, MAX_PROCESSES, MAX_RESOURCES};
@@ -17,7 +20,7 @@ pub fn names_wording(
     match fault {
         NameFault::TooMany(kind) => too_many(alloc, tokens, kind),
         NameFault::Twice(at) => Ok(twice(alloc, tokens, at_or_first(tokens, at))),
-        NameFault::Unknown(at) => Ok(unknown(alloc, tokens, at_or_first(tokens, at))),
+        NameFault::Unknown(at) => unknown(alloc, tokens, at_or_first(tokens, at)),
         NameFault::Amount(at) => Ok(amount(alloc, tokens, at_or_first(tokens, at))),
         NameFault::Repeated(at) => Ok(repeated(alloc, tokens, at_or_first(tokens, at))),
         NameFault::NoMemory => Err(NoMemory),
@@ -239,39 +242,104 @@ fn first_declaration(tokens: &[Token], number: usize, named: Named) -> Option<us
     None
 }
 
-fn unknown(alloc: Global, tokens: &[Token], number: usize) -> Wording {
+fn unknown(alloc: Global, tokens: &[Token], number: usize) -> Result<Wording, NoMemory> {
     if is_at(tokens, number.saturating_sub(1), Mark::Of) {
-        unknown_resource(alloc, Shown(text_at(tokens, number)))
+        Ok(unknown_resource(alloc, tokens, text_at(tokens, number)))
     } else {
         unknown_integer(alloc, tokens, number)
     }
 }
 
-fn unknown_resource(alloc: Global, name: Shown<'_>) -> Wording {
-    let summary = format!(in alloc; "resource {name} is not declared");
+fn unknown_resource(alloc: Global, tokens: &[Token], name: &[u8]) -> Wording {
+    let resource = Shown(name);
+    let summary = format!(in alloc; "resource {resource} is not declared");
     let mut wording = Wording::new(alloc, summary);
-    wording.note(format!(in alloc;
-        "hint: declare it before the first process, with the amount of it: resource {name} = 1;"
-    ));
+    if let Some(other) = resource_in_other_letters(tokens, name) {
+        wording.note(letters_hint(alloc, "resource", Shown(other)));
+    } else {
+        wording.note(format!(in alloc;
+            "hint: declare it before the first process, with the amount of it: resource {resource} = 1;"
+        ));
+    }
     wording
 }
 
-fn unknown_integer(alloc: Global, tokens: &[Token], number: usize) -> Wording {
+/// Returns the name of a resource that is this one but for capital and small letters.
+fn resource_in_other_letters<'t>(tokens: &[Token<'t>], name: &[u8]) -> Option<&'t [u8]> {
+    for number in 0..tokens.len() {
+        let other = text_at(tokens, number.saturating_add(1));
+        if is_at(tokens, number, Mark::Resource) && other.eq_ignore_ascii_case(name) {
+            return Some(other);
+        }
+    }
+    None
+}
+
+fn letters_hint(alloc: Global, kind: &str, name: Shown<'_>) -> Result<String, AllocError> {
+    format!(in alloc;
+        "hint: the {kind} {name} is declared, and capital and small letters are different"
+    )
+}
+
+fn unknown_integer(alloc: Global, tokens: &[Token], number: usize) -> Result<Wording, NoMemory> {
     let name = text_at(tokens, number);
     let process = process_name(tokens, number);
     let mut wording = Wording::new(
         alloc,
         undeclared_in_words(alloc, Shown(name), Shown(process)),
     );
-    if let Some(hint) = truth_hint(name) {
+    if let Some(hint) = value_hint(alloc, tokens, number)? {
         wording.hint(alloc, hint);
-        return wording;
+        return Ok(wording);
+    }
+    if let Some(other) = integer_in_other_letters(tokens, number) {
+        wording.note(letters_hint(alloc, "integer", Shown(other)));
+        return Ok(wording);
+    }
+    if resource_in_other_letters(tokens, name) == Some(name) {
+        wording.note(resource_hint(alloc, Shown(name)));
+        return Ok(wording);
     }
     wording.note(integer_hint(alloc, tokens, number));
     if let Some(other) = other_owner(tokens, name) {
         wording.note(owner_hint(alloc, Shown(name), Shown(other)));
     }
-    wording
+    Ok(wording)
+}
+
+/// Returns what is written in the place of a value of other languages: a truth value, or one that is read.
+fn value_hint(
+    alloc: Global,
+    tokens: &[Token],
+    number: usize,
+) -> Result<Option<&'static str>, NoMemory> {
+    let name = text_at(tokens, number);
+    let truth = truth_hint(name);
+    let assigned = is_at(tokens, number.saturating_add(1), Mark::Assign);
+    if truth.is_some() || assigned || other_owner(tokens, name).is_some() {
+        return Ok(truth);
+    }
+    input_hint(alloc, name)
+}
+
+/// Returns the name of an integer of the same process that is this one but for capital and small letters.
+fn integer_in_other_letters<'t>(tokens: &[Token<'t>], number: usize) -> Option<&'t [u8]> {
+    let name = text_at(tokens, number);
+    let mut declared = None;
+    for i in process_before(tokens, number)?..number {
+        declared = integers_behind(tokens, i, declared);
+        let other = text_at(tokens, i);
+        if declared.is_some() && is_name(tokens, i) && other.eq_ignore_ascii_case(name) {
+            return Some(other);
+        }
+    }
+    None
+}
+
+fn resource_hint(alloc: Global, name: Shown<'_>) -> Result<String, AllocError> {
+    format!(in alloc;
+        "hint: {name} is a resource, and only integers have values; a process gets it by hold 1 of {name} do .. od"
+    )
 }
 
 /// Returns what is written in the place of a truth value of other languages.

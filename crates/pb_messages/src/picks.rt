@@ -86,7 +86,7 @@ fn stop_message(
     note_line(alloc, &mut wording, lines, stop.line);
     wording.note_text(
         alloc,
-        "hint: leave the pick out, or make others before it; debug shows the run up to here",
+        "hint: leave the pick out, or make others before it; without it and those behind it, debug shows the run up to here",
     );
     let cause = Cause {
         code: pb_options::Code::H1,
