@@ -101,6 +101,35 @@ fn words_of_other_languages(rt: HostRuntime) {
 }
 
 #[test]
+fn declarations_before_the_processes(rt: HostRuntime) {
+    let text = b"integer x; process p begin x := 1 end";
+    let summary = "integers are not declared here";
+    let hint = "processes share no integers: only resources are declared before the first process";
+    assert!(rt; explains(rt.alloc(), text, summary, hint) == Some(true));
+    let text = b"resource tape = 2 process p begin print 1 end";
+    let summary = "a semicolon is missing";
+    let hint = "a semicolon is behind the declaration before this: resource tape = 2;";
+    assert!(rt; explains(rt.alloc(), text, summary, hint) == Some(true));
+    let text = b"resource r = -1; process p begin print 1 end";
+    let summary = "the capital of resource r is not a number";
+    let hint = "write the number itself, 0 to 1000000, with no sign: resource r = 1;";
+    assert!(rt; explains(rt.alloc(), text, summary, hint) == Some(true));
+}
+
+#[test]
+fn what_is_joined_by_another_sign(rt: HostRuntime) {
+    let text = b"process p begin integer x, y; print x, y end";
+    let summary = "a print has one value";
+    let hint = "write a print for each value: print x; print y";
+    assert!(rt; explains(rt.alloc(), text, summary, hint) == Some(true));
+    let text =
+        b"resource a = 1; resource b = 2; process p begin hold 1 of a and 2 of b do skip od end";
+    let summary = "a comma separates the parts of a hold";
+    let hint = "write hold 1 of a, 2 of b do .. od";
+    assert!(rt; explains(rt.alloc(), text, summary, hint) == Some(true));
+}
+
+#[test]
 fn statements_that_are_not_closed(rt: HostRuntime) {
     let text = b"process p begin integer x; while x < 3 do x := x + 1 end";
     let summary = "`od` is missing: the `while` of line 1 is not closed";

@@ -1,0 +1,5 @@
+resource tape = 1;
+process p
+begin
+  print tape
+end

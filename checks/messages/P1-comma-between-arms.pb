@@ -1,0 +1,7 @@
+process p
+begin
+  parbegin
+    print 1,
+    print 2
+  parend
+end

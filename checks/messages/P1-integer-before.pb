@@ -1,0 +1,5 @@
+integer x;
+process p
+begin
+  x := 1
+end

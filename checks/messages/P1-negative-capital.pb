@@ -1,0 +1,5 @@
+resource r = -1;
+process p
+begin
+  print 1
+end

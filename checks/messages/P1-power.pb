@@ -1,0 +1,4 @@
+process p
+begin
+  print 2 ** 3
+end

@@ -1,0 +1,5 @@
+resource tape;
+process p
+begin
+  print 1
+end
