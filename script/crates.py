@@ -8,18 +8,24 @@ from script.places import MAIN, TOP
 
 Crates = dict[str, list[str]]
 SOURCES = ("src", "specs", "proofs")
-# Minutes that a crate took in a first build of 27 November 2026, by one job; pb_base by two, and pb_answer and pb_cli,
-# which come last, by four. The crates with the longest chain of minutes behind them start first. One that is not listed
-# counts as one minute.
+# Minutes of a processor that each crate took as the gate proved all from nothing on 29 November 2026, on a host with
+# other work. The crates with the longest chain of minutes behind them start first. One that is not listed counts as one
+# minute.
 MINUTES = {
-    "pb_answer": 0.4, "pb_banker": 1.4, "pb_base": 1, "pb_circles": 1.1, "pb_claims": 0.9, "pb_cli": 1.6, "pb_code": 0.9,
-    "pb_codegen": 1.4, "pb_command_io": 0.6, "pb_command_line": 2, "pb_debug_commands": 0.9, "pb_debug": 3.3,
-    "pb_debug_engine": 0.8, "pb_debug_texts": 1.5, "pb_draw": 1.5, "pb_draw_engine": 0.5, "pb_engines": 0.7,
-    "pb_message_excerpts": 0.8, "pb_explain": 0.6, "pb_search": 2.3, "pb_generator": 2, "pb_grammar": 4.1,
-    "pb_search_graph": 0.8, "pb_groups": 0.5, "pb_history": 1.4, "pb_draw_picture": 1.2, "pb_lexer": 1, "pb_machine": 3.3, "pb_messages": 1.8,
-    "pb_names": 1.9, "pb_object": 4.4, "pb_options": 0.4, "pb_search_engine": 1.3, "pb_parser": 1.7, "pb_plan": 1.6, "pb_plan_engine": 1.2, "pb_picks": 0.7,
-    "pb_debug_positions": 0.9, "pb_resolver": 2, "pb_record": 0.6, "pb_shared": 3.1, "pb_search_stages": 2,
-    "pb_accept": 2.2, "pb_tree": 1.9, "pb_verifier": 2.8, "pb_message_wording": 3.8, "pb_words": 1, "pb_workers": 0.9,
+    "pb_accept": 1.7, "pb_adapter": 2.1, "pb_adapter_engine": 1, "pb_adapter_requests": 1.1, "pb_adapter_values": 1.8,
+    "pb_answer": 0.9, "pb_bank": 2.3, "pb_bank_engine": 0.3, "pb_banker": 1.6, "pb_base": 2.5, "pb_circles": 0.8,
+    "pb_claims": 1.3, "pb_cli": 1, "pb_code": 0.7, "pb_codegen": 1.1, "pb_command_io": 0.5, "pb_command_line": 3.2,
+    "pb_conversations": 0.7, "pb_debug": 2.3, "pb_debug_commands": 0.5, "pb_debug_engine": 0.6, "pb_debug_positions": 1,
+    "pb_debug_stops": 0.4, "pb_debug_texts": 1.4, "pb_diagnostics": 1.3, "pb_draw": 0.9, "pb_draw_engine": 0.4,
+    "pb_draw_picture": 2.9, "pb_engines": 0.6, "pb_explain": 0.6, "pb_explained": 0.5, "pb_frames": 0.4,
+    "pb_generator": 1, "pb_grammar": 2.8, "pb_groups": 0.4, "pb_history": 1.2, "pb_joint": 0.8, "pb_json": 0.5,
+    "pb_json_lines": 2.5, "pb_lexer": 0.7, "pb_machine": 1.9, "pb_mends": 0.9, "pb_message_excerpts": 0.7,
+    "pb_message_stops": 0.7, "pb_message_wording": 4.2, "pb_messages": 1.9, "pb_names": 1.3, "pb_object": 3,
+    "pb_options": 0.5, "pb_outline": 1.4, "pb_page": 1.4, "pb_page_engine": 0.4, "pb_page_graph": 1.1, "pb_parser": 0.9,
+    "pb_picks": 0.8, "pb_plan": 1.1, "pb_plan_engine": 1, "pb_record": 0.5, "pb_resolver": 2.9, "pb_search": 1.8,
+    "pb_search_engine": 1.7, "pb_search_fair": 0.9, "pb_search_graph": 0.8, "pb_search_stages": 2.5, "pb_server": 2.1,
+    "pb_server_claims": 1.9, "pb_server_engine": 0.6, "pb_server_names": 1.4, "pb_server_texts": 1, "pb_shared": 2.6,
+    "pb_sources": 0.2, "pb_tree": 1.4, "pb_verifier": 2.1, "pb_words": 1.3, "pb_workers": 0.8,
 }
 
 
