@@ -59,6 +59,7 @@ def try_prefix(tally: Tally, name: str, prefix: pathlib.Path) -> None:
     tally.expect(run(prefix, "run", "hello.pb") == (DONE, hello, b""), name, "run")
     tally.expect(run(prefix, "debug", "lost.run", given=b"to 3\nvars p\n")[:2] == (DONE, b"at 3\nx 0\n"), name, "debug")
     tally.expect(run(prefix, "draw", "lost.run")[1].startswith(b"<svg"), name, "draw")
+    tally.expect(run(prefix, "page", "lost.run")[1].rstrip().endswith(b"</html>"), name, "page")
     status, told, _ = run(prefix, "check", "--format", "gcc", "4-claims/too_much.pb")
     tally.expect(status == REFUSED and b": error: C1: " in told, name, "check")
     tally.expect(run(prefix, "--version")[0] == DONE, name, "the version")
