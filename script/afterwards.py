@@ -57,6 +57,7 @@ def faults(session: Session) -> list[str]:
 
 
 def unended(session: Session) -> list[str]:
-    """Returns which processes have neither ended nor faulted: `not ended: p, q`."""
+    """Returns which processes have neither ended nor faulted: `not ended: p, q`; nothing if all have."""
     places = {name: session.places(name)[f"{name}.0"] for name in session.code.processes}
-    return ["not ended: " + ", ".join(name for name, place in places.items() if place not in ("ended", "faulted"))]
+    names = [name for name, place in places.items() if place not in ("ended", "faulted")]
+    return [f"not ended: {', '.join(names)}"] if names else []

@@ -48,6 +48,6 @@ abbrev pub assignments : Code → List Pick → (n : ℕ) → ℕ
 assignments code picks zero = 0
 assignments code picks (suc n) = assignments code picks n + cond (is_some (stored_before code picks n)) 1 0
 
--- so many assignments are drawn
+-- whether assignments are drawn, by how many there are
 abbrev pub are_drawn : ℕ → Bool
 are_drawn n = nat_le n MAX_ASSIGNMENTS

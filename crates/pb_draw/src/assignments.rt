@@ -20,7 +20,7 @@ use std::alloc::Global;
 /// The most assignments that are drawn.
 pub const MAX_ASSIGNMENTS: u32 = 100;
 
-/// Returns whether so many assignments are drawn.
+/// Returns whether assignments are drawn, by how many there are.
 pub(crate) fn are_drawn(assignments: u32) -> bool
     ensures { result ≡ spec.are_drawn assignments }
 {

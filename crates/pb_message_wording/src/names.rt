@@ -264,7 +264,7 @@ fn unknown_resource(alloc: Global, tokens: &[Token], name: &[u8]) -> Wording {
     wording
 }
 
-/// Returns the name of a resource that is this one but for capital and small letters.
+/// Returns the name of a resource that differs from this one only in capital and small letters.
 fn resource_in_other_letters<'t>(tokens: &[Token<'t>], name: &[u8]) -> Option<&'t [u8]> {
     for number in 0..tokens.len() {
         let other = text_at(tokens, number.saturating_add(1));
@@ -322,7 +322,7 @@ fn value_hint(
     input_hint(alloc, name)
 }
 
-/// Returns the name of an integer of the same process that is this one but for capital and small letters.
+/// Returns the name of an integer of the same process that differs from this one only in capital letters.
 fn integer_in_other_letters<'t>(tokens: &[Token<'t>], number: usize) -> Option<&'t [u8]> {
     let name = text_at(tokens, number);
     let mut declared = None;
