@@ -4,7 +4,7 @@ use Rattle.pb_object.specs.Answers.{HasText, HasTextOne, SpellsCode, SpellsOne}
 use Rattle.pb_code.specs.Limits.{AreLabels}
 use Rattle.pb_object.specs.Formats.{FitsFirst}
 use Rattle.pb_code.specs.Whole.{Code, ProcessLabels}
-use Rattle.pb_object.specs.declared.format.Format.TheVariants.{One, Two}
+use Rattle.pb_code.specs.declared.format.Format.TheVariants.{One, Two}
 use Rattle.pb_verifier.specs.Verified.{IsVerified, VerifiedCode}
 use Rattle.pb_verifier.specs.declared.fault.VerifyFault.TheVariants.{OutOfLimits}
 use Rattle.pb_object.proofs.SayableCode.{first_text, ranges_text}

@@ -3,8 +3,8 @@ use Rattle.std.specs.Prelude.{ℕ, List, codes}
 use Rattle.pb_object.specs.Answers.{SpellsCode, SpellsOne}
 use Rattle.pb_object.specs.Formats.{FitsFirst}
 use Rattle.pb_code.specs.Whole.{Code, ProcessLabels}
-use Rattle.pb_object.specs.declared.format.Format.{Format}
-use Rattle.pb_object.specs.declared.format.Format.TheVariants.{One, Two}
+use Rattle.pb_code.specs.declared.format.Format.{Format}
+use Rattle.pb_code.specs.declared.format.Format.TheVariants.{One, Two}
 use Rattle.pb_codegen.specs.Compiled.{IsCompiled}
 use Rattle.pb_base.specs.Lines.{line}
 use Rattle.pb_accept.specs.Refusals.{SaysOfRefusedText}

@@ -2,7 +2,7 @@
 use Rattle.std.specs.Prelude.{◌≡◌, ℕ, List, Option, Some, option_map}
 use Rattle.pb_object.specs.Answers.{SpellsCode, IsFaultOf}
 use Rattle.pb_code.specs.Whole.{Code, ProcessLabels}
-use Rattle.pb_object.specs.declared.format.Format.{Format}
+use Rattle.pb_code.specs.declared.format.Format.{Format}
 use Rattle.pb_verifier.specs.Verified.{IsFaultless, IsRefusedFor}
 use Rattle.pb_base.specs.Lines.{line}
 use Rattle.pb_accept.specs.Causes.{cause_line, object_cause, verify_cause}

@@ -2,7 +2,7 @@
 use Rattle.std.specs.Prelude.{ℕ, List}
 use Rattle.pb_object.specs.Answers.{SpellsCode}
 use Rattle.pb_code.specs.Whole.{Code, ProcessLabels}
-use Rattle.pb_object.specs.declared.format.Format.TheVariants.{Two}
+use Rattle.pb_code.specs.declared.format.Format.TheVariants.{Two}
 use Rattle.pb_accept.specs.Loading.{IsLoaded, SaysOfNoCode}
 use Rattle.pb_command_io.specs.declared.status.Status.{Status}
 use Rattle.pb_command_io.specs.declared.status.Status.TheVariants.{Done}

@@ -2,7 +2,7 @@
 ghost use Rattle.std.specs.Prelude.{◌≡◌, ◌<◌, ℕ, IfErr, IfOk, List, length};
 ghost use Rattle.pb_object.specs.Answers.{HasText};
 ghost use Rattle.pb_code.specs.View.{labels_view};
-ghost use Rattle.pb_object.specs.declared.format.Format.TheVariants.{Two};
+ghost use Rattle.pb_code.specs.declared.format.Format.TheVariants.{Two};
 ghost use Rattle.pb_accept.specs.Loading as spec;
 ghost use Rattle.pb_accept.specs.Loading.{IsLoaded, IsLoadFault, SaysOfNoCode};
 

@@ -6,7 +6,7 @@ ghost use Rattle.pb_accept.specs.Migrations.{SaysOfMigration};
 ghost use Rattle.pb_command_io.specs.Faults.{TellsFaults, TellsWriteFaults};
 ghost use Rattle.pb_code.specs.View.{code_view, labels_view};
 ghost use Rattle.pb_object.specs.Answers.{HasText, SpellsCode};
-ghost use Rattle.pb_object.specs.declared.format.Format.TheVariants.{Two};
+ghost use Rattle.pb_code.specs.declared.format.Format.TheVariants.{Two};
 
 use crate::load::{load, load_refusal};
 use pb_base::limits::MAX_INPUT;

@@ -3,6 +3,7 @@
 
 mod bundles;
 mod code;
+mod format;
 mod instr;
 mod labels;
 mod names;
@@ -11,6 +12,7 @@ mod same;
 
 pub use bundles::{pair_at, pairs};
 pub use code::{Code, ProcessCode};
+pub use format::Format;
 pub use instr::Instr;
 pub use labels::{Labels, ProcessLabels};
 pub use names::{are_name_bytes, is_name};

@@ -1,6 +1,6 @@
 //! The words of a call, and the command and the options that they name.
 
-use pb_object::Format;
+use pb_code::Format;
 use pb_options::{
     CheckOptions, Code, DebugOptions, DrawOptions, EmitOptions, Lend, OutcomesOptions, PlanOptions,
     RecordOptions, ReplayOptions, RunOptions, StatesOptions,

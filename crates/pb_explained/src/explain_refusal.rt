@@ -5,7 +5,7 @@ ghost use Rattle.pb_explained.specs.Explained.{Explains, TellsRefused, Untouched
 
 use pb_base::{NoMemory, Output, write_all};
 use pb_messages::{Reading, live_message, message_of};
-use pb_object::Format;
+use pb_code::Format;
 use pb_words::{Options, options};
 use std::alloc::Global;
 

@@ -12,7 +12,7 @@ use Rattle.pb_base.specs.declared.pair.Pair.{Pair}
 use Rattle.pb_base.proofs.Cases.{both_true}
 use Rattle.pb_object.specs.declared.words.Verdict.{Verdict}
 use Rattle.pb_object.specs.declared.words.Verdict.TheVariants.{Malformed, Read}
-use Rattle.pb_object.specs.declared.format.Format.{Format}
+use Rattle.pb_code.specs.declared.format.Format.{Format}
 use Rattle.pb_code.specs.Names.{Word}
 use Rattle.pb_object.specs.Words.{paired, mapped}
 use Rattle.pb_object.specs.Instructions.{names_resource, pair_of, pairs_of, most_pairs, bundle_of, pair_words}

@@ -14,8 +14,8 @@ use Rattle.pb_object.specs.Ranges.{Each, IsResource, IsProcess, most_processes}
 use Rattle.pb_object.specs.Rows.{process_row, resource_row, IsRow}
 use Rattle.pb_object.specs.declared.rows.ResourceRow.{ResourceRow as GivenResource}
 use Rattle.pb_object.specs.declared.rows.ProcessRow.{ProcessRow as GivenProcess}
-use Rattle.pb_object.specs.declared.format.Format.{Format}
-use Rattle.pb_object.specs.declared.format.Format.TheVariants.{One, Two}
+use Rattle.pb_code.specs.declared.format.Format.{Format}
+use Rattle.pb_code.specs.declared.format.Format.TheVariants.{One, Two}
 use Rattle.pb_object.proofs.PairedLists.{side_left, side_right}
 
 pub push_map : {A B C : Type 0} (f : A → C) (g : B → C) (xs : List A) (ys : List B) (x : A) (y : B) → map f xs ≡ map g

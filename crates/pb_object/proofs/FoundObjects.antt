@@ -6,8 +6,8 @@ use Rattle.pb_object.specs.declared.fault.Fault.{Fault}
 use Rattle.pb_object.specs.declared.fault.Fault.TheVariants.{Malformed, Beyond}
 use Rattle.pb_object.specs.declared.fault.ObjectFault.{ObjectFault}
 use Rattle.pb_object.specs.declared.fault.ObjectFault.TheVariants.{NotObject, Limit, NoMemory}
-use Rattle.pb_object.specs.declared.format.Format.{Format}
-use Rattle.pb_object.specs.declared.format.Format.TheVariants.{One, Two}
+use Rattle.pb_code.specs.declared.format.Format.{Format}
+use Rattle.pb_code.specs.declared.format.Format.TheVariants.{One, Two}
 use Rattle.pb_object.specs.declared.rows.Rows.{Rows}
 use Rattle.pb_code.specs.declared.code.Code.{Code as GivenCode}
 use Rattle.pb_code.specs.declared.labels.Labels.{Labels}

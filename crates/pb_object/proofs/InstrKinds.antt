@@ -20,8 +20,8 @@ use Rattle.pb_code.specs.Numerals.{is_numeral}
 use Rattle.pb_code.proofs.NumeralLemmas.{is_numeral_decimal}
 use Rattle.pb_object.specs.declared.words.Verdict.{Verdict}
 use Rattle.pb_object.specs.declared.words.Verdict.TheVariants.{Malformed, Beyond, Read}
-use Rattle.pb_object.specs.declared.format.Format.{Format}
-use Rattle.pb_object.specs.declared.format.Format.TheVariants.{One, Two}
+use Rattle.pb_code.specs.declared.format.Format.{Format}
+use Rattle.pb_code.specs.declared.format.Format.TheVariants.{One, Two}
 use Rattle.pb_object.specs.Words.{mapped, paired, number}
 use Rattle.pb_object.specs.Instructions.{alone, two, signed, bare, push_of, names_resource, pair_of, pairs_of, pair_words, most_pairs}
 use Rattle.pb_object.specs.Instructions.{bundle_of, operation, comparison, plain, instr_of, instr, instr_words, line_given, place, place_words}

@@ -11,8 +11,8 @@ use Rattle.std.proofs.lemmas.List.{length-append, length-map}
 use Rattle.std.proofs.lemmas.Fmt.{digits_decimal, decimal-digits_value, digits_value-decimal}
 use Rattle.pb_base.proofs.Cases.{both_true}
 use Rattle.pb_object.specs.declared.words.Verdict.TheVariants.{Malformed, Beyond, Read}
-use Rattle.pb_object.specs.declared.format.Format.{Format}
-use Rattle.pb_object.specs.declared.format.Format.TheVariants.{One, Two}
+use Rattle.pb_code.specs.declared.format.Format.{Format}
+use Rattle.pb_code.specs.declared.format.Format.TheVariants.{One, Two}
 use Rattle.pb_code.specs.Names.{Word, is_name_byte, reserved_words, is_name, is_among}
 use Rattle.pb_code.specs.Numerals.{is_numeral}
 use Rattle.pb_object.specs.Words.{paired, mapped, number, numbers, is_new_name, are_new}

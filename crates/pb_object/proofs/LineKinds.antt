@@ -12,8 +12,8 @@ use Rattle.pb_code.specs.Names.{Word, is_name}
 use Rattle.pb_code.specs.Numerals.{is_numeral}
 use Rattle.pb_object.specs.declared.words.Verdict.{Verdict}
 use Rattle.pb_object.specs.declared.words.Verdict.TheVariants.{Malformed, Beyond, Read}
-use Rattle.pb_object.specs.declared.format.Format.{Format}
-use Rattle.pb_object.specs.declared.format.Format.TheVariants.{One, Two}
+use Rattle.pb_code.specs.declared.format.Format.{Format}
+use Rattle.pb_code.specs.declared.format.Format.TheVariants.{One, Two}
 use Rattle.pb_object.specs.Words.{mapped, number, numbers, is_new_name, are_new}
 use Rattle.pb_object.specs.Instructions.{select}
 use Rattle.pb_object.specs.Objects.{ResourceRow, digit_of, resource_words, process_words, claims_words}

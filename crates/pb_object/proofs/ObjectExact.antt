@@ -5,8 +5,8 @@ use Rattle.std.specs.List.{list_all}
 use Rattle.std.proofs.lemmas.List.{length-map}
 use Rattle.pb_code.specs.Code.{Instr, End}
 use Rattle.pb_code.specs.Names.{Word}
-use Rattle.pb_object.specs.declared.format.Format.{Format}
-use Rattle.pb_object.specs.declared.format.Format.TheVariants.{One, Two}
+use Rattle.pb_code.specs.declared.format.Format.{Format}
+use Rattle.pb_code.specs.declared.format.Format.TheVariants.{One, Two}
 use Rattle.pb_object.specs.Instructions.{place, place_words}
 use Rattle.pb_object.specs.Lines.{line_by, many, line_text}
 use Rattle.pb_object.specs.Objects.{ResourceRow, ProcessRow, Object, counted_words, resource_words, process_words}

@@ -5,7 +5,7 @@ use Rattle.std.specs.Prelude.{All, slice_get}
 use Rattle.std.specs.List.{AllByRecursion}
 use Rattle.std.proofs.lemmas.List.{map_push, length-map}
 use Rattle.pb_base.specs.Banker.{cell}
-use Rattle.pb_object.specs.declared.format.Format.{Format}
+use Rattle.pb_code.specs.declared.format.Format.{Format}
 use Rattle.pb_code.specs.Code.{Instr, ProcessCode}
 use Rattle.pb_code.specs.Whole.{ProcessLabels}
 use Rattle.pb_code.specs.Names.{Word, is_name}

@@ -1,8 +1,8 @@
 -- What is spelled alike is alike, and what is alike is spelled alike.
 use Rattle.std.proofs.Common.{◌≡◌, ℕ, ◌≤◌, List, [], ◌∷◌, ◌++◌, length, map, refl, sym, ap, subst, ◌∙◌, Option, Ok}
 use Rattle.std.proofs.lemmas.List.{append-nil}
-use Rattle.pb_object.specs.declared.format.Format.{Format}
-use Rattle.pb_object.specs.declared.format.Format.TheVariants.{One}
+use Rattle.pb_code.specs.declared.format.Format.{Format}
+use Rattle.pb_code.specs.declared.format.Format.TheVariants.{One}
 use Rattle.pb_code.specs.Code.{Instr, ProcessCode}
 use Rattle.pb_code.specs.Whole.{Code, ProcessLabels}
 use Rattle.pb_code.specs.Names.{Word}

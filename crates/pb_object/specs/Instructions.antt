@@ -10,8 +10,8 @@ use Rattle.pb_base.specs.declared.operators.UnaryOp.TheVariants as unary
 use Rattle.pb_base.specs.declared.operators.BinaryOp.TheVariants as binary
 use Rattle.pb_object.specs.declared.words.Verdict.{Verdict}
 use Rattle.pb_object.specs.declared.words.Verdict.TheVariants.{Malformed, Read}
-use Rattle.pb_object.specs.declared.format.Format.{Format}
-use Rattle.pb_object.specs.declared.format.Format.TheVariants.{One, Two}
+use Rattle.pb_code.specs.declared.format.Format.{Format}
+use Rattle.pb_code.specs.declared.format.Format.TheVariants.{One, Two}
 use Rattle.pb_code.specs.declared.instr.Instr.{Instr as Given}
 use Rattle.pb_code.specs.declared.instr.Instr.TheVariants as given
 use Rattle.pb_code.specs.Code.{Instr, Push, Load, Store, Compute1, Compute2, Jump, JumpIfZero, PrintTop, Take, Give}

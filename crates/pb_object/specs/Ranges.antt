@@ -7,8 +7,8 @@ use Rattle.pb_base.specs.declared.limits.TheConstants.{MAX_AMOUNT, MAX_ARMS, MAX
 use Rattle.pb_base.specs.declared.limits.TheConstants.{MAX_INTEGERS, MAX_PLACES, MAX_PROCESSES, MAX_RESOURCES}
 use Rattle.pb_base.specs.declared.pair.Pair.{Pair}
 use Rattle.pb_code.specs.Limits.{IsLine, IsSigned}
-use Rattle.pb_object.specs.declared.format.Format.{Format}
-use Rattle.pb_object.specs.declared.format.Format.TheVariants.{One, Two}
+use Rattle.pb_code.specs.declared.format.Format.{Format}
+use Rattle.pb_code.specs.declared.format.Format.TheVariants.{One, Two}
 use Rattle.pb_code.specs.Code.{Instr, Push, Load, Store, Compute1, Compute2, Jump, JumpIfZero, PrintTop, Take, Give}
 use Rattle.pb_code.specs.Code.{Fork, Join, End}
 use Rattle.pb_code.specs.Names.{Word, is_name}

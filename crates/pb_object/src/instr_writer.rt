@@ -4,7 +4,7 @@ ghost use Rattle.std.specs.Prelude.{◌≡◌, ◌++◌, ◌∷◌, [], OnOk, So
 ghost use Rattle.std.specs.Fmt.{decimal, signed_decimal};
 ghost use Rattle.std.specs.List.{join_with_byte, flat_map};
 ghost use Rattle.pb_object.specs.Instructions.{pair_words, instr_words, line_number, place_words};
-ghost use Rattle.pb_object.specs.declared.format.Format.TheVariants.{One, Two};
+ghost use Rattle.pb_code.specs.declared.format.Format.TheVariants.{One, Two};
 ghost use Rattle.pb_object.specs.Lines.{line_text};
 ghost use Rattle.pb_code.specs.View.{instr_view};
 

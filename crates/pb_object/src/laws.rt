@@ -3,9 +3,9 @@
 ghost use Rattle.std.specs.Prelude.{◌≡◌, ◌↔◌, ◌≤◌, ◌++◌, [], List, ℕ, Ok, Err, length};
 ghost use Rattle.pb_object.specs.declared.fault.ObjectFault.{ObjectFault};
 ghost use Rattle.pb_object.specs.FaultPlaces.{IsPlaced};
-ghost use Rattle.pb_object.specs.declared.format.Format.{Format};
+ghost use Rattle.pb_code.specs.declared.format.Format.{Format};
 ghost use Rattle.pb_object.specs.Answers.{HasText, HasTextOne, IsObjectOf, SpellsCode, SpellsOne};
-ghost use Rattle.pb_object.specs.declared.format.Format.TheVariants.{Two};
+ghost use Rattle.pb_code.specs.declared.format.Format.TheVariants.{Two};
 ghost use Rattle.pb_object.specs.Formats.{FitsFirst, KeepsRanges};
 ghost use Rattle.pb_code.specs.Limits.{KeepsLimits, PushesFit};
 ghost use Rattle.pb_object.specs.Objects.{Object};

@@ -4,7 +4,6 @@
 mod assemble;
 mod fault;
 mod first;
-mod format;
 mod instr_reader;
 mod instr_writer;
 pub mod laws;
@@ -18,6 +17,5 @@ mod writer;
 
 pub use fault::ObjectFault;
 pub use first::fits_first_format;
-pub use format::Format;
 pub use object::{read_any, read_object};
 pub use writer::{write_object, write_object2};

@@ -12,13 +12,12 @@ ghost use Rattle.pb_object.specs.Words.{mapped, numbers, are_new, IsBetween};
 ghost use Rattle.pb_code.specs.Names.{is_among, is_name as is_name_spec};
 
 use crate::fault::{Fault, ReadError};
-use crate::format::Format;
 use crate::instr_reader::alone;
 use crate::rows::{ProcessRow, ResourceRow};
 use crate::words::{Verdict, copy_of, is, judge_line, number, same, saturated, words_of};
 use itoa::Buffer;
 use pb_base::limits::{MAX_AMOUNT, MAX_INTEGERS};
-use pb_code::{is_name, is_numeral};
+use pb_code::{Format, is_name, is_numeral};
 use std::alloc::{AllocError, Global};
 
 fn heading(words: &[&[u8]]) -> Verdict<Format>

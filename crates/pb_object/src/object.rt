@@ -2,9 +2,9 @@
 //! source line of each place.
 
 ghost use Rattle.std.specs.Prelude.{◌≡◌, ◌<◌, ◌≤◌, All, IfOk, IfErr, List, length};
-ghost use Rattle.pb_object.specs.declared.format.Format.{Format as Formats};
+ghost use Rattle.pb_code.specs.declared.format.Format.{Format as Formats};
 ghost use Rattle.pb_object.specs.declared.fault.ObjectFault.TheVariants.{NoMemory};
-ghost use Rattle.pb_object.specs.declared.format.Format.TheVariants.{Two};
+ghost use Rattle.pb_code.specs.declared.format.Format.TheVariants.{Two};
 ghost use Rattle.pb_object.specs.Answers.{SpellsCode, SpellsOne, HasText, HasTextOne, AnswersRows, IsAnswer, IsFaultOf, IsAnswerOne, IsFaultOfOne, is_two};
 ghost use Rattle.pb_object.specs.FaultPlaces.{IsPlaced, IsPlacedOne};
 ghost use Rattle.pb_object.specs.Lines.{line_by};
@@ -15,12 +15,11 @@ ghost use Rattle.pb_code.specs.Whole.{Code as PlainCode, ProcessLabels as PlainL
 
 use crate::assemble::assemble;
 use crate::fault::{Fault, ObjectFault, ReadError};
-use crate::format::Format;
 use crate::line_reader::heading_at;
 use crate::reader::read_rows;
 use crate::rows::Rows;
 use pb_base::limits::MAX_INPUT;
-use pb_code::{Code, Labels};
+use pb_code::{Code, Format, Labels};
 use std::alloc::Global;
 
 /// Returns what the text says, or its first faulty line.

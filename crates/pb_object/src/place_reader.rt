@@ -7,12 +7,11 @@ ghost use Rattle.pb_object.specs.Rows.{bundle_so_far, place_view, IfRead};
 ghost use Rattle.pb_code.specs.Bundles.{NamesBelow, Extends};
 ghost use Rattle.pb_code.specs.View.{instr_view};
 
-use crate::format::Format;
 use crate::instr_reader::plain;
 use crate::words::{Verdict, is, number, same};
 use pb_base::limits::{MAX_AMOUNT, MAX_LINE, MAX_PAIRS, MAX_RESOURCES};
 use pb_base::{Bundle, Pair};
-use pb_code::Instr;
+use pb_code::{Format, Instr};
 use std::alloc::AllocError;
 
 /// Returns whether the words name this resource, as a first word of two.

@@ -9,14 +9,13 @@ ghost use Rattle.pb_object.specs.Rows.{resource_row, process_row, object_row, pl
 ghost use Rattle.pb_code.specs.Bundles.{NamesBelow, Extends};
 
 use crate::fault::{Fault, ReadError};
-use crate::format::Format;
 use crate::line_reader::{claims_at, counted_at, heading_at, integers_at, name_at, resource_at};
 use crate::place_reader::place;
 use crate::rows::{ProcessRow, ResourceRow, Rows};
 use crate::words::{judge_line, words_into};
 use pb_base::Bundle;
 use pb_base::limits::{MAX_ARMS, MAX_FIRST_PROCESSES, MAX_PLACES, MAX_PROCESSES, MAX_RESOURCES};
-use pb_code::{Instr, ProcessCode, ProcessLabels};
+use pb_code::{Format, Instr, ProcessCode, ProcessLabels};
 use std::alloc::Global;
 
 fn resources_of(

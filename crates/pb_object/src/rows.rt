@@ -1,7 +1,6 @@
 //! What the lines of an object say, before they are code.
 
-use crate::format::Format;
-use pb_code::{ProcessCode, ProcessLabels};
+use pb_code::{Format, ProcessCode, ProcessLabels};
 
 /// A resource and its capital.
 #[derive(Drop)]

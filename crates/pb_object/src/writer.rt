@@ -5,7 +5,7 @@ ghost use Rattle.std.specs.Fmt.{decimal};
 ghost use Rattle.std.specs.List.{flat_map};
 ghost use Rattle.pb_base.specs.Banker.{cell};
 ghost use Rattle.pb_base.specs.Tables.{width_of};
-ghost use Rattle.pb_object.specs.declared.format.Format.TheVariants.{One, Two};
+ghost use Rattle.pb_code.specs.declared.format.Format.TheVariants.{One, Two};
 ghost use Rattle.pb_object.specs.Answers.{HasText, HasTextOne, SpellsCode, SpellsOne};
 ghost use Rattle.pb_object.specs.Instructions.{instr_words, place_words};
 ghost use Rattle.pb_object.specs.Lines.{line_text};

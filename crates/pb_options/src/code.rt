@@ -73,6 +73,32 @@ pub enum Code {
     G3,
     /// Not a command.
     G4,
+    /// Not a command of the bank.
+    B1,
+    /// An amount of a command of the bank that is out of range.
+    B2,
+    /// A name that jobs and resources cannot have.
+    B3,
+    /// No resource of this name.
+    B4,
+    /// No job of this name.
+    B5,
+    /// A resource that is named twice in a command of the bank.
+    B6,
+    /// A name that is taken.
+    B7,
+    /// A resource that comes after a job.
+    B8,
+    /// No room for another resource or job.
+    B9,
+    /// A claim of a job over the capital.
+    B10,
+    /// More than the job holds.
+    B11,
+    /// A wish beside another one of the same job.
+    B12,
+    /// No wish of this job.
+    B13,
     /// The input is too long.
     Input,
     /// What `record` would write is too long.
@@ -85,9 +111,9 @@ pub enum Code {
 pub struct UnknownCode;
 
 impl Code {
-    /// All codes, in the order in which they are listed: those of texts, of objects, of picks and of
-    /// sessions, and then those of inputs and outputs that are too long.
-    pub const ALL: [Code; 34] = [
+    /// All codes, in the order in which they are listed: those of texts, of objects, of picks, of sessions and of
+    /// the bank, and then those of inputs and outputs that are too long.
+    pub const ALL: [Code; 47] = [
         Code::L1,
         Code::L2,
         Code::L3,
@@ -120,6 +146,19 @@ impl Code {
         Code::G2,
         Code::G3,
         Code::G4,
+        Code::B1,
+        Code::B2,
+        Code::B3,
+        Code::B4,
+        Code::B5,
+        Code::B6,
+        Code::B7,
+        Code::B8,
+        Code::B9,
+        Code::B10,
+        Code::B11,
+        Code::B12,
+        Code::B13,
         Code::Input,
         Code::Output,
     ];
@@ -161,6 +200,19 @@ impl Code {
             Code::G2 => "G2",
             Code::G3 => "G3",
             Code::G4 => "G4",
+            Code::B1 => "B1",
+            Code::B2 => "B2",
+            Code::B3 => "B3",
+            Code::B4 => "B4",
+            Code::B5 => "B5",
+            Code::B6 => "B6",
+            Code::B7 => "B7",
+            Code::B8 => "B8",
+            Code::B9 => "B9",
+            Code::B10 => "B10",
+            Code::B11 => "B11",
+            Code::B12 => "B12",
+            Code::B13 => "B13",
             Code::Input => "input",
             Code::Output => "output",
         }

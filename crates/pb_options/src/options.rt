@@ -6,7 +6,7 @@ ghost use Rattle.pb_options.specs.declared.options.TheConstants.{MAX_HEAP, MAX_R
 ghost use Rattle.pb_options.specs.Lends.{IsLendOf, lending_for};
 
 use pb_base::Lending;
-use pb_object::Format;
+use pb_code::Format;
 use std::str::FromStr;
 
 /// The least size of a heap for the trees of a text, in bytes.

@@ -7,7 +7,7 @@ use Rattle.pb_codegen.specs.Compiled.{IsCompiled}
 use Rattle.pb_command_io.specs.declared.status.Status.{Status}
 use Rattle.pb_command_io.specs.declared.status.Status.TheVariants.{Done, Limit}
 use Rattle.pb_object.specs.Answers.{SpellsCode}
-use Rattle.pb_object.specs.declared.format.Format.TheVariants.{Two}
+use Rattle.pb_code.specs.declared.format.Format.TheVariants.{Two}
 use Rattle.pb_page_graph.specs.Documents.{IsDocumentUpTo, excess_text}
 use Rattle.pb_search.specs.Outcomes.{IsExcess}
 

@@ -5,7 +5,7 @@ use Rattle.pb_base.specs.declared.lending.Lending.{Lending}
 use Rattle.pb_code.specs.Code.{CodeProcess}
 use Rattle.pb_code.specs.Whole.{Code, ProcessLabels}
 use Rattle.pb_object.specs.Answers.{SpellsCode}
-use Rattle.pb_object.specs.declared.format.Format.TheVariants.{Two}
+use Rattle.pb_code.specs.declared.format.Format.TheVariants.{Two}
 use Rattle.pb_page.specs.Runs.{IsRunDocument}
 use Rattle.pb_page.specs.declared.run.Shown.{Shown}
 use Rattle.pb_command_io.specs.Answers.{memory_line}

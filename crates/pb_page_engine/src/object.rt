@@ -4,7 +4,7 @@ ghost use Rattle.std.specs.Prelude.{IfOk};
 ghost use Rattle.pb_code.specs.Limits.{AreLabels};
 ghost use Rattle.pb_code.specs.View.{labels_view};
 ghost use Rattle.pb_object.specs.Answers.{SpellsCode};
-ghost use Rattle.pb_object.specs.declared.format.Format.TheVariants.{Two};
+ghost use Rattle.pb_code.specs.declared.format.Format.TheVariants.{Two};
 
 use pb_base::NoMemory;
 use pb_code::Labels;

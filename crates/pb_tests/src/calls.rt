@@ -1,13 +1,13 @@
 //! Calls of the engines, and what each writes.
 
 use pb_base::{Input, MemoryInput, MemoryOutput, Output};
+use pb_code::Format;
 use pb_command_io::Status;
 use pb_engines::{
     CheckOptions, EmitOptions, Lend, RecordOptions, ReplayOptions, RunOptions, check_engine,
     claims_engine, emit_engine, exec_engine, migrate_engine, record_engine, replay_engine,
     run_engine,
 };
-use pb_object::Format;
 use std::alloc::Global;
 use std::sync::Wait;
 use std::thread::Threads;

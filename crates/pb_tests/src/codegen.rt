@@ -1,10 +1,9 @@
 //! Texts, and the code that they are compiled to.
 
 use crate::calls::{CHECK, Call, Case, Given, first_wrong};
-use pb_code::Instr;
+use pb_code::{Format, Instr};
 use pb_codegen::{Compiled, compile};
 use pb_command_io::Status;
-use pb_object::Format;
 use std::alloc::Global;
 
 /// Returns whether the code of the first process begins its arms at these places and has these instructions.

@@ -22,8 +22,8 @@ use crate::words::{Options, WordsFault};
 use clap::error::ErrorKind;
 use clap::{ArgMatches, Error};
 use pb_base::limits::{MAX_PICKS, MAX_QUANTUM, MAX_STATES, MAX_WORKERS};
+use pb_code::Format;
 use pb_command_line::command_line::command_line;
-use pb_object::Format;
 use pb_options::{
     CheckOptions, Code, DebugOptions, DrawOptions, EmitOptions, Lend, MAX_HEAP, MAX_ROWS,
     MAX_SCALE, MAX_WIDTH, MIN_HEAP, MIN_SCALE, MIN_WIDTH, OutcomesOptions, PlanOptions,

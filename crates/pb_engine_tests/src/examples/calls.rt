@@ -2,13 +2,13 @@
 
 use pb_bank_engine::bank_engine;
 use pb_base::{Lending, MemoryInput, MemoryOutput};
+use pb_code::Format;
 use pb_command_io::Status;
 use pb_engines::{
     CheckOptions, EmitOptions, Lend, RecordOptions, ReplayOptions, RunOptions, check_engine,
     claims_engine, emit_engine, exec_engine, migrate_engine, record_engine, replay_engine,
     run_engine,
 };
-use pb_object::Format;
 use pb_plan_engine::plan_engine;
 use std::sync::Wait;
 use std::thread::Threads;

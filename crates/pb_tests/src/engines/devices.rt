@@ -3,10 +3,10 @@
 use crate::calls::{CHECK, Call, make};
 use crate::objects::FIRST;
 use pb_base::{FaultyInput, MemoryInput, MemoryOutput};
+use pb_code::Format;
 use pb_command_io::Status;
 use pb_engines::RunOptions;
 use pb_example_texts::first::HELLO;
-use pb_object::Format;
 use std::sync::Wait;
 use std::thread::Threads;
 

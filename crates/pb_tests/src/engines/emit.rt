@@ -3,9 +3,9 @@
 use crate::calls::{Call, Case, Given, first_wrong};
 use crate::objects::{FIRST, SECOND};
 use crate::texts::SUM;
+use pb_code::Format;
 use pb_command_io::Status;
 use pb_example_texts::first::TOGETHER;
-use pb_object::Format;
 
 const FORMATS: [Case; 2] = [
     (

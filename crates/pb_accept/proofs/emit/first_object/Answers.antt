@@ -1,4 +1,4 @@
-use Rattle.pb_object.specs.declared.format.Format.TheVariants.{One}
+use Rattle.pb_code.specs.declared.format.Format.TheVariants.{One}
 use Rattle.pb_accept.specs.Emissions.{SaysOfObject}
 use Rattle.pb_accept.proofs.EmissionLemmas.{has_first_text, says_beyond, says_first}
 use Rattle.pb_accept.proofs.LoadLemmas.{of_refusal}

@@ -2,7 +2,7 @@ use Rattle.std.proofs.Common.{subst, sym}
 use Rattle.pb_object.specs.Answers.{HasText}
 use Rattle.pb_code.specs.Whole.{Code}
 use Rattle.pb_code.specs.View.{labels_view}
-use Rattle.pb_object.specs.declared.format.Format.TheVariants.{Two}
+use Rattle.pb_code.specs.declared.format.Format.TheVariants.{Two}
 use Rattle.pb_accept.specs.Migrations.{SaysOfMigration, no_code}
 use Rattle.pb_accept.specs.Loading.{SaysOfNoCode}
 use Rattle.pb_command_io.proofs.InputLemmas.{replied_too}

@@ -1,6 +1,6 @@
 use Rattle.std.proofs.Common.{◌∙◌, sym}
 use Rattle.std.proofs.lemmas.Result.{err_from_is_err_and}
-use Rattle.pb_object.specs.declared.format.Format.TheVariants.{One}
+use Rattle.pb_code.specs.declared.format.Format.TheVariants.{One}
 use Rattle.pb_code.specs.View.{code_view}
 use Rattle.pb_object.proofs.FoundObjects.{one_heading, one_found, err_one}
 use Rattle.pb_object.proofs.object.read_object.Goals as goal

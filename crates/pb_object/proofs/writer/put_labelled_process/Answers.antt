@@ -1,6 +1,6 @@
 use Rattle.std.proofs.Common.{◌≡◌, ◌++◌, ◌∙◌, ap, sym, map, ℕ, length, slice_index_or, [], List, Option}
 use Rattle.std.proofs.lemmas.List.{length-map}
-use Rattle.pb_object.specs.declared.format.Format.TheVariants.{Two}
+use Rattle.pb_code.specs.declared.format.Format.TheVariants.{Two}
 use Rattle.pb_code.specs.Code.{Instr, ProcessCode}
 use Rattle.pb_code.specs.Whole.{ProcessLabels}
 use Rattle.pb_object.specs.Instructions.{place_words}

@@ -2,7 +2,7 @@ use Rattle.std.proofs.Common.{◌++◌, ◌∷◌, ◌∙◌, ap, List, None, ge
 use Rattle.std.specs.Fmt.{decimal}
 use Rattle.pb_base.specs.declared.pair.Pair.{Pair}
 use Rattle.pb_code.specs.declared.instr.Instr.{Instr as Given}
-use Rattle.pb_object.specs.declared.format.Format.TheVariants.{Two}
+use Rattle.pb_code.specs.declared.format.Format.TheVariants.{Two}
 use Rattle.pb_object.specs.Instructions.{instr_words, line_number, place_words}
 use Rattle.pb_object.specs.Lines.{line_text}
 use Rattle.pb_code.specs.View.{instr_view}

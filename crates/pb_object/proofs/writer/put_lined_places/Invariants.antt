@@ -1,6 +1,6 @@
 use Rattle.std.proofs.Common.{◌≡◌, ◌++◌, take, map}
 use Rattle.std.specs.List.{flat_map}
-use Rattle.pb_object.specs.declared.format.Format.TheVariants.{Two}
+use Rattle.pb_code.specs.declared.format.Format.TheVariants.{Two}
 use Rattle.pb_object.specs.Instructions.{place_words}
 use Rattle.pb_object.specs.Lines.{line_text}
 use Rattle.pb_object.specs.Rows.{side_by_side}

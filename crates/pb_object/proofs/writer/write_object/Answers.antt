@@ -1,6 +1,6 @@
 use Rattle.std.proofs.Common.{◌<◌, ◌≤◌, refl, length, get_or, arith, rules}
 use Rattle.std.proofs.lemmas.Grind.{common_steps}
-use Rattle.pb_object.specs.declared.format.Format.TheVariants.{One}
+use Rattle.pb_code.specs.declared.format.Format.TheVariants.{One}
 use Rattle.pb_object.specs.Objects.{process_text}
 use Rattle.pb_code.specs.View.{code_view, process_view}
 use Rattle.pb_object.proofs.WrittenRows.{opening, empty, row_of, width_at, next_text, finished, count_of}

@@ -1,5 +1,5 @@
 use Rattle.std.proofs.Common.{◌≡◌, ◌++◌, take}
-use Rattle.pb_object.specs.declared.format.Format.TheVariants.{One}
+use Rattle.pb_code.specs.declared.format.Format.TheVariants.{One}
 use Rattle.pb_object.specs.Objects.{Object, code_of}
 use Rattle.pb_code.specs.View.{code_view}
 use Rattle.pb_object.proofs.WrittenRows.{opening, processes_text}

@@ -3,7 +3,7 @@ use Rattle.std.proofs.lemmas.Result.{MatchResult-weaker}
 use Rattle.pb_code.specs.View.{labels_view}
 use Rattle.pb_code.specs.Whole.{ProcessLabels}
 use Rattle.pb_object.specs.Answers.{SpellsCode}
-use Rattle.pb_object.specs.declared.format.Format.TheVariants.{Two}
+use Rattle.pb_code.specs.declared.format.Format.TheVariants.{Two}
 use Rattle.pb_page_engine.specs.Schedules.{AreSchedules}
 use Rattle.pb_verifier.specs.Verified.{VerifiedCode}
 use Rattle.pb_page_engine.proofs.schedules.reply.Goals as goal
