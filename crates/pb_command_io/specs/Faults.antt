@@ -33,3 +33,12 @@ WriteFailed old new = (new.reads ≡ old.reads)
 abbrev pub TellsFaults : Devices → Devices → Status → Type 0
 TellsFaults old new status =
     (status ≢ Device → NoneFailed old new) × (status ≡ Device → ReadFailed old new ⊎ WriteFailed old new)
+
+-- one read failed, and no write; something may be written
+abbrev pub OneReadFailed : Devices → Devices → Type 0
+OneReadFailed old new = (new.reads ≡ one_more_failure old.reads) × (new.writes ≡ old.writes)
+
+-- the same, of a command that may write before it reads on: the status is Device exactly if one read or one write failed
+abbrev pub TellsAnyFault : Devices → Devices → Status → Type 0
+TellsAnyFault old new status =
+    (status ≢ Device → NoneFailed old new) × (status ≡ Device → OneReadFailed old new ⊎ WriteFailed old new)

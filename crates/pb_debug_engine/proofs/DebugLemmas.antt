@@ -8,7 +8,7 @@ use Rattle.pb_codegen.specs.Compiled.{IsCompiled}
 use Rattle.pb_debug.specs.Value.{Debugging}
 use Rattle.pb_debug_engine.specs.Debugs.{IsOpened, SaysOfDebugging, SaysOfDebug, SaysOfParts}
 use Rattle.pb_debug_engine.specs.Debugs.{SaysOfSession, debugged, no_memory, no_picks, no_room, no_source, with_code}
-use Rattle.pb_debug_engine.specs.Faults.{TellsAnyFault}
+use Rattle.pb_command_io.specs.Faults.{TellsAnyFault}
 use Rattle.pb_debug_engine.specs.Live.{AnswersOfCode, AnswersOfParts}
 use Rattle.pb_command_io.proofs.PageLemmas.{AddsPrefix-longer}
 use Rattle.pb_command_io.specs.Answers.{Says, Tells, memory_line}

@@ -7,7 +7,7 @@ use Rattle.pb_base.specs.declared.device.ReadFault.TheVariants as fault
 use Rattle.pb_base.specs.declared.lending.Lending.{Lending}
 use Rattle.pb_debug.specs.Sessions.{IsReadTo, SaysBefore}
 use Rattle.pb_debug_engine.specs.Debugs.{AreThreeParts, SaysOfParts}
-use Rattle.pb_debug_engine.specs.Faults.{TellsAnyFault}
+use Rattle.pb_command_io.specs.Faults.{TellsAnyFault}
 use Rattle.pb_debug_engine.specs.Live.{AnswersOfParts, HasLongPart, IsEarly, SaysOfLive, SaysOfRead, early, late}
 use Rattle.pb_debug_engine.specs.Live.{no_memory, nothing, read, too_long, unread_status, unread_text}
 use Rattle.pb_debug_engine.proofs.PartLemmas.{first_of_three, nothing_behind}

@@ -5,7 +5,7 @@ use Rattle.pb_debug.specs.Value.{Debugging}
 use Rattle.pb_debug.specs.declared.fault.DebugFault.{DebugFault}
 use Rattle.pb_debug.specs.declared.fault.DebugFault.TheVariants as fault
 use Rattle.pb_debug_engine.specs.Debugs.{SaysOfSession, answered, out_of_memory, broken_off}
-use Rattle.pb_debug_engine.specs.Faults.{TellsAnyFault}
+use Rattle.pb_command_io.specs.Faults.{TellsAnyFault}
 use Rattle.pb_command_io.specs.Answers.{Says, Tells, memory_line}
 use Rattle.pb_command_io.specs.Faults.{Devices}
 use Rattle.pb_command_io.specs.declared.status.Status.{Status}

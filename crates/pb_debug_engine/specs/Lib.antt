@@ -1,3 +1,2 @@
 pub mod Debugs
-pub mod Faults
 pub mod Live

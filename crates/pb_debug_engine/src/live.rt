@@ -3,7 +3,7 @@
 ghost use Rattle.std.specs.Prelude.{◌≡◌, ◌≢◌, ◌*◌, IfSome};
 ghost use Rattle.pb_base.specs.Device.{LeavesRest};
 ghost use Rattle.pb_debug.specs.Sessions.{SaysBefore};
-ghost use Rattle.pb_debug_engine.specs.Faults.{TellsAnyFault};
+ghost use Rattle.pb_command_io.specs.Faults.{TellsAnyFault};
 ghost use Rattle.pb_debug_engine.specs.Live.{SaysOfLive, SaysOfRead, unread_status, unread_text};
 ghost use Rattle.pb_command_io.specs.Answers.{Says, Tells};
 ghost use Rattle.pb_command_io.specs.Faults.{TellsWriteFaults};

@@ -6,7 +6,7 @@ ghost use Rattle.pb_code.specs.Limits.{AreLabels};
 ghost use Rattle.pb_code.specs.View.{labels_view};
 ghost use Rattle.pb_debug.specs.Sessions.{SaysBefore};
 ghost use Rattle.pb_debug_engine.specs.Debugs.{SaysOfDebugging, SaysOfParts};
-ghost use Rattle.pb_debug_engine.specs.Faults.{TellsAnyFault};
+ghost use Rattle.pb_command_io.specs.Faults.{TellsAnyFault};
 ghost use Rattle.pb_debug_engine.specs.Live.{AnswersOfCode, AnswersOfParts};
 ghost use Rattle.pb_command_io.specs.Answers.{Tells};
 

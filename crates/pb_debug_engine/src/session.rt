@@ -4,7 +4,7 @@ ghost use Rattle.std.specs.Prelude.{◌≢◌, IfSome};
 ghost use Rattle.pb_base.specs.Device.{LeavesRest};
 ghost use Rattle.pb_debug.specs.Sessions.{SaysBefore};
 ghost use Rattle.pb_debug_engine.specs.Debugs.{SaysOfSession};
-ghost use Rattle.pb_debug_engine.specs.Faults.{TellsAnyFault};
+ghost use Rattle.pb_command_io.specs.Faults.{TellsAnyFault};
 ghost use Rattle.pb_debug_engine.specs.Live.{AnswersLines};
 ghost use Rattle.pb_command_io.specs.Answers.{Tells};
 
