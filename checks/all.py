@@ -17,10 +17,10 @@ import time
 from pathlib import Path
 
 TOP = Path(__file__).resolve().parent.parent
-PROGRAM = "crates/pb_cli/out/pb_cli"
+PROGRAM = "script/tools.sh"
 # The first one builds the program.
 QUICK = (
-    "./parbegin check examples/hello.pb",
+    "./parbegin build",
     f"checks/statuses.sh {PROGRAM}",
     f"checks/standard_devices.py {PROGRAM}",
     f"checks/examples.py {PROGRAM}",
@@ -34,6 +34,7 @@ QUICK = (
     f"checks/terminal.py {PROGRAM}",
     f"checks/adapter.py {PROGRAM}",
     f"checks/server.py {PROGRAM}",
+    "checks/tools.py",
     "checks/rebuilds.py",
     f"checks/pictures.py {PROGRAM}",
     "checks/example_tests.py",
@@ -42,7 +43,7 @@ QUICK = (
 )
 # What these need beside the program, checks/README.md says.
 SLOW = (
-    "./parbegin check examples/hello.pb",
+    "./parbegin build",
     f"checks/drawn_programs.py {PROGRAM}",
     f"checks/printed_outcomes.py {PROGRAM}",
     f"checks/devices.py {PROGRAM}",

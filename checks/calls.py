@@ -8,6 +8,10 @@ import sys
 import tempfile
 
 TOP = pathlib.Path(__file__).resolve().parent.parent
+sys.path.insert(1, str(TOP))
+
+from script.tools import COMMANDS_OF, FRONT, command_of, path_of, tool_of  # noqa: E402
+
 EXAMPLES = sorted((TOP / "examples").glob("*.pb"))
 BANKS = sorted((TOP / "examples").rglob("*.bank"))
 # The endings of the files of examples/ that a command reads, with how the names of their constants end.
@@ -22,21 +26,26 @@ COMMANDS = b"why P.0\nvars P\nthreads P\nloans\nstep 2\nline P.0\ntext P.0\nback
 WATCHDOG = 120
 
 
-def program():
-    """Returns the program that is named on the command line, or that ./parbegin has built."""
-    given = pathlib.Path(sys.argv[1]).resolve() if len(sys.argv) > 1 else TOP / "crates/pb_cli/out/pb_cli"
+def program(words=()):
+    """Returns the program that is named on the command line, or the tools that ./parbegin has built: of words with a
+    command the one tool that has it."""
+    given = pathlib.Path(sys.argv[1]).resolve() if len(sys.argv) > 1 else pathlib.Path(FRONT)
+    tool = tool_of(command_of(list(words)))
+    if tool and given == pathlib.Path(FRONT):
+        given = path_of(tool)
     if not os.access(given, os.X_OK):
         sys.exit(f"{given} is not there: ./parbegin builds it")
     return str(given)
 
 
 def installed(folder):
-    """Puts the script and the program into a folder, as install.sh does, and returns the path of the script."""
+    """Puts the script and the tools into a folder, as install.sh does, and returns the path of the script."""
     folder = pathlib.Path(folder)
     ignored = shutil.ignore_patterns("__pycache__")
     shutil.copytree(TOP / "script", folder / "libexec/parbegin/script", ignore=ignored)
     shutil.copytree(TOP / "extras/page", folder / "share/parbegin/page", ignore=ignored)
-    shutil.copy(program(), folder / "libexec/parbegin/pb_cli")
+    for tool in COMMANDS_OF:
+        shutil.copy(path_of(tool), folder / f"libexec/parbegin/parbegin-{tool}")
     (folder / "bin").mkdir(parents=True)
     return str(shutil.copy(TOP / "parbegin", folder / "bin/parbegin"))
 
@@ -51,7 +60,7 @@ def constant(file):
 def call(words, given, environment=None, of=None):
     """Calls the program with these words on these bytes, and returns its status, and what it wrote."""
     ran = subprocess.run(
-        [of or program(), *words], input=given, stdout=subprocess.PIPE, stderr=subprocess.PIPE, timeout=WATCHDOG,
+        [of or program(words), *words], input=given, stdout=subprocess.PIPE, stderr=subprocess.PIPE, timeout=WATCHDOG,
         env={**os.environ, **(environment or {})}, check=False,
     )
     return ran.returncode, ran.stdout

@@ -82,7 +82,7 @@ def fail_each(tally, shim, name, words, given, kind, whole):
 def broken_devices(tally):
     """Calls the program with devices that do not work from the start."""
     text = (TOP / "examples/hello.pb").read_bytes()
-    words = [program(), "run"]
+    words = [program(["run"]), "run"]
     for name, how in {
         "a full output": {"input": text, "stdout": open("/dev/full", "wb")},
         "a closed output": {"input": text, "preexec_fn": lambda: os.close(1)},

@@ -26,7 +26,7 @@ def look(tally, tool, words, given, name):
     """Runs the program under a tool of valgrind."""
     with tempfile.NamedTemporaryFile() as log:
         # (not on standard error, where the program explains a refusal)
-        how = ["valgrind", "-q", f"--log-file={log.name}", f"--error-exitcode={FOUND}", *TOOLS[tool], program(), *words]
+        how = ["valgrind", "-q", f"--log-file={log.name}", f"--error-exitcode={FOUND}", *TOOLS[tool], program(words), *words]
         ran = subprocess.run(how, input=given, stdout=subprocess.DEVNULL, stderr=subprocess.DEVNULL, check=False)
         found = log.read().decode(errors="replace")
     tally.expect(ran.returncode != FOUND and not found, tool, name, words, found[:2000])

@@ -1,10 +1,10 @@
 #!/usr/bin/env python3
-"""Shows when ./parbegin builds: only if a file that the program is made from has other contents.
+"""Shows when ./parbegin builds, and what: the tool of the command, only if a file that it is made from has other contents.
 
     checks/rebuilds.py
 
-It works on a copy of the script with two crates, and with a command in place of the kit's rt that only writes down what
-it was called for.
+It works on a copy of the script with the crate of each tool over one other, and with a command in place of the kit's rt
+that only writes down what it was called for.
 Its status is 0 if all is as wanted, and 1 if not.
 """
 from __future__ import annotations
@@ -17,19 +17,25 @@ import tempfile
 import time
 
 from calls import TOP, Tally
+from script.tools import COMMANDS_OF, crate_of
 
 # In place of rt: writes down its call, and as a build of the program makes one that says so.
 RT = """#!/bin/sh
 echo "$PWD $*" >>"$CALLS"
 case "$1" in
 run)
-    printf '#!/bin/sh\\necho a program\\n' >out/pb_cli.new
-    chmod +x out/pb_cli.new
-    mv out/pb_cli.new out/pb_cli
+    tool=out/${PWD##*/}
+    printf '#!/bin/sh\\necho a program\\nexit %d\\n' "$(cat status 2>/dev/null || echo 0)" >$tool.new
+    chmod +x $tool.new
+    mv $tool.new $tool
+    exit "$(cat status 2>/dev/null || echo 0)"
     ;;
 esac
 """
-CRATES = {"pb_base": "", "pb_cli": "pb_base"}
+CRATES = {"pb_base": "", **{crate_of(tool): "pb_base" for tool in COMMANDS_OF}}
+RUN = crate_of("run")
+# What `run` needs: its tool, and the crate below.
+OF_RUN = 2
 SOURCE = "crates/pb_base/src/lib.rt"
 NO_PROGRAM = 8
 
@@ -50,10 +56,10 @@ class Checkout:
         return ran.returncode, ran.stdout, len(self.calls.read_text().splitlines())
 
     def builds(self) -> bool:
-        """Calls the script, and returns whether it built the program, all crates of it."""
+        """Calls the script, and returns whether it built the tool of `run`, all crates of it and no others."""
         status, told, built = self.run()
-        assert (status, told) == (0, b"a program\n"), (status, told)
-        assert built in (0, len(CRATES)), built
+        assert told == b"a program\n", (status, told)
+        assert built in (0, OF_RUN), built
         return built > 0
 
 
@@ -62,6 +68,10 @@ def copied(folder: pathlib.Path) -> Checkout:
     first = folder / "first"
     for part in ("script", *(f"crates/{crate}/src" for crate in CRATES)):
         shutil.copytree(TOP / part, first / part, ignore=shutil.ignore_patterns("__pycache__"))
+    for tool in COMMANDS_OF:
+        for file in ("args", "stdin", "status"):
+            if (TOP / f"crates/{crate_of(tool)}/{file}").exists():
+                shutil.copy(TOP / f"crates/{crate_of(tool)}/{file}", first / f"crates/{crate_of(tool)}/{file}")
     (first / "examples").mkdir()
     for file in ("parbegin", "examples/hello.pb"):
         shutil.copy(TOP / file, first / file)
@@ -92,15 +102,19 @@ def try_changes(tally: Tally, it: Checkout) -> None:
     tally.expect(it.builds(), "a new file is not built")
     (source.parent / "more.rt").unlink()
     tally.expect(it.builds(), "a file that is gone is not seen")
-    program = it.top / "crates/pb_cli/out/pb_cli"
+    program = it.top / f"crates/{RUN}/out/{RUN}"
     program.write_bytes(program.read_bytes() + b"# by hand\n")
     tally.expect(it.builds(), "a program that was changed is taken")
+    built = it.run("build")[2]
+    tally.expect(built == len(CRATES) - OF_RUN + 1, "all tools are built of", built, "crates")
+    tally.expect(it.run("build")[2] == 0, "all tools are built once more")
+    tally.expect(not it.builds(), "the tool of `run` is built once more")
 
 
 def try_copies(tally: Tally, it: Checkout, folder: pathlib.Path) -> None:
     """Tries a copy of what is built, and one by hard links."""
     shutil.copytree(it.top, folder / "copy", copy_function=shutil.copyfile)
-    for file in ("parbegin", "crates/pb_cli/out/pb_cli"):
+    for file in ("parbegin", "script/tools.sh", *(f"crates/{crate_of(it)}/out/{crate_of(it)}" for it in COMMANDS_OF)):
         (folder / "copy" / file).chmod(0o755)
     tally.expect(not Checkout(folder / "copy", folder).builds(), "a copy is built")
     shutil.copytree(it.top, folder / "links", copy_function=os.link)
@@ -108,23 +122,30 @@ def try_copies(tally: Tally, it: Checkout, folder: pathlib.Path) -> None:
     tally.expect(not it.builds(), "a checkout with hard links to it is built")
 
 
+def forget(records: list[pathlib.Path]) -> None:
+    """Removes the records of what the tools were built from."""
+    for record in records:
+        record.unlink(missing_ok=True)
+
+
 def try_gate(tally: Tally, it: Checkout) -> None:
-    """Tries to take over the program that the gate has built."""
-    out = it.top / "crates/pb_cli/out"
-    record, option = out / "built_from.json", "--built-by-the-gate"
-    record.unlink()
+    """Tries to take over the tools that the gate has built."""
+    outs = [it.top / f"crates/{crate_of(tool)}/out" for tool in COMMANDS_OF]
+    records, option = [out / "built_from.json" for out in outs], "--built-by-the-gate"
+    forget(records)
     began = str(time.time())
-    tally.expect(it.run(option, began)[0] == NO_PROGRAM, "a program from before the gate is taken")
-    os.utime(out / "pb_cli")
-    tally.expect(it.run(option, began) == (0, b"", 0), "the gate's program is not taken")
-    tally.expect(not it.builds(), "the gate's program is built once more")
-    record.unlink()
-    tally.expect(it.run(option)[0] == 0, "the gate's program is not taken without a time")
-    record.unlink()
+    tally.expect(it.run(option, began)[0] == NO_PROGRAM, "tools from before the gate are taken")
+    for out in outs:
+        os.utime(out / out.parent.name)
+    tally.expect(it.run(option, began) == (0, b"", 0), "the gate's tools are not taken")
+    tally.expect(not it.builds(), "the gate's tools are built once more")
+    forget(records)
+    tally.expect(it.run(option)[0] == 0, "the gate's tools are not taken without a time")
+    forget(records)
     os.utime(it.top / SOURCE)
     tally.expect(it.run(option, began)[0] == NO_PROGRAM, "a source that changed during the gate is overlooked")
-    tally.expect(it.run(option)[0] == NO_PROGRAM, "a source newer than the program is overlooked")
-    tally.expect(not record.exists(), "something was recorded")
+    tally.expect(it.run(option)[0] == NO_PROGRAM, "a source newer than the tools is overlooked")
+    tally.expect(not any(record.exists() for record in records), "something was recorded")
     tally.expect(it.builds(), "what the gate has not proved is not built")
 
 

@@ -24,7 +24,7 @@ def with_little_stack():
 
 def call_with_little_stack(words, given):
     """Calls the program with little stack, and returns its status and what it wrote."""
-    with subprocess.Popen([program(), *words], stdin=subprocess.PIPE, stdout=subprocess.PIPE,
+    with subprocess.Popen([program(words), *words], stdin=subprocess.PIPE, stdout=subprocess.PIPE,
                           stderr=subprocess.DEVNULL, preexec_fn=with_little_stack) as ran:
         said = ran.communicate(given)[0]
         ran.stdout.close()

@@ -47,7 +47,7 @@ def calls() -> list[Call]:
 def ended(of: Call, before: Callable[[], None] | None = None, **how) -> int:
     """Makes a call with these devices, and returns its status."""
     how = {"stderr": subprocess.DEVNULL, "timeout": WATCHDOG, "check": False, "preexec_fn": before, **how}
-    return subprocess.run([program(), *of.words], **how).returncode
+    return subprocess.run([program(of.words), *of.words], **how).returncode
 
 
 def told(of: Call, before: Callable[[], None] | None = None, **how) -> tuple[int, bytes]:
@@ -73,7 +73,7 @@ def slow_input(of: Call) -> tuple[int, bytes]:
     """Gives the input in two parts, and the end some time later."""
     half = len(of.given) // 2
     with tempfile.TemporaryFile() as output:
-        words = [program(), *of.words]
+        words = [program(of.words), *of.words]
         with subprocess.Popen(words, stdin=subprocess.PIPE, stdout=output, stderr=subprocess.DEVNULL) as ran:
             for part in (of.given[:half], of.given[half:]):
                 # (a program that takes the first part for the whole may have ended)

@@ -1,4 +1,4 @@
-"""Builds the program, which proves it: crates side by side, as many as processors and memory allow."""
+"""Builds tools, which proves them: crates side by side, as many as processors and memory allow."""
 from __future__ import annotations
 
 import os
@@ -8,11 +8,25 @@ from typing import NoReturn
 
 from script.crates import Crates, chains
 from script.kit import kit, slots
-from script.places import MAIN, TOP, say
+from script.places import TOP, say
+from script.tools import COMMANDS_OF, crate_of
 
 # A crate with four jobs takes a third more minutes of processors than with one, so it gets only those that no other that
 # can start needs. No job is started beyond one for each processor: it would slow down the longest chain.
 MOST_JOBS_OF_A_CRATE = 4
+MAINS = {crate_of(tool) for tool in COMMANDS_OF}
+
+
+def call_of(crate: str) -> tuple[list[str], str, int]:
+    """Returns the words, the input and the status of the call by which a tool is tried once it is built."""
+    folder = f"{TOP}/crates/{crate}"
+    status = f"{folder}/status"
+    with open(f"{folder}/args", encoding="utf-8") as file:
+        words = file.read().split()
+    if not os.path.exists(status):
+        return words, f"{folder}/stdin", 0
+    with open(status, encoding="utf-8") as file:
+        return words, f"{folder}/stdin", int(file.read())
 
 
 def minutes(seconds: float) -> str:
@@ -31,16 +45,18 @@ class Build:
         self.crates, self.chains, self.rt, self.slots = crates, chains(crates), kit(), slots()
         self.done: set[str] = set()
         self.running: dict[str, tuple[subprocess.Popen, int]] = {}
+        self.awaited: dict[str, int] = {}
         self.started = time.monotonic()
 
     def start(self, crate: str, jobs: int) -> None:
         """Starts the build of a crate."""
         folder = f"{TOP}/crates/{crate}"
         os.makedirs(f"{folder}/out", exist_ok=True)
-        words, given = ["lib", "--jobs", str(jobs)], os.devnull
-        if crate == MAIN:
+        words, given, self.awaited[crate] = ["lib", "--jobs", str(jobs)], os.devnull, 0
+        if crate in MAINS:
             # a run of it shows by its status that it was built
-            words, given = ["run", "--jobs", str(jobs), "--", "run"], f"{TOP}/examples/hello.pb"
+            call, given, self.awaited[crate] = call_of(crate)
+            words = ["run", "--jobs", str(jobs), "--", *call]
         with open(f"{folder}/out/build.log", "wb") as log, open(given, "rb") as text:
             process = subprocess.Popen([*self.rt, *words], cwd=folder, stdin=text, stdout=log, stderr=subprocess.STDOUT)
         self.running[crate] = process, jobs
@@ -94,7 +110,7 @@ class Build:
                 self.tell()
                 crate = self.end_of_one()
                 process, _ = self.running.pop(crate)
-                if process.returncode:
+                if process.returncode != self.awaited[crate]:
                     self.fail(crate)
                 self.done.add(crate)
         finally:

@@ -1,10 +1,11 @@
-"""The crates that the program is made of, their files, and the order in which they are built."""
+"""The crates that tools are made of, their files, and the order in which they are built."""
 from __future__ import annotations
 
 import os
-from collections.abc import Iterator
+from collections.abc import Iterable, Iterator
 
-from script.places import MAIN, TOP
+from script.places import TOP
+from script.tools import crate_of
 
 Crates = dict[str, list[str]]
 SOURCES = ("src", "specs", "proofs")
@@ -13,11 +14,11 @@ SOURCES = ("src", "specs", "proofs")
 # minute.
 MINUTES = {
     "pb_accept": 1.7, "pb_adapter": 2.1, "pb_adapter_engine": 1, "pb_adapter_requests": 1.1, "pb_adapter_values": 1.8,
-    "pb_answer": 0.9, "pb_bank": 2.3, "pb_bank_engine": 0.3, "pb_banker": 1.6, "pb_base": 2.5, "pb_circles": 0.8,
-    "pb_claims": 1.3, "pb_cli": 1, "pb_code": 0.7, "pb_codegen": 1.1, "pb_command_io": 0.5, "pb_command_line": 3.2,
+    "pb_call": 0.8, "pb_bank": 2.3, "pb_bank_engine": 0.3, "pb_banker": 1.6, "pb_base": 2.5, "pb_circles": 0.8,
+    "pb_claims": 1.3, "pb_code": 0.7, "pb_codegen": 1.1, "pb_command_io": 0.5, "pb_command_line": 3.2,
     "pb_conversations": 0.7, "pb_debug": 2.3, "pb_debug_commands": 0.5, "pb_debug_engine": 0.6, "pb_debug_positions": 1,
     "pb_debug_stops": 0.4, "pb_debug_texts": 1.4, "pb_diagnostics": 1.3, "pb_draw": 0.9, "pb_draw_engine": 0.4,
-    "pb_draw_picture": 2.9, "pb_engines": 0.6, "pb_explain": 0.6, "pb_explained": 0.5, "pb_frames": 0.4,
+    "pb_draw_picture": 2.9, "pb_engines": 0.6, "pb_explain": 0.6, "pb_frames": 0.4,
     "pb_generator": 1, "pb_grammar": 2.8, "pb_groups": 0.4, "pb_history": 1.2, "pb_joint": 0.8, "pb_json": 0.5,
     "pb_json_lines": 2.5, "pb_lexer": 0.7, "pb_machine": 1.9, "pb_mends": 0.9, "pb_message_excerpts": 0.7,
     "pb_message_stops": 0.7, "pb_message_wording": 4.2, "pb_messages": 1.9, "pb_names": 1.3, "pb_object": 3,
@@ -29,8 +30,8 @@ MINUTES = {
 }
 
 
-def crates_below() -> Crates:
-    """Returns the crates that the program is made of, itself included, each with those that it depends on."""
+def crates_below(tools: Iterable[str]) -> Crates:
+    """Returns the crates that these tools are made of, their own included, each with those that it depends on."""
     listed = {}
     with open(f"{TOP}/crates.txt", encoding="utf-8") as lines:
         for line in lines:
@@ -38,7 +39,7 @@ def crates_below() -> Crates:
             if colon:
                 listed[head.split()[0]] = libraries.split()
     found: Crates = {}
-    left = [MAIN]
+    left = [crate_of(tool) for tool in tools]
     while left:
         crate = left.pop()
         if crate not in found:
@@ -58,7 +59,7 @@ def files_of(crate: str) -> Iterator[str]:
 
 
 def sources(crates: Crates) -> list[str]:
-    """Returns the paths below the top of all files that the program is made from."""
+    """Returns the paths below the top of all files that these crates are made from."""
     return ["crates.txt", *(file for crate in sorted(crates) for file in files_of(crate))]
 
 

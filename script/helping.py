@@ -7,6 +7,7 @@ import subprocess
 import sys
 
 from script.places import DEVICE, WORDS
+from script.program import is_built
 
 FILES = """
 In place of standard input a FILE may be named: `parbegin run FILE`. So `parbegin COMMAND FILE` is
@@ -77,7 +78,8 @@ def show_help(start: list[str], words: list[str]) -> int:
 def more_help(start: list[str], command: str | None) -> str:
     """Returns what the script adds to the program's help."""
     if command == "debug":
-        return DEBUG + ran_on(start, ["debug"], SESSION)[1].decode(errors="replace")
+        told = ran_on(start, ["debug"], SESSION)[1].decode(errors="replace") if is_built("debug") else ""
+        return DEBUG + told if told else ""
     return {"check": CHECK, "dap": EDITORS, "lsp": EDITORS, None: FILES}.get(command, "")
 
 

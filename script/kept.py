@@ -8,7 +8,8 @@ import sys
 from collections.abc import Iterable
 
 from script.kit import kit
-from script.places import MAIN, PROGRAM, TOP, say
+from script.places import TOP, say
+from script.tools import crate_of, path_of
 
 # `rt ci` keeps on this machine what it has proved and built, by sums: of all that a crate's proof reads, with the kit, and
 # of the libraries below as they were built. What follows takes it by the same sums, in the folder where it is called.
@@ -80,18 +81,19 @@ def take_libraries(folder: str, crates: Iterable[str]) -> None:
         say(f"taking {given} libraries that the gate has proved and built of these files on this machine")
 
 
-def is_taken() -> bool:
-    """Takes over the program that the gate has kept of just these files, and returns whether it could."""
-    found = kept(KEPT_PROGRAM, TOP, [MAIN])
+def is_taken(tool: str) -> bool:
+    """Takes over the tool that the gate has kept of just these files, and returns whether it could."""
+    found = kept(KEPT_PROGRAM, TOP, [crate_of(tool)])
     if not found:
         return False
+    path = path_of(tool)
     try:
-        os.makedirs(os.path.dirname(PROGRAM), exist_ok=True)
-        new = f"{PROGRAM}.{os.getpid()}"
+        os.makedirs(os.path.dirname(path), exist_ok=True)
+        new = f"{path}.{os.getpid()}"
         shutil.copyfile(found, new)
         os.chmod(new, 0o755)
-        os.replace(new, PROGRAM)
+        os.replace(new, path)
     except OSError:
         return False
-    say("taking the program that the gate has proved and built of these files on this machine")
+    say(f"taking parbegin-{tool} as the gate has proved and built it of these files on this machine")
     return True

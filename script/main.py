@@ -8,7 +8,8 @@ import sys
 
 from script import files, helping
 from script.places import DEVICE, WORDS, say
-from script.program import program, record_of_gate
+from script.program import is_built, program, record_of_gate
+from script.tools import CALLS, COMMANDS, command_of, path_of, tool_of
 
 # What each command waits for at a terminal; any other waits for a text.
 AWAITED = {
@@ -25,7 +26,8 @@ def start_program(start: list[str], words: list[str]) -> None:
     # (Python ignores these, and the program would inherit that)
     for it in (signal.SIGPIPE, signal.SIGXFSZ):
         signal.signal(it, signal.SIG_DFL)
-    os.execv(start[0], [*start, *words])
+    tool = tool_of(command_of(words))
+    os.execv(path_of(tool) if tool else start[0], [*start, *words])
 
 
 def tell_what_it_awaits(command: str) -> None:
@@ -77,7 +79,7 @@ def run_on_file(start: list[str], command: str, words: files.Words) -> int:
         return debug(start, words.others, name)
     if "--quiet" not in start:
         files.advise(command, words.others, name)
-    if name and command in ("run", "replay") and len(start) == 1 and os.isatty(2):
+    if name and command in ("run", "replay") and len(start) == 1 and os.isatty(2) and is_built("debug"):
         from script.afterwards import run_at_terminal
 
         return run_at_terminal(start, command, words.others, name)
@@ -100,7 +102,7 @@ def run_words(start: list[str], words: list[str]) -> int:
     start, words = to_front(start, words)
     if helping.asks_for_help(words):
         return helping.show_help(start, words)
-    if not words or words[0] not in COMMANDS and words[0] not in helping.commands(start):
+    if not words or words[0] not in COMMANDS:
         if helping.are_refused(start, words):
             if words and os.path.isfile(words[0]):
                 say(f"{words[0]} is a file, and a command comes before it: parbegin run {words[0]}")
@@ -109,11 +111,6 @@ def run_words(start: list[str], words: list[str]) -> int:
     return run_command(start, words[0], words[1:])
 
 
-# Commands that need not be looked for in the program's help.
-COMMANDS = (
-    "bank", "check", "claims", "dap", "debug", "draw", "emit", "exec", "explain", "lsp", "migrate", "outcomes", "plan", "record",
-    "replay", "run", "states",
-)
 # Words with which the program only says something of itself.
 WITHOUT_WORK = ("help", "--help", "-h", "--version", "-V")
 
@@ -141,6 +138,15 @@ def run_unproved(words: list[str]) -> int:
     return run_trial(words)
 
 
+def called(words: list[str]) -> list[str]:
+    """Returns the commands of the tools that words need: that of the words, and those that a session at a terminal asks."""
+    command = command_of(words)
+    if command not in COMMANDS or helping.asks_for_help([word for word in words if word not in ("--quiet", "--json")]):
+        return []
+    at_prompt = command == "debug" and os.isatty(0) and os.isatty(1) and len(words) > 1
+    return ["debug", "emit"] if at_prompt else [command]
+
+
 def main(words: list[str]) -> int:
     """Does what the words of a call say, and returns the exit status."""
     for it in (signal.SIGTERM, signal.SIGHUP):
@@ -153,19 +159,24 @@ def main(words: list[str]) -> int:
         if words == ["package"]:
             from script.package import package
 
-            return package([program()])
+            return package([program(*CALLS["package"])])
+        if words == ["build"]:
+            program(*CALLS["build"])
+            return 0
         if words[:2] == ["help", "page"]:
             words = ["page", "--help"]
         if words[:1] == ["page"] or words[:2] == ["--quiet", "page"]:
             from script.pages import page
 
             at = words.index("page")
-            return page([program(), *words[:at]], words[at + 1 :])
+            helps = any(word in helping.HELPFUL for word in words)
+            start = "" if helps else program(*CALLS["page"])
+            return page([start, *words[:at]], words[at + 1 :])
         if words[:1] == ["library"]:
             from script.library import library
 
             return library(words[1:])
-        return run_words([program()], words)
+        return run_words([program(*called(words))], words)
     except KeyboardInterrupt:
         return 128 + signal.SIGINT
 

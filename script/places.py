@@ -5,11 +5,8 @@ import os
 import sys
 from typing import NoReturn
 
-# The top of a checkout; or PREFIX/libexec/parbegin, where install.sh puts this folder beside the program.
+# The top of a checkout; or PREFIX/libexec/parbegin, where install.sh puts this folder beside the tools.
 TOP = os.path.dirname(os.path.dirname(os.path.realpath(__file__)))
-MAIN = "pb_cli"
-PROGRAM = f"{TOP}/crates/{MAIN}/out/{MAIN}"
-INSTALLED = f"{TOP}/{MAIN}"
 # The program's statuses of a refused input, of refused words, of a limit, of a fault, and of a failed read or write; the
 # script's of no program.
 REFUSED, WORDS, LIMIT, FAULT, DEVICE, NO_PROGRAM = 1, 2, 3, 4, 6, 8

@@ -1,4 +1,4 @@
-"""The program that is to run: installed, or built of this checkout if its sources are others than when it was built."""
+"""The tools that are to run: installed, or built of this checkout if their sources are others than when they were built."""
 from __future__ import annotations
 
 import fcntl
@@ -8,25 +8,45 @@ from typing import IO
 from script.building import Build, Failed
 from script.crates import Crates, crates_below, sources
 from script.kept import is_taken, take_libraries
-from script.places import INSTALLED, MAIN, PROGRAM, TOP, is_installed, say, stop
-from script.sums import are_same, is_fresh, mark_of, marks_of, with_program, write_record
+from script.places import TOP, is_installed, say, stop
+from script.sums import Marks, are_same, is_fresh, mark_of, marks_of, with_tool, write_record
+from script.tools import COMMANDS_OF, FRONT, crate_of, path_of, tools_of
 
 
-def program() -> str:
-    """Returns the path of the program, which is built first if it has to be."""
+def program(*commands: str) -> str:
+    """Returns the path by which these commands are called; their tools are built first if they have to be."""
+    tools = tools_of(commands)
     if is_installed():
-        return INSTALLED if os.path.exists(INSTALLED) else stop(f"{INSTALLED} is not there")
-    crates = crates_below()
-    if not is_fresh(sources(crates)):
-        build(crates)
-    return PROGRAM
+        missing = [path_of(tool) for tool in tools if not os.path.exists(path_of(tool))]
+        return stop(f"{missing[0]} is not there") if missing else FRONT
+    old = old_ones(tools)
+    if old:
+        build(old, commands)
+    return FRONT
 
 
-def prove(crates: Crates) -> None:
-    """Builds all crates, which proves them; libraries that the gate has kept of the same files are taken."""
-    take_libraries(TOP, [MAIN])
+def old_ones(tools: list[str]) -> list[str]:
+    """Returns the tools that are not there, or whose sources have other contents than when they were built."""
+    return [tool for tool in tools if not is_fresh(tool, sources(crates_below([tool])))]
+
+
+def is_built(tool: str) -> bool:
+    """Returns whether a tool is there as its sources are."""
+    return os.path.exists(path_of(tool)) if is_installed() else not old_ones([tool])
+
+
+def named(tools: list[str], commands: tuple[str, ...]) -> str:
+    """Returns in words what is built: what `run` needs, or the tools by their names."""
+    return f"what `{commands[0]}` needs" if len(commands) == 1 else ", ".join(f"parbegin-{tool}" for tool in tools)
+
+
+def prove(tools: list[str], commands: tuple[str, ...]) -> None:
+    """Builds tools, which proves them; libraries that the gate has kept of the same files are taken."""
+    crates = crates_below(tools)
+    take_libraries(TOP, [crate_of(tool) for tool in tools])
     work = Build(crates)
-    say(f"building the program, which proves it first: up to {work.slots} jobs; an interrupt keeps what is built")
+    every = len(crates_below(COMMANDS_OF))
+    say(f"building {named(tools, commands)}, which proves it first: {len(crates)} of {every} crates, up to {work.slots} jobs; an interrupt keeps what is built")
     say("(./parbegin --unproved COMMAND FILE needs no such build: it compiles the sources with no proof, and runs them once)")
     try:
         work.run()
@@ -46,20 +66,28 @@ def wait_for_others(lock: IO[bytes]) -> None:
         fcntl.flock(lock, fcntl.LOCK_EX)
 
 
-def build(crates: Crates) -> None:
-    """Builds the program, unless another call has done so meanwhile, and records what it was built from."""
+def build(tools: list[str], commands: tuple[str, ...]) -> None:
+    """Builds tools, unless another call has done so meanwhile, and records what they were built from."""
     with open(f"{TOP}/crates.txt", "rb") as lock:
         wait_for_others(lock)
-        while not is_fresh(sources(crates)):
-            given = marks_of(sources(crates))
-            if not is_taken():
-                prove(crates)
-            if not are_same(given, marks_of(sources(crates), given)):
-                say("a source was changed meanwhile: once more")
-                crates = crates_below()
-                continue
-            made = with_program([])[0]
-            write_record({**given, made: mark_of(made)})
+        while left := old_ones(tools):
+            files = {tool: sources(crates_below([tool])) for tool in left}
+            given = {tool: marks_of(files[tool]) for tool in left}
+            to_prove = [tool for tool in left if not is_taken(tool)]
+            if to_prove:
+                prove(to_prove, commands)
+            for tool in left:
+                record(tool, given[tool])
+
+
+def record(tool: str, given: Marks) -> None:
+    """Records what a tool was built from, if no source was changed meanwhile."""
+    files = sources(crates_below([tool]))
+    if not are_same(given, marks_of(files, given)):
+        say("a source was changed meanwhile: once more")
+        return
+    made = with_tool(tool, [])[0]
+    write_record(tool, {**given, made: mark_of(made)})
 
 
 def changed_since(files: list[str], moment: float) -> str | None:
@@ -68,22 +96,31 @@ def changed_since(files: list[str], moment: float) -> str | None:
 
 
 def record_of_gate(words: list[str]) -> int:
-    """Records that the gate has just built the program of these sources, and returns the status.
+    """Records that the gate has just built the tools of these sources, and returns the status.
 
-    The word is when the gate began, in seconds; without it, no source may be newer than the program.
+    The word is when the gate began, in seconds; without it, no source of a tool may be newer than it.
     """
-    if is_installed() or not os.path.exists(PROGRAM):
-        stop("there is no program that the gate has built")
-    made = os.stat(PROGRAM).st_mtime
+    if is_installed():
+        stop("this is for a checkout")
     try:
-        began = float(words[0]) if words else made
+        began = float(words[0]) if words else None
     except ValueError:
         stop(f"{words[0]} is no number of seconds")
-    if made < began:
-        stop("the program is older than the gate's run: it is built anew when it is needed")
-    files = sources(crates_below())
-    newer = changed_since(files, began)
-    if newer:
-        stop(f"{newer} is newer than what the gate has proved: the program is built anew when it is needed")
-    write_record(marks_of(with_program(files)))
+    for tool in COMMANDS_OF:
+        record_built(tool, began)
     return 0
+
+
+def record_built(tool: str, began: float | None) -> None:
+    """Records a tool that the gate has built, after this moment if one is given."""
+    if not os.path.exists(path_of(tool)):
+        stop(f"there is no parbegin-{tool} that the gate has built")
+    made = os.stat(path_of(tool)).st_mtime
+    since = made if began is None else began
+    if made < since:
+        stop(f"parbegin-{tool} is older than the gate's run: it is built anew when it is needed")
+    files = sources(crates_below([tool]))
+    newer = changed_since(files, since)
+    if newer:
+        stop(f"{newer} is newer than what the gate has proved: parbegin-{tool} is built anew when it is needed")
+    write_record(tool, marks_of(with_tool(tool, files)))

@@ -1,4 +1,4 @@
-"""What the program was built from: the sums of the contents of its sources, and its own.
+"""What a tool was built from: the sums of the contents of its sources, and its own.
 
 A copy of a checkout, a hard link or a touched file has the same contents, and so nothing is built. So that not every call
 reads all files, the record has the size and the time of each: a file with both is taken as it was.
@@ -12,10 +12,9 @@ import time
 from collections.abc import Iterable
 from typing import NamedTuple
 
-from script.places import PROGRAM, TOP
+from script.places import TOP
+from script.tools import crate_of, path_of
 
-# Beside the program: what it was built from, and which file that made.
-RECORD = f"{PROGRAM.rpartition('/')[0]}/built_from.json"
 # A file that was changed this shortly before it was recorded may change again with the same time.
 A_SECOND = 1_000_000_000
 
@@ -56,42 +55,48 @@ def are_same(some: Marks, others: Marks) -> bool:
     return {file: it.sum for file, it in some.items()} == {file: it.sum for file, it in others.items()}
 
 
-def read_record() -> Marks | None:
-    """Returns what was recorded, or nothing if there is no record."""
+def record_of(tool: str) -> str:
+    """Returns the path of the record beside a tool: what it was built from, and which file that made."""
+    return f"{TOP}/crates/{crate_of(tool)}/out/built_from.json"
+
+
+def read_record(tool: str) -> Marks | None:
+    """Returns what was recorded of a tool, or nothing if there is no record."""
     try:
-        with open(RECORD, encoding="utf-8") as file:
+        with open(record_of(tool), encoding="utf-8") as file:
             return {name: Mark(*mark) for name, mark in json.load(file).items()}
     except (OSError, ValueError, TypeError, AttributeError):
         return None
 
 
-def write_record(marks: Marks) -> None:
-    """Records the sources and the program."""
-    new = f"{RECORD}.{os.getpid()}"
+def write_record(tool: str, marks: Marks) -> None:
+    """Records the sources of a tool and the tool."""
+    record = record_of(tool)
+    new = f"{record}.{os.getpid()}"
     with open(new, "w", encoding="utf-8") as file:
         json.dump(marks, file, indent=0)
-    os.replace(new, RECORD)
+    os.replace(new, record)
 
 
-def with_program(files: Iterable[str]) -> list[str]:
-    """Returns the paths of the sources with that of the program."""
-    return [*files, os.path.relpath(PROGRAM, TOP)]
+def with_tool(tool: str, files: Iterable[str]) -> list[str]:
+    """Returns the paths of the sources with that of the tool."""
+    return [*files, os.path.relpath(path_of(tool), TOP)]
 
 
-def is_fresh(files: Iterable[str]) -> bool:
-    """Returns whether the program is there and neither it nor a source has other contents than when it was built."""
-    before = read_record()
+def is_fresh(tool: str, files: Iterable[str]) -> bool:
+    """Returns whether the tool is there and neither it nor a source has other contents than when it was built."""
+    before = read_record(tool)
     if before is None:
         return False
     try:
-        now = marks_of(with_program(files), before)
+        now = marks_of(with_tool(tool, files), before)
     except OSError:
         return False
     if not are_same(before, now):
         return False
     if before != now:
         try:
-            write_record(now)
+            write_record(tool, now)
         except OSError:
             # (a checkout that can't be written to is read once more each time)
             pass

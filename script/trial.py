@@ -9,24 +9,25 @@ import sys
 import tempfile
 
 from script.kit import rt_path
-from script.places import MAIN, TOP, is_installed, say, stop
+from script.places import TOP, is_installed, say, stop
+from script.tools import any_tool, command_of, crate_of, tool_of
 
 # How the lines begin that a trial run writes to standard error behind those of the program, before its last one.
 LINES_OF_A_TRIAL = ("checked: ", "races: ")
 UNPROVED = (
-    "this is not the proved program: its sources are compiled with no proof, which takes some three minutes, and run once"
+    "this is not the proved program: the sources of {} are compiled with no proof, and run once"
 )
 
 
-def tried(words: list[str]) -> str:
-    """Makes the trial run on all of standard input, and returns what it writes to standard error."""
+def tried(tool: str, words: list[str]) -> str:
+    """Makes the trial run of a tool on all of standard input, and returns what it writes to standard error."""
     with tempfile.TemporaryFile() as given, tempfile.TemporaryFile() as told:
         # (rt takes what standard input has until it is silent for two seconds)
         with contextlib.suppress(OSError), open(0, "rb", closefd=False) as standard_input:
             shutil.copyfileobj(standard_input, given)
         given.seek(0)
         command = [rt_path(), "try", "--", *words]
-        with subprocess.Popen(command, cwd=f"{TOP}/crates/{MAIN}", stdin=given, stderr=told) as trial:
+        with subprocess.Popen(command, cwd=f"{TOP}/crates/{crate_of(tool)}", stdin=given, stderr=told) as trial:
             try:
                 trial.wait()
             except KeyboardInterrupt:
@@ -49,8 +50,9 @@ def run_unproved(words: list[str]) -> int:
     if is_installed():
         stop("--unproved is for a checkout, with its sources")
     rt_path()
-    say(UNPROVED)
-    told = tried(words)
+    tool = tool_of(command_of(words)) or any_tool()
+    say(UNPROVED.format(f"parbegin-{tool}"))
+    told = tried(tool, words)
     ended = re.search(r"^run=ended status=(\d+) .*proved=no\n\Z", told, re.M)
     if not ended:
         stop("\n  ".join(["the trial run gave no answer:", *told.splitlines()]))
