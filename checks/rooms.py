@@ -119,7 +119,7 @@ def tables_of(document: str) -> Rooms:
     found: Rooms = {}
     for section in document.split("\n### ")[1:]:
         name, _, body = section.split("\n## ")[0].partition("\n")
-        rows = re.findall(r"^\| (pb_\w+ \| .*) \|$", body, re.M)
+        rows = re.findall(r"^\| ((?:pb|parbegin)_\w+ \| .*) \|$", body, re.M)
         if "| Crate | What it holds | Tested in |" in body:
             found[name] = (" ".join(body.split("\n|")[0].split()), rows)
     return found

@@ -1,9 +1,10 @@
 //! A call, answered by whichever tool has its command.
-ghost use Rattle.std.specs.Prelude.{◌≢◌, IfSome};
+ghost use Rattle.std.specs.Prelude.{◌≡◌, ◌≢◌, IfSome};
 ghost use Rattle.pb_answer.specs.Calls.{CallTellsFaults, CallWrites, CommandLeaves, CommandSays};
 ghost use Rattle.pb_call.specs.Calls.{bytes_for};
 ghost use Rattle.pb_command_io.specs.Answers.{Tells};
 ghost use Rattle.pb_command_io.specs.Faults.{TellsAnyFault};
+ghost use Rattle.pb_words.specs.Tools.{tool_for};
 
 use pb_bank_tool::BankTool;
 use pb_base::{Input, Output};
@@ -57,14 +58,35 @@ fn answer_command<I: Input, O: Output, R: Threads + Wait + Sync>(
     ensures read { I.failures input.new ≢ I.failures input.old →
         CommandLeaves options (I.rest input.old) (I.rest input.new) (O.written output.old) (O.written output.new) }
 {
-    let answered = match tool_of(&options) {
-        Tool::Bank => BankTool.answer(rt, alloc, options, input, output),
-        Tool::Debug => DebugTool.answer(rt, alloc, options, input, output),
-        Tool::Edit => EditTool.answer(rt, alloc, options, input, output),
-        Tool::Run => RunTool.answer(rt, alloc, options, input, output),
-        Tool::Search => SearchTool.answer(rt, alloc, options, input, output),
-    };
-    match answered {
+    match tool_of(&options) {
+        Tool::Bank => by_tool(&BankTool, rt, alloc, options, input, output),
+        Tool::Debug => by_tool(&DebugTool, rt, alloc, options, input, output),
+        Tool::Edit => by_tool(&EditTool, rt, alloc, options, input, output),
+        Tool::Run => by_tool(&RunTool, rt, alloc, options, input, output),
+        Tool::Search => by_tool(&SearchTool, rt, alloc, options, input, output),
+    }
+}
+
+/// Does what the options say, by the tool that has their command.
+fn by_tool<R, C: Commands<R>, I: Input, O: Output>(
+    commands: &C,
+    rt: &R,
+    alloc: Global,
+    options: Options,
+    input: &mut I,
+    output: &mut O,
+) -> Status
+    requires { tool_for options ≡ C.tool }
+    ensures text { IfSome (bytes_for options (I.rest input.old)) (λ bytes.
+        Tells (C.MaySay options bytes) (O.written output.old) (O.written output.new) result) }
+    ensures faults { TellsAnyFault
+        (record { reads = I.failures input.old; writes = O.failures output.old; written = O.written output.old })
+        (record { reads = I.failures input.new; writes = O.failures output.new; written = O.written output.new })
+        result }
+    ensures read { I.failures input.new ≢ I.failures input.old →
+        C.Leaves options (I.rest input.old) (I.rest input.new) (O.written output.old) (O.written output.new) }
+{
+    match commands.answer(rt, alloc, options, input, output) {
         Some(status) => status,
         None => unreachable!(),
     }

@@ -1,9 +1,10 @@
 -- From what was said to what a call writes, and what a command tells of its devices.
-use Rattle.std.proofs.Common.{◌≡◌, ◌≢◌, List, ℕ, Option, inl, inr}
+use Rattle.std.proofs.Common.{◌≡◌, ◌≢◌, List, ℕ, Option, inl, inr, subst, sym}
+use Rattle.std.specs.Prelude.{IfSome}
 use Rattle.std.specs.Borrow.{Bor}
-use Rattle.pb_call.specs.Calls.{CallWrites, Saying, fault_status, words_fault_text}
-use Rattle.pb_command_io.specs.Answers.{Says}
-use Rattle.pb_command_io.specs.Faults.{Devices, TellsAnyFault, TellsFaults}
+use Rattle.pb_call.specs.Calls.{AfterRead, CallWrites, Saying, bytes_for, fault_status, words_fault_text}
+use Rattle.pb_command_io.specs.Answers.{Says, Tells}
+use Rattle.pb_command_io.specs.Faults.{Devices, TellsAnyFault, TellsFaults, TellsWriteFaults}
 use Rattle.pb_command_io.specs.declared.status.Status.{Status}
 use Rattle.pb_json_lines.proofs.ReplyLemmas.{is_device}
 use Rattle.pb_words.specs.Read.{BlamesWords, WordsSay}
@@ -39,3 +40,18 @@ nothing_left old new status tells failed = elim (is_device status) [
   ]
   | inr other ↦ absurd (failed (tells.0 other).0)
 ]
+
+-- a command that reads nothing tells the faults of its writes
+pub write_faults : (old new : Devices) (status : Status) → new.reads ≡ old.reads → TellsWriteFaults old.writes new.writes status
+    → TellsAnyFault old new status
+write_faults old new status same tells = (λ other. (same, tells.0 other), λ device. inr (same, tells.1 device))
+
+-- what is told of options that are these
+module _ (rest left old new : Option (List ℕ)) (status : Status) (o p : Options) (is : o ≡ p) where
+  pub tells_as : (MaySay : Saying) → IfSome (bytes_for p rest) (λ bytes. Tells (MaySay p bytes) old new status)
+      → IfSome (bytes_for o rest) (λ bytes. Tells (MaySay o bytes) old new status)
+  tells_as MaySay tells =
+      subst (λ (x : Options). IfSome (bytes_for x rest) (λ bytes. Tells (MaySay x bytes) old new status)) (sym is) tells
+
+  pub leaves_as : (Leaves : AfterRead) → Leaves p rest left old new → Leaves o rest left old new
+  leaves_as Leaves leaves = subst (λ (x : Options). Leaves x rest left old new) (sym is) leaves
