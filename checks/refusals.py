@@ -4,10 +4,9 @@
     checks/refusals.py [PROGRAM]             PROGRAM is the one that ./parbegin has built if none is given
     checks/refusals.py --write [PROGRAM]     writes docs/REFUSALS.md anew, after a change of crates/pb_explain
 
-The list that `explain` writes must be the first lines of the pages, and each example must be refused with its line. Every
-refusal line of docs/FORMATS.md must have a page, except those of `bank`, whose codes begin with B and which say what is
-wrong themselves; both completions must have every code. Its status is 0 if all is as wanted,
-and 1 if not.
+The list that `explain` writes must be the first lines of the pages. Each example must write what its page shows, with one
+refusal line, which has the code of the page. Every refusal line of docs/FORMATS.md must have a page, and both completions
+every code. Its status is 0 if all is as wanted, and 1 if not.
 """
 import os
 import pathlib
@@ -21,10 +20,10 @@ from calls import DONE, TOP, WORDS, Tally, call, program
 DOCUMENT = TOP / "docs/REFUSALS.md"
 FORMATS = TOP / "docs/FORMATS.md"
 COMPLETIONS = TOP / "extras/completion/parbegin.bash", TOP / "extras/completion/parbegin.fish"
-# The page of a code: its first line, the meaning, an example with its refusal line, and what to do.
+# The page of a code: its first line, the meaning, an example with what it writes, and what to do.
 PAGE = re.compile(
     r"(?P<first>[^\n]*)\n\n(?P<meaning>(?:[^\n]+\n)+)"
-    r"(?:\nFor example:\n\n(?P<call>(?:[^\n]+\n)+)\nshows\n\n(?P<line>[^\n]*)\n)?"
+    r"(?:\nFor example:\n\n(?P<call>(?:[^\n]+\n)+)\nshows\n\n(?P<answer>(?:[^\n]+\n)+))?"
     r"\n(?P<mend>(?:[^\n]+\n)+)"
 )
 HEAD = """# Refusals
@@ -48,7 +47,7 @@ def section(page):
     it = PAGE.fullmatch(page)
     parts = [f"## {it['first']}", it["meaning"].strip()]
     if it["call"]:
-        parts += ["For example:", f"```\n{it['call']}```", "shows", f"```\n{it['line']}\n```"]
+        parts += ["For example:", f"```\n{it['call']}```", "shows", f"```\n{it['answer']}```"]
     return "\n\n".join([*parts, it["mend"]])
 
 
@@ -60,9 +59,9 @@ def try_example(tally, code, page, folder):
     words = ["bash", "-o", "pipefail", "-c", it["call"]]
     ran = subprocess.run(words, env=where, stdout=subprocess.PIPE, stderr=subprocess.DEVNULL, check=False)
     said = ran.stdout.decode()
-    tally.expect(said == it["line"] + "\n", code, "the example shows", said)
-    begins = it["line"].split()[:2] == ["refused", code]
-    tally.expect(begins, code, "the example is refused with", it["line"])
+    tally.expect(said == it["answer"], code, "the example shows", said)
+    refused = re.findall(r"^refused (\w+)", it["answer"], re.M)
+    tally.expect(refused == [code], code, "the example is refused with", refused)
 
 
 def main():
@@ -76,7 +75,7 @@ def main():
         for code, page in found.items():
             tally.expect(PAGE.fullmatch(page), code, "the page is not of its form:", page)
             try_example(tally, code, page, folder)
-    told = set(re.findall(r"^\| `refused (?!B\d)(\w+)", FORMATS.read_text(), re.M))
+    told = set(re.findall(r"^\| `refused (\w+)", FORMATS.read_text(), re.M))
     tally.expect(told == set(found), "the codes of docs/FORMATS.md:", told ^ set(found))
     for file in COMPLETIONS:
         missing = [code for code in found if not re.search(rf"\b{code}\b", file.read_text())]

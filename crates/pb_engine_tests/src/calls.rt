@@ -227,7 +227,8 @@ fn bytes_of(alloc: Global, input: ExampleInput) -> Result<Vec<u8>, AllocError> {
     Ok(bytes)
 }
 
-/// Returns whether the call of an example writes its refusal line alone, and this line has the code.
+/// Returns whether the call of an example writes what its page shows, with the code in its refusal line, which is
+/// the only one.
 fn is_refused<R: AllocGlobal + Threads + Wait + Sync>(
     rt: &R,
     code: Code,
@@ -237,12 +238,13 @@ fn is_refused<R: AllocGlobal + Threads + Wait + Sync>(
     let words = words_of(alloc, example.command)?;
     let bytes = bytes_of(alloc, example.input).ok()?;
     let mut input = MemoryInput::new(bytes.as_slice());
-    let mut output = MemoryOutput::new(alloc, 64).ok()?;
+    let mut output = MemoryOutput::new(alloc, 256).ok()?;
     answer(rt, alloc, words.as_slice(), &mut input, &mut output);
-    let line = output.as_slice().strip_suffix(b"\n")?;
-    let cause = example.line.strip_prefix("refused ")?;
+    let written = output.as_slice().strip_suffix(b"\n")?;
+    let (_, cause) = example.answer.split_once("refused ")?;
     let named = cause.split(' ').next()?;
-    Some(line == example.line.as_bytes() && named == code.name())
+    let alone = !cause.contains("refused ");
+    Some(written == example.answer.as_bytes() && named == code.name() && alone)
 }
 
 #[test]

@@ -8,6 +8,8 @@ use Rattle.pb_explain.specs.Names.{n1-entry, n2-entry, n3-entry, n4-entry, n6-en
 use Rattle.pb_explain.specs.Objects.{o1-entry, o2-entry, v1-entry, v2-entry, v3-entry, v4-entry, v5-entry, v6-entry}
 use Rattle.pb_explain.specs.Objects.{v7-entry, v8-entry, v9-entry}
 use Rattle.pb_explain.specs.Runs.{k1-entry, k2-entry, h1-entry, g1-entry, g2-entry, g3-entry, g4-entry}
+use Rattle.pb_explain.specs.Bank.{b1-entry, b2-entry, b3-entry, b4-entry, b5-entry, b6-entry, b7-entry, b8-entry}
+use Rattle.pb_explain.specs.Bank.{b9-entry, b10-entry, b11-entry, b12-entry, b13-entry}
 
 -- what there is to say of a code
 unfoldable pub entry_of : Code → Explanation
@@ -43,5 +45,18 @@ entry_of code.G1 = g1-entry
 entry_of code.G2 = g2-entry
 entry_of code.G3 = g3-entry
 entry_of code.G4 = g4-entry
+entry_of code.B1 = b1-entry
+entry_of code.B2 = b2-entry
+entry_of code.B3 = b3-entry
+entry_of code.B4 = b4-entry
+entry_of code.B5 = b5-entry
+entry_of code.B6 = b6-entry
+entry_of code.B7 = b7-entry
+entry_of code.B8 = b8-entry
+entry_of code.B9 = b9-entry
+entry_of code.B10 = b10-entry
+entry_of code.B11 = b11-entry
+entry_of code.B12 = b12-entry
+entry_of code.B13 = b13-entry
 entry_of code.Input = input-entry
 entry_of code.Output = output-entry

@@ -10,11 +10,11 @@ pub data PlainInput : Type 0 where
   Text : List ℕ → PlainInput
   Repeated : List ℕ → ℕ → PlainInput
 
--- the words of a call, what it reads, and its refusal line
+-- the words of a call, what it reads, and what it writes, without its last line feed
 pub record PlainExample : Type 0 where
   pub command : List ℕ
   pub input : PlainInput
-  pub line : List ℕ
+  pub answer : List ℕ
 
 -- the meaning in a few words, the meaning, an example, and what to do
 pub record Explanation : Type 0 where
@@ -33,7 +33,7 @@ abbrev pub plain_example : Example → PlainExample
 plain_example example = record {
   command = example.command.now;
   input = plain_input example.input;
-  line = example.line.now;
+  answer = example.answer.now;
 }
 
 -- an entry of the code's tables, as plain texts

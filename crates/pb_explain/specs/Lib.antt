@@ -1,3 +1,4 @@
+pub mod Bank
 pub mod Entries
 pub mod Explanation
 pub mod Names

@@ -25,7 +25,7 @@ n1-entry = record {
   example = Some (record {
     command = codes "check";
     input = Text n1-input;
-    line = codes "refused N1 fork";
+    answer = codes "refused N1 fork";
   });
   mend =
       codes "Let one process do the work of several in a loop, let one arm do the work of\n"
@@ -51,7 +51,7 @@ n2-entry = record {
   example = Some (record {
     command = codes "check";
     input = Text n2-input;
-    line = codes "refused N2 at 32";
+    answer = codes "refused N2 at 32";
   });
   mend =
       codes "Rename one of the two. Integers of different processes may share a name, and so\n"
@@ -77,7 +77,7 @@ n3-entry = record {
   example = Some (record {
     command = codes "check";
     input = Text n3-input;
-    line = codes "refused N3 at 18";
+    answer = codes "refused N3 at 18";
   });
   mend =
       codes "Declare it: an integer right behind the `begin` of its process, as in\n"
@@ -104,7 +104,7 @@ n4-entry = record {
   example = Some (record {
     command = codes "check";
     input = Text n4-input;
-    line = codes "refused N4 at 42";
+    answer = codes "refused N4 at 42";
   });
   mend =
       codes "Write an amount within these limits. A hold of nothing is left out, with its `do`\n"
@@ -130,7 +130,7 @@ n6-entry = record {
   example = Some (record {
     command = codes "check";
     input = Text n6-input;
-    line = codes "refused N6 at 58";
+    answer = codes "refused N6 at 58";
   });
   mend = codes "Add the amounts, as in `hold 2 of tape do`.";
 }
@@ -159,7 +159,7 @@ c1-entry = record {
   example = Some (record {
     command = codes "check";
     input = Text c1-input;
-    line = codes "refused C1 p tape claim 2 capital 1";
+    answer = codes "refused C1 p tape claim 2 capital 1";
   });
   mend =
       codes "Hold less, end one hold before the next begins, or raise the capital. `claims`\n"
@@ -186,7 +186,7 @@ e1-entry = record {
   example = Some (record {
     command = codes "emit --object 1";
     input = Text e1-input;
-    line = codes "refused E1";
+    answer = codes "refused E1";
   });
   mend =
       codes "Write the object in the second format, by `emit` alone, or use a hold inside a\n"

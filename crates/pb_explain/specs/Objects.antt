@@ -19,7 +19,7 @@ o1-entry = record {
   example = Some (record {
     command = codes "exec";
     input = Text o1-input;
-    line = codes "refused O1 at 6";
+    answer = codes "refused O1 at 6";
   });
   mend =
       codes "Let `emit` write objects, and `migrate` write those of the first format anew. If\n"
@@ -45,7 +45,7 @@ o2-entry = record {
   example = Some (record {
     command = codes "exec";
     input = Text o2-input;
-    line = codes "refused O2 at 6";
+    answer = codes "refused O2 at 6";
   });
   mend =
       codes "Let `emit` write objects. The ranges of all numbers are in docs/FORMATS.md, \"Object\n"
@@ -77,7 +77,7 @@ v1-entry = record {
   example = Some (record {
     command = codes "exec";
     input = Text v1-input;
-    line = codes "refused V1";
+    answer = codes "refused V1";
   });
   mend = codes "End each arm with `end`, and let jumps stay within the places of their arm.";
 }
@@ -108,7 +108,7 @@ v2-entry = record {
   example = Some (record {
     command = codes "exec";
     input = Text v2-input;
-    line = codes "refused V2";
+    answer = codes "refused V2";
   });
   mend =
       codes "Push what an instruction takes, and leave the same number of operands on each way\n"
@@ -141,7 +141,7 @@ v3-entry = record {
   example = Some (record {
     command = codes "exec";
     input = Text v3-input;
-    line = codes "refused V3";
+    answer = codes "refused V3";
   });
   mend = codes "Use a smaller number, or raise the number of integers in the line `vars`.";
 }
@@ -173,7 +173,7 @@ v4-entry = record {
   example = Some (record {
     command = codes "exec";
     input = Text v4-input;
-    line = codes "refused V4";
+    answer = codes "refused V4";
   });
   mend =
       codes "Let each `give` have the resources and amounts of the last `take` before it that is\n"
@@ -205,7 +205,7 @@ v5-entry = record {
   example = Some (record {
     command = codes "exec";
     input = Text v5-input;
-    line = codes "refused V5";
+    answer = codes "refused V5";
   });
   mend = codes "Print or store each operand, and give back what was taken, before the `end`.";
 }
@@ -238,7 +238,7 @@ v6-entry = record {
   example = Some (record {
     command = codes "exec";
     input = Text v6-input;
-    line = codes "refused V6";
+    answer = codes "refused V6";
   });
   mend = codes "Write each `fork` and its `join` as a pair, and start each arm by one of them.";
 }
@@ -271,7 +271,7 @@ v7-entry = record {
   example = Some (record {
     command = codes "exec";
     input = Text v7-input;
-    line = codes "refused V7";
+    answer = codes "refused V7";
   });
   mend = codes "Raise the claim in the line `claims`, or take less.";
 }
@@ -299,7 +299,7 @@ v8-entry = record {
   example = Some (record {
     command = codes "exec";
     input = Text v8-input;
-    line = codes "refused V8";
+    answer = codes "refused V8";
   });
   mend = codes "Lower the claim, or raise the capital in the line `resource`.";
 }

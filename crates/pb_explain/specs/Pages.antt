@@ -27,11 +27,11 @@ shell_text command (Text text) =
 shell_text command (Repeated repeated times) =
     repetition_text repeated times ++ codes "; echo print 1 end) | parbegin " ++ line command
 
--- a call that is refused, and its refusal line
+-- a call that is refused, and what it writes
 abbrev pub example_text : PlainExample → List ℕ
 example_text example =
     codes "\nFor example:\n\n" ++ shell_text example.command example.input
-    ++ codes "\nshows\n\n" ++ line example.line
+    ++ codes "\nshows\n\n" ++ line example.answer
 
 -- the same, if there is an example
 abbrev pub examples_text : Option PlainExample → List ℕ

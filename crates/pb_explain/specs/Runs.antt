@@ -22,7 +22,7 @@ k1-entry = record {
   example = Some (record {
     command = codes "replay";
     input = Text k1-input;
-    line = codes "refused K1 at 0";
+    answer = codes "refused K1 at 0";
   });
   mend =
       codes "The arms of a process have numbers in the order of the text, from 0, which is its\n"
@@ -45,7 +45,7 @@ k2-entry = record {
   example = Some (record {
     command = codes "replay";
     input = Text k2-input;
-    line = codes "refused K2";
+    answer = codes "refused K2";
   });
   mend = codes "Make fewer picks: record a shorter run, by `--steps`.";
 }
@@ -80,7 +80,7 @@ h1-entry = record {
   example = Some (record {
     command = codes "replay";
     input = Text h1-input;
-    line = codes "refused H1 at 1";
+    answer = codes "refused H1 at 1";
   });
   mend =
       codes "Leave the pick out, or make others before it. In `debug`, over the picks before this\n"
@@ -106,7 +106,7 @@ g1-entry = record {
   example = Some (record {
     command = codes "debug";
     input = Text g1-input;
-    line = codes "refused G1";
+    answer = codes "refused G1";
   });
   mend =
       codes "Positions go from 0 to the number of the picks. `next` and `prev` go to the events\n"
@@ -129,7 +129,7 @@ g2-entry = record {
   example = Some (record {
     command = codes "debug";
     input = Text g2-input;
-    line = codes "refused G2";
+    answer = codes "refused G2";
   });
   mend =
       codes "`loans` has the names of all processes, if there is a resource; else look at the\n"
@@ -152,7 +152,7 @@ g3-entry = record {
   example = Some (record {
     command = codes "debug";
     input = Text g3-input;
-    line = codes "refused G3";
+    answer = codes "refused G3";
   });
   mend = codes "`threads P` lists the arms of process P. Arm 0 is its body.";
 }
@@ -175,7 +175,7 @@ g4-entry = record {
   example = Some (record {
     command = codes "debug";
     input = Text g4-input;
-    line = codes "refused G4";
+    answer = codes "refused G4";
   });
   mend = codes "`help` lists the forms of all commands, and `vars P` the integers of process P.";
 }

@@ -12,7 +12,7 @@ l1-entry = record {
   example = Some (record {
     command = codes "check";
     input = Repeated (codes "print 1;") 10000;
-    line = codes "refused L1";
+    answer = codes "refused L1";
   });
   mend =
       codes "Shorten comments and blanks, write a loop in place of statements that are\n"
@@ -34,7 +34,7 @@ l2-entry = record {
   example = Some (record {
     command = codes "check";
     input = Text l2-input;
-    line = codes "refused L2 at 24";
+    answer = codes "refused L2 at 24";
   });
   mend =
       codes "Write `mod` for the remainder, `:=` to assign, `=` and `<>` to compare, and `//`\n"
@@ -56,7 +56,7 @@ l3-entry = record {
   example = Some (record {
     command = codes "check";
     input = Text l3-input;
-    line = codes "refused L3 at 22";
+    answer = codes "refused L3 at 22";
   });
   mend = codes "Write a smaller number. The least integer is -9223372036854775807 - 1.";
 }
@@ -78,7 +78,7 @@ l4-entry = record {
   example = Some (record {
     command = codes "check";
     input = Text l4-input;
-    line = codes "refused L4 at 26";
+    answer = codes "refused L4 at 26";
   });
   mend = codes "Shorten the name, at each of its uses too.";
 }
@@ -98,7 +98,7 @@ p1-entry = record {
   example = Some (record {
     command = codes "check";
     input = Text p1-input;
-    line = codes "refused P1 at 25";
+    answer = codes "refused P1 at 25";
   });
   mend =
       codes "Look at this offset, and just before it. A semicolon comes between statements, and\n"
@@ -130,7 +130,7 @@ p2-entry = record {
   example = Some (record {
     command = codes "check";
     input = Text p2-input;
-    line = codes "refused P2";
+    answer = codes "refused P2";
   });
   mend =
       codes "Assign a part to an integer, and use the integer in its place. A sum of more than\n"
@@ -147,7 +147,7 @@ p3-entry = record {
   example = Some (record {
     command = codes "check";
     input = Repeated (codes "print 1+1+1+1+1+1+1+1+1+1;") 900;
-    line = codes "refused P3";
+    answer = codes "refused P3";
   });
   mend = codes "Write a loop in place of statements that are repeated, or split the program.";
 }
@@ -162,7 +162,7 @@ input-entry = record {
   example = Some (record {
     command = codes "check";
     input = Repeated (codes "print 1;") 500000;
-    line = codes "refused input";
+    answer = codes "refused input";
   });
   mend =
       codes "Check the texts of a long input in several calls. Of a long run record fewer\n"
@@ -185,7 +185,7 @@ output-entry = record {
   example = Some (record {
     command = codes "record --seed 1";
     input = Text output-input;
-    line = codes "refused output";
+    answer = codes "refused output";
   });
   mend =
       codes "Record fewer steps, by `--steps`. Shorter names of processes help too, since each\n"

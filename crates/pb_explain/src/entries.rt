@@ -3,6 +3,7 @@ ghost use Rattle.std.specs.Prelude.{◌≡◌};
 ghost use Rattle.pb_explain.specs.Entries.{entry_of};
 ghost use Rattle.pb_explain.specs.Explanation.{plain_entry};
 
+mod bank;
 mod names;
 mod objects;
 mod runs;
@@ -31,8 +32,8 @@ pub struct Example {
     pub command: &'static str,
     /// What the call reads.
     pub input: ExampleInput,
-    /// The refusal line, without its line feed.
-    pub line: &'static str,
+    /// What the call writes, without its last line feed: the refusal line; of `bank` all answers, with it among them.
+    pub answer: &'static str,
 }
 
 /// What a call reads.
@@ -93,6 +94,19 @@ fn entry_at(code: Code) -> &'static Entry
         Code::G2 => &runs::G2,
         Code::G3 => &runs::G3,
         Code::G4 => &runs::G4,
+        Code::B1 => &bank::B1,
+        Code::B2 => &bank::B2,
+        Code::B3 => &bank::B3,
+        Code::B4 => &bank::B4,
+        Code::B5 => &bank::B5,
+        Code::B6 => &bank::B6,
+        Code::B7 => &bank::B7,
+        Code::B8 => &bank::B8,
+        Code::B9 => &bank::B9,
+        Code::B10 => &bank::B10,
+        Code::B11 => &bank::B11,
+        Code::B12 => &bank::B12,
+        Code::B13 => &bank::B13,
         Code::Input => &texts::INPUT,
         Code::Output => &texts::OUTPUT,
     }

@@ -81,14 +81,14 @@ fn put_call(text: &mut Vec<u8>, command: &str, input: ExampleInput) -> Result<()
     }
 }
 
-/// Appends a call that is refused to a text, with its refusal line.
+/// Appends a call that is refused to a text, with what it writes.
 fn put_example(text: &mut Vec<u8>, example: &Example) -> Result<(), NoMemory>
     ensures { OnOk result (text.new.items ≡ text.old.items ++ example_text (plain_example example.now)) }
 {
     text.extend_from_slice(b"\nFor example:\n\n")?;
     put_call(text, example.command, example.input)?;
     text.extend_from_slice(b"\nshows\n\n")?;
-    put_line(text, example.line)?;
+    put_line(text, example.answer)?;
     Ok(())
 }
 

@@ -20,7 +20,7 @@ begin
 end
 ",
         ),
-        line: "refused N1 fork",
+        answer: "refused N1 fork",
     }),
     mend: "Let one process do the work of several in a loop, let one arm do the work of
 several between `begin` and `end`, or use an integer again.",
@@ -40,7 +40,7 @@ begin
 end
 ",
         ),
-        line: "refused N2 at 32",
+        answer: "refused N2 at 32",
     }),
     mend: "Rename one of the two. Integers of different processes may share a name, and so
 may an integer, a resource and a process.",
@@ -60,7 +60,7 @@ begin
 end
 ",
         ),
-        line: "refused N3 at 18",
+        answer: "refused N3 at 18",
     }),
     mend: "Declare it: an integer right behind the `begin` of its process, as in
 `integer x;`, and a resource before the first process, as in
@@ -81,7 +81,7 @@ begin
 end
 ",
         ),
-        line: "refused N4 at 42",
+        answer: "refused N4 at 42",
     }),
     mend: "Write an amount within these limits. A hold of nothing is left out, with its `do`
 and `od`.",
@@ -101,7 +101,7 @@ begin
 end
 ",
         ),
-        line: "refused N6 at 58",
+        answer: "refused N6 at 58",
     }),
     mend: "Add the amounts, as in `hold 2 of tape do`.",
 };
@@ -125,7 +125,7 @@ begin
 end
 ",
         ),
-        line: "refused C1 p tape claim 2 capital 1",
+        answer: "refused C1 p tape claim 2 capital 1",
     }),
     mend: "Hold less, end one hold before the next begins, or raise the capital. `claims`
 shows the claims of all processes, whatever the capital is.",
@@ -146,7 +146,7 @@ begin
 end
 ",
         ),
-        line: "refused E1",
+        answer: "refused E1",
     }),
     mend: "Write the object in the second format, by `emit` alone, or use a hold inside a
 hold, one for each resource.",

@@ -14,7 +14,7 @@ spelling: single spaces, and no zeros before a number.",
 resources none
 ",
         ),
-        line: "refused O1 at 6",
+        answer: "refused O1 at 6",
     }),
     mend: "Let `emit` write objects, and `migrate` write those of the first format anew. If
 an object was changed by hand, look at this line: docs/FORMATS.md, \"Object text\",
@@ -34,7 +34,7 @@ over 4,194,304 bytes.",
 resources 17
 ",
         ),
-        line: "refused O2 at 6",
+        answer: "refused O2 at 6",
     }),
     mend: "Let `emit` write objects. The ranges of all numbers are in docs/FORMATS.md, \"Object
 text\".",
@@ -60,7 +60,7 @@ code 2
 0 print
 ",
         ),
-        line: "refused V1",
+        answer: "refused V1",
     }),
     mend: "End each arm with `end`, and let jumps stay within the places of their arm.",
 };
@@ -86,7 +86,7 @@ code 2
 0 end
 ",
         ),
-        line: "refused V2",
+        answer: "refused V2",
     }),
     mend: "Push what an instruction takes, and leave the same number of operands on each way
 to a place.",
@@ -113,7 +113,7 @@ code 3
 0 end
 ",
         ),
-        line: "refused V3",
+        answer: "refused V3",
     }),
     mend: "Use a smaller number, or raise the number of integers in the line `vars`.",
 };
@@ -140,7 +140,7 @@ code 2
 0 end
 ",
         ),
-        line: "refused V4",
+        answer: "refused V4",
     }),
     mend: "Let each `give` have the resources and amounts of the last `take` before it that is
 still open, on each way to it.",
@@ -166,7 +166,7 @@ code 2
 0 end
 ",
         ),
-        line: "refused V5",
+        answer: "refused V5",
     }),
     mend: "Print or store each operand, and give back what was taken, before the `end`.",
 };
@@ -194,7 +194,7 @@ code 3
 0 end
 ",
         ),
-        line: "refused V6",
+        answer: "refused V6",
     }),
     mend: "Write each `fork` and its `join` as a pair, and start each arm by one of them.",
 };
@@ -222,7 +222,7 @@ code 3
 0 end
 ",
         ),
-        line: "refused V7",
+        answer: "refused V7",
     }),
     mend: "Raise the claim in the line `claims`, or take less.",
 };
@@ -246,7 +246,7 @@ code 1
 0 end
 ",
         ),
-        line: "refused V8",
+        answer: "refused V8",
     }),
     mend: "Lower the claim, or raise the capital in the line `resource`.",
 };

@@ -17,7 +17,7 @@ there, `P.a print V`, and refuses them so.",
 p.1 1
 ",
         ),
-        line: "refused K1 at 0",
+        answer: "refused K1 at 0",
     }),
     mend: "The arms of a process have numbers in the order of the text, from 0, which is its
 body. Nothing but pick lines may follow the line `%%`, no empty line either.",
@@ -35,7 +35,7 @@ p.0 10000000
 p.0 1
 ",
         ),
-        line: "refused K2",
+        answer: "refused K2",
     }),
     mend: "Make fewer picks: record a shorter run, by `--steps`.",
 };
@@ -65,7 +65,7 @@ a.0 1
 b.0 1
 ",
         ),
-        line: "refused H1 at 1",
+        answer: "refused H1 at 1",
     }),
     mend: "Leave the pick out, or make others before it. In `debug`, over the picks before this
 one, `why` says why an arm does not go on.",
@@ -85,7 +85,7 @@ p.0 2
 to 3
 ",
         ),
-        line: "refused G1",
+        answer: "refused G1",
     }),
     mend: "Positions go from 0 to the number of the picks. `next` and `prev` go to the events
 that there are.",
@@ -103,7 +103,7 @@ pub static G2: Entry = Entry {
 vars q
 ",
         ),
-        line: "refused G2",
+        answer: "refused G2",
     }),
     mend: "`loans` has the names of all processes, if there is a resource; else look at the
 text. Capital letters count.",
@@ -121,7 +121,7 @@ pub static G3: Entry = Entry {
 line p.1
 ",
         ),
-        line: "refused G3",
+        answer: "refused G3",
     }),
     mend: "`threads P` lists the arms of process P. Arm 0 is its body.",
 };
@@ -139,7 +139,7 @@ not have. Commands have single spaces, and numbers of at most eight digits.",
 jump 3
 ",
         ),
-        line: "refused G4",
+        answer: "refused G4",
     }),
     mend: "`help` lists the forms of all commands, and `vars P` the integers of process P.",
 };

@@ -12,7 +12,7 @@ nothing else is looked at.",
             line: "print 1;",
             times: 10_000,
         },
-        line: "refused L1",
+        answer: "refused L1",
     }),
     mend: "Shorten comments and blanks, write a loop in place of statements that are
 repeated, or split the program.",
@@ -29,7 +29,7 @@ lone `:` or a lone `/`. Offsets are counted in bytes, from 0.",
             "process p begin print 7 % 2 end
 ",
         ),
-        line: "refused L2 at 24",
+        answer: "refused L2 at 24",
     }),
     mend: "Write `mod` for the remainder, `:=` to assign, `=` and `<>` to compare, and `//`
 before a comment. Accented letters and long dashes are not allowed in a comment
@@ -46,7 +46,7 @@ bits with a sign. The offset is that of its first digit.",
             "process p begin print 9223372036854775808 end
 ",
         ),
-        line: "refused L3 at 22",
+        answer: "refused L3 at 22",
     }),
     mend: "Write a smaller number. The least integer is -9223372036854775807 - 1.",
 };
@@ -64,7 +64,7 @@ begin
 end
 ",
         ),
-        line: "refused L4 at 26",
+        answer: "refused L4 at 26",
     }),
     mend: "Shorten the name, at each of its uses too.",
 };
@@ -80,7 +80,7 @@ it is the end of the last token.",
             "process p begin print 1; end
 ",
         ),
-        line: "refused P1 at 25",
+        answer: "refused P1 at 25",
     }),
     mend: "Look at this offset, and just before it. A semicolon comes between statements, and
 not behind the last one, as in the example; `fi`, `od`, `parend` or `end` may be
@@ -106,7 +106,7 @@ and an operator or a statement is one higher than its highest part.",
 1 end
 ",
         ),
-        line: "refused P2",
+        answer: "refused P2",
     }),
     mend: "Assign a part to an integer, and use the integer in its place. A sum of more than
 200 terms is too high as well: add it up in several statements.",
@@ -122,7 +122,7 @@ processes.",
             line: "print 1+1+1+1+1+1+1+1+1+1;",
             times: 900,
         },
-        line: "refused P3",
+        answer: "refused P3",
     }),
     mend: "Write a loop in place of statements that are repeated, or split the program.",
 };
@@ -137,7 +137,7 @@ and of the pick lines, each by itself.",
             line: "print 1;",
             times: 500_000,
         },
-        line: "refused input",
+        answer: "refused input",
     }),
     mend: "Check the texts of a long input in several calls. Of a long run record fewer
 steps, by `--steps`.",
@@ -154,7 +154,7 @@ pub static OUTPUT: Entry = Entry {
 process the_second_of_two_processes begin while 1 do skip od end
 ",
         ),
-        line: "refused output",
+        answer: "refused output",
     }),
     mend: "Record fewer steps, by `--steps`. Shorter names of processes help too, since each
 pick line has one.",

@@ -130,6 +130,58 @@ pub returns-in-G4 : goal.returns-in-G4
 unfolding entry_of
 returns-in-G4 c = ap entry_of (sym c.in-G4.is)
 
+pub returns-in-B1 : goal.returns-in-B1
+unfolding entry_of
+returns-in-B1 c = ap entry_of (sym c.in-B1.is)
+
+pub returns-in-B2 : goal.returns-in-B2
+unfolding entry_of
+returns-in-B2 c = ap entry_of (sym c.in-B2.is)
+
+pub returns-in-B3 : goal.returns-in-B3
+unfolding entry_of
+returns-in-B3 c = ap entry_of (sym c.in-B3.is)
+
+pub returns-in-B4 : goal.returns-in-B4
+unfolding entry_of
+returns-in-B4 c = ap entry_of (sym c.in-B4.is)
+
+pub returns-in-B5 : goal.returns-in-B5
+unfolding entry_of
+returns-in-B5 c = ap entry_of (sym c.in-B5.is)
+
+pub returns-in-B6 : goal.returns-in-B6
+unfolding entry_of
+returns-in-B6 c = ap entry_of (sym c.in-B6.is)
+
+pub returns-in-B7 : goal.returns-in-B7
+unfolding entry_of
+returns-in-B7 c = ap entry_of (sym c.in-B7.is)
+
+pub returns-in-B8 : goal.returns-in-B8
+unfolding entry_of
+returns-in-B8 c = ap entry_of (sym c.in-B8.is)
+
+pub returns-in-B9 : goal.returns-in-B9
+unfolding entry_of
+returns-in-B9 c = ap entry_of (sym c.in-B9.is)
+
+pub returns-in-B10 : goal.returns-in-B10
+unfolding entry_of
+returns-in-B10 c = ap entry_of (sym c.in-B10.is)
+
+pub returns-in-B11 : goal.returns-in-B11
+unfolding entry_of
+returns-in-B11 c = ap entry_of (sym c.in-B11.is)
+
+pub returns-in-B12 : goal.returns-in-B12
+unfolding entry_of
+returns-in-B12 c = ap entry_of (sym c.in-B12.is)
+
+pub returns-in-B13 : goal.returns-in-B13
+unfolding entry_of
+returns-in-B13 c = ap entry_of (sym c.in-B13.is)
+
 pub returns-in-Input : goal.returns-in-Input
 unfolding entry_of
 returns-in-Input c = ap entry_of (sym c.in-Input.is)
