@@ -1,0 +1,120 @@
+"""A conversation with the command `bank`: a line goes to it, and its answer is read up to the line `ready`."""
+from __future__ import annotations
+
+import os
+import subprocess
+
+from .answers import CLOSED, Ended, Fault
+
+# Seconds that a program has to end in when its input has ended.
+GRACE = 5
+
+
+def is_whole(told: list[bytes]) -> bool:
+    """Returns whether an answer has been read up to its last line."""
+    return b"".join([b"\n", *told]).endswith(b"\nready\n")
+
+
+class Pipes:
+    """A program that answers commands.
+
+    It has a session of its own, so that what a terminal sends to the runner (at Ctrl-C, say) does not end it. It ends with
+    its input, and so with its runner.
+    """
+
+    def __init__(self, program: str) -> None:
+        self.ended = ""
+        # What was written of the command that is not answered yet, and what was read of its answer.
+        self.open: tuple[list[int], list[bytes]] | None = None
+        try:
+            self.process = subprocess.Popen(
+                [program, "bank"], bufsize=0, stdin=subprocess.PIPE, stdout=subprocess.PIPE, start_new_session=True)
+        except OSError as fault:
+            raise Fault(f"{program} could not be started: {fault.strerror}") from fault
+        assert self.process.stdin is not None and self.process.stdout is not None
+        self.given, self.told = self.process.stdin, self.process.stdout
+
+    def check(self) -> None:
+        """Raises Ended if the program has ended."""
+        if not self.ended and self.process.poll() is not None:
+            self.end(self.how_it_ended())
+        if self.ended:
+            raise Ended(self.ended)
+
+    def say(self, command: str) -> list[str]:
+        """Sends a command, and returns the lines of its answer. No other answer may be left to read."""
+        written, _ = self.open = [], []
+        try:
+            # (in one step: an interrupt comes before the line is written, or after it was noted that it is)
+            written.extend(map(os.write, (self.given.fileno(),), (command.encode() + b"\n",)))
+        except (OSError, ValueError):
+            raise self.break_off() from None
+        return self.answer()
+
+    def answer(self) -> list[str]:
+        """Reads the answer, or what is left of it, and returns its lines."""
+        assert self.open is not None
+        _, told = self.open
+        while not is_whole(told):
+            try:
+                told.extend(map(os.read, (self.told.fileno(),), (65_536,)))
+            except (OSError, ValueError):
+                raise self.break_off() from None
+            if not told[-1]:
+                raise self.break_off(b"".join(told).decode(errors="replace"))
+        self.open = None
+        return b"".join(told).decode(errors="replace").split("\n")[:-2]
+
+    def catch_up(self) -> None:
+        """Reads the answer that an interrupted call has left, if there is one."""
+        if self.open is not None and self.open[0]:
+            self.answer()
+        self.open = None
+
+    def how_it_ended(self) -> str:
+        """Says how the program ended."""
+        status = self.process.returncode
+        if status is None:
+            return "the program of the bank has closed its end of a pipe"
+        if status < 0:
+            return f"the program of the bank has ended, by signal {-status}"
+        return f"the program of the bank has ended, with status {status}"
+
+    def break_off(self, told: str = "") -> Ended:
+        """Ends the conversation, and returns the error that says why."""
+        if not self.ended:
+            self.stop()
+            self.end(self.how_it_ended() + (f": {told.strip()}" if told.strip() else ""))
+        return Ended(self.ended)
+
+    def refuse(self, told: str) -> Ended:
+        """Ends the conversation since an answer is none, and returns the error that says so."""
+        self.end(f"the program of the bank gives answers that are none: {told}")
+        self.stop()
+        return Ended(self.ended)
+
+    def end(self, why: str) -> None:
+        """Notes why there is no more conversation, and closes the pipes."""
+        self.ended, self.open = why, None
+        for pipe in (self.given, self.told):
+            pipe.close()
+
+    def stop(self, grace: float = GRACE) -> None:
+        """Waits until the program has ended, which its end of input tells it to do, or ends it."""
+        self.given.close()
+        try:
+            self.process.wait(grace)
+        except subprocess.TimeoutExpired:
+            self.process.kill()
+            self.process.wait()
+
+    def close(self) -> None:
+        """Ends the program."""
+        if not self.ended:
+            self.end(CLOSED)
+        self.stop()
+
+    def leave(self) -> None:
+        """Closes the pipes of a forked process, whose parent goes on with the conversation."""
+        self.end("the bank is that of the process that opened it")
+        self.process.returncode = 0
