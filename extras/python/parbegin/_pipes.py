@@ -1,8 +1,11 @@
 """A conversation with the command `bank`: a line goes to it, and its answer is read up to the line `ready`."""
 from __future__ import annotations
 
+import contextlib
 import os
+import signal
 import subprocess
+import time
 
 from .answers import CLOSED, Ended, Fault
 
@@ -36,7 +39,7 @@ class Pipes:
 
     def check(self) -> None:
         """Raises Ended if the program has ended."""
-        if not self.ended and self.process.poll() is not None:
+        if not self.ended and self.has_ended():
             self.end(self.how_it_ended())
         if self.ended:
             raise Ended(self.ended)
@@ -71,14 +74,25 @@ class Pipes:
             self.answer()
         self.open = None
 
+    def has_ended(self) -> bool:
+        """Returns whether the program has ended. (The `poll` of subprocess has a lock, which an interrupt may leave closed.)"""
+        if self.process.returncode is None:
+            try:
+                ended, status = os.waitpid(self.process.pid, os.WNOHANG)
+            except ChildProcessError:
+                # (somebody else has waited for it)
+                self.process.returncode = 0
+            else:
+                self.process.returncode = os.waitstatus_to_exitcode(status) if ended else None
+        return self.process.returncode is not None
+
     def how_it_ended(self) -> str:
         """Says how the program ended."""
         status = self.process.returncode
         if status is None:
             return "the program of the bank has closed its end of a pipe"
-        if status < 0:
-            return f"the program of the bank has ended, by signal {-status}"
-        return f"the program of the bank has ended, with status {status}"
+        how = f", with status {status}" if status > 0 else f", by signal {-status}" if status else ""
+        return f"the program of the bank has ended{how}"
 
     def break_off(self, told: str = "") -> Ended:
         """Ends the conversation, and returns the error that says why."""
@@ -99,14 +113,28 @@ class Pipes:
         for pipe in (self.given, self.told):
             pipe.close()
 
-    def stop(self, grace: float = GRACE) -> None:
-        """Waits until the program has ended, which its end of input tells it to do, or ends it."""
+    def stop(self) -> None:
+        """Waits until the program has ended, which the end of its input tells it to do, or ends it."""
         self.given.close()
-        try:
-            self.process.wait(grace)
-        except subprocess.TimeoutExpired:
-            self.process.kill()
-            self.process.wait()
+        if not self.ends_in(GRACE):
+            self.kill()
+            self.ends_in(GRACE)
+
+    def ends_in(self, seconds: float) -> bool:
+        """Waits for the end of the program, and returns whether it came in time."""
+        late, pause = time.monotonic() + seconds, 0.0005
+        while not self.has_ended():
+            if time.monotonic() > late:
+                return False
+            time.sleep(pause)
+            pause = min(2 * pause, 0.05)
+        return True
+
+    def kill(self) -> None:
+        """Ends the program, wherever it is."""
+        if self.process.returncode is None:
+            with contextlib.suppress(ProcessLookupError):
+                os.kill(self.process.pid, signal.SIGKILL)
 
     def close(self) -> None:
         """Ends the program."""

@@ -4,6 +4,7 @@ from __future__ import annotations
 import os
 import shutil
 import subprocess
+import weakref
 from collections.abc import Iterable, Sequence
 
 from ._pipes import Pipes
@@ -48,6 +49,8 @@ class ProgramBank:
         self.resources = len(capital)
         self.jobs: set[int] = set()
         self.pipes = Pipes(program)
+        # (else the pipes of a bank that nobody has any more would stay open as long as its program has not ended)
+        weakref.finalize(self, self.pipes.close)
         try:
             for resource, amount in enumerate(capital):
                 self.say(f"resource {resource} {amount}")
@@ -162,7 +165,7 @@ class ProgramBank:
         self.jobs = {int(line[1]) for line in self.say("state") if line[0] == "job"}
 
     def kill(self) -> None:
-        self.pipes.process.kill()
+        self.pipes.kill()
 
     def close(self) -> None:
         self.pipes.close()
