@@ -16,8 +16,8 @@ from parbegin import Answer, Bank, Ended
 PROGRAM = os.environ.get("PARBEGIN_TEST_PROGRAM")
 SECONDS = float(os.environ.get("PARBEGIN_TEST_SECONDS", "3"))
 THREADS, CAPITAL = 16, [6, 4, 3]
-# Seconds in which a wish is granted, since the other jobs go on.
-PATIENCE = 10.0
+# Seconds in which every wish is granted once no new jobs come. (While they come, a large wish may wait on.)
+PATIENCE = 20.0
 
 
 class Night:
@@ -88,7 +88,7 @@ class Job(threading.Thread):
         answer = self.night.bank.want(job, wish)
         if answer is Answer.NOT_NOW:
             self.waits += 1
-            if not woken.wait(PATIENCE):
+            if not woken.wait(self.night.ends + PATIENCE - time.monotonic()):
                 raise AssertionError(f"job {job} waits for ever")
         elif answer is not Answer.GRANTED:
             raise AssertionError(f"{answer} to a wish within the claim")
@@ -118,7 +118,7 @@ class Threads(unittest.TestCase):
         for job in jobs:
             job.start()
         for job in jobs:
-            job.join(max(0.0, night.ends + 2 * PATIENCE - time.monotonic()))
+            job.join(max(0.0, night.ends + PATIENCE + 5 - time.monotonic()))
         stuck = sum(job.is_alive() for job in jobs)
         if stuck:
             night.fail(f"{stuck} threads have not come back from a call")
