@@ -9,16 +9,16 @@ import sys
 from types import ModuleType
 
 from script.building import Build, Failed
-from script.crates import Crates, sources
+from script.crates import Crates, sources, with_those_below
 from script.helping import HELPFUL, write
 from script.kept import take_libraries
 from script.places import DEVICE, TOP, WORDS, is_installed, say, stop
 from script.program import wait_for_others
-from script.sums import Mark, Marks, are_same, marks_of
+from script.sums import sum_of
 
 # The crates whose archives the library is made of.
 ARCHIVES = ("pb_c_bank", "pb_c_call")
-# What they were built from, as script/sums.py has it of the program.
+# The sums of what they were built from, and of themselves.
 RECORD = f"{TOP}/crates/{ARCHIVES[-1]}/out/library_built_from.json"
 USE = "usage: parbegin library FOLDER"
 HELP = """Build the library for C, and for whatever calls C: libparbegin.a, libparbegin.so, parbegin.h and parbegin.pc
@@ -85,62 +85,39 @@ def archive(crate: str) -> str:
     return f"{TOP}/crates/{crate}/out/lib{crate}.a"
 
 
-def crates_of_library() -> Crates:
-    """Returns the crates that the library is made of, each with those that it depends on."""
-    listed = {}
-    with open(f"{TOP}/crates.txt", encoding="utf-8") as lines:
-        for line in lines:
-            head, colon, below = line.partition("#")[0].partition(":")
-            if colon:
-                listed[head.split()[0]] = below.split()
-    found: Crates = {}
-    left = list(ARCHIVES)
-    while left:
-        crate = left.pop()
-        if crate not in found:
-            # a library that is not listed is the kit's
-            found[crate] = [it for it in listed[crate] if it in listed]
-            left += found[crate]
-    return found
+def sums(files: list[str]) -> dict[str, str]:
+    """Returns the sums of the contents of these files."""
+    return {file: sum_of(file) for file in files}
 
 
-def files(crates: Crates) -> list[str]:
-    """Returns the paths below the top of what the archives are made from, and of the archives."""
-    return [*sources(crates), *(os.path.relpath(archive(crate), TOP) for crate in ARCHIVES)]
-
-
-def read_record() -> Marks:
-    """Returns what was recorded when the archives were built; nothing if they were not."""
-    try:
-        with open(RECORD, encoding="utf-8") as file:
-            return {name: Mark(*mark) for name, mark in json.load(file).items()}
-    except (OSError, ValueError, TypeError, AttributeError):
-        return {}
+def made_from(crates: Crates) -> dict[str, str]:
+    """Returns the sums of what the archives are made from, and of the archives."""
+    return sums([*sources(crates), *(os.path.relpath(archive(crate), TOP) for crate in ARCHIVES)])
 
 
 def are_built(crates: Crates) -> bool:
     """Returns whether the archives are there, and neither they nor a source have other contents than when they were built."""
-    before = read_record()
     try:
-        return are_same(before, marks_of(files(crates), before))
-    except OSError:
+        with open(RECORD, encoding="utf-8") as file:
+            return json.load(file) == made_from(crates)
+    except (OSError, ValueError):
         return False
 
 
 def build_archives() -> None:
     """Builds the archives, which proves them, unless they are there as their sources are."""
-    crates = crates_of_library()
+    crates = with_those_below(ARCHIVES)
     with open(f"{TOP}/crates.txt", "rb") as lock:
         wait_for_others(lock)
         if are_built(crates):
             say("the crates of the library are built already")
             return
-        before = marks_of(sources(crates))
+        before = sums(sources(crates))
         prove(crates)
-        built = marks_of(files(crates))
-        if are_same(before, {name: built[name] for name in before}):
+        made = made_from(crates)
+        if before.items() <= made.items():
             with open(RECORD, "w", encoding="utf-8") as file:
-                json.dump(built, file, indent=0)
+                json.dump(made, file, indent=0)
 
 
 def prove(crates: Crates) -> None:
