@@ -9,6 +9,7 @@ import sys
 import tempfile
 import time
 import unittest
+import unittest.mock
 from collections.abc import Callable
 from pathlib import Path
 
@@ -146,8 +147,9 @@ class Ends(unittest.TestCase):
     def test_close_ends_a_program_that_answers_nothing(self) -> None:
         bank = self.open([2])
         process = bank._bank.pipes.process
-        process.send_signal(signal.SIGSTOP)
-        bank.close()
+        os.kill(process.pid, signal.SIGSTOP)
+        with unittest.mock.patch("parbegin._pipes.GRACE", 0.2):
+            bank.close()
         self.assertEqual(process.returncode, -signal.SIGKILL)
 
     def test_programs_that_are_none(self) -> None:

@@ -1,6 +1,7 @@
 """Sixteen threads in one bank, by `python3 -m unittest`: each calls as it likes, and none waits for ever.
 
-With PARBEGIN_TEST_PROGRAM the bank is asked through pipes. PARBEGIN_TEST_SECONDS is how long the threads go on.
+With PARBEGIN_TEST_PROGRAM the bank is asked through pipes. PARBEGIN_TEST_SECONDS is how long new jobs come, and
+PARBEGIN_TEST_PATIENCE how many seconds the last ones have to end in.
 """
 from __future__ import annotations
 
@@ -17,7 +18,7 @@ PROGRAM = os.environ.get("PARBEGIN_TEST_PROGRAM")
 SECONDS = float(os.environ.get("PARBEGIN_TEST_SECONDS", "3"))
 THREADS, CAPITAL = 16, [6, 4, 3]
 # Seconds in which every wish is granted once no new jobs come. (While they come, a large wish may wait on.)
-PATIENCE = 20.0
+PATIENCE = float(os.environ.get("PARBEGIN_TEST_PATIENCE", "20"))
 
 
 class Night:
@@ -118,7 +119,7 @@ class Threads(unittest.TestCase):
         for job in jobs:
             job.start()
         for job in jobs:
-            job.join(max(0.0, night.ends + PATIENCE + 5 - time.monotonic()))
+            job.join(max(0.0, night.ends + PATIENCE + 1 - time.monotonic()))
         stuck = sum(job.is_alive() for job in jobs)
         if stuck:
             night.fail(f"{stuck} threads have not come back from a call")
