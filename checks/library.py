@@ -39,7 +39,8 @@ class Checkout:
 
     def __init__(self, folder: pathlib.Path) -> None:
         self.folder, self.top, self.calls = folder, folder / "top", folder / "calls"
-        self.where = {**os.environ, "PATH": f"{folder}/bin:{os.environ['PATH']}", "CALLS": str(self.calls), "STUBS": f"{folder}/stubs"}
+        path = f"{folder}/bin:{os.environ['PATH']}"
+        self.where = {**os.environ, "PATH": path, "CALLS": str(self.calls), "STUBS": f"{folder}/stubs"}
 
     def run(self, *words: str, fails: str = "") -> tuple[int, str, list[str]]:
         """Calls the script, and returns its status, what it wrote, and the crates that it built."""
@@ -103,7 +104,8 @@ def try_words(tally: Tally, it: Checkout) -> None:
 def try_builds(tally: Tally, it: Checkout, into: pathlib.Path) -> None:
     """Tries when crates are built, and what is told meanwhile."""
     status, told, built = it.run("library", str(into), fails="pb_c_bank")
-    tally.expect(status == NO_PROGRAM and "no proof of pb_c_bank" in told and not list(into.iterdir()), "a proof that fails", told)
+    is_told = status == NO_PROGRAM and "no proof of pb_c_bank" in told
+    tally.expect(is_told and not list(into.iterdir()), "a proof that fails", told)
     status, told, built = it.run("library", str(into))
     tally.expect(status == DONE and sorted(built) == sorted(CRATES), "the first call", status, told, built)
     tally.expect("0 of 4 crates are done" in told and "3 of 4 crates are done" in told, "how far it is", told)
@@ -129,7 +131,8 @@ def try_pkg_config(tally: Tally, it: Checkout, into: pathlib.Path, files: pathli
     source, program = it.folder / "caller.c", it.folder / "caller"
     source.write_text(CALLER)
     there = {**os.environ, "PKG_CONFIG_PATH": str(files)}
-    said = subprocess.run(["pkg-config", "--cflags", "--libs", "parbegin"], env=there, capture_output=True, text=True, check=False)
+    asked = ["pkg-config", "--cflags", "--libs", "parbegin"]
+    said = subprocess.run(asked, env=there, capture_output=True, text=True, check=False)
     words = ["gcc", source, *shlex.split(said.stdout), "-o", program]
     ran = subprocess.run(words, cwd="/", capture_output=True, text=True, check=False)
     tally.expect(ran.returncode == 0, "pkg-config in", files, said.stdout, said.stderr, ran.stderr)

@@ -56,7 +56,8 @@ def through_pipes(program: Path) -> dict[str, str]:
 def tested(package: Path, where: dict[str, str], *tests: str) -> tuple[bool, str]:
     """Runs tests of the package in this folder, and returns whether they passed, with what they wrote."""
     words = [sys.executable, "-m", "unittest", "-q", *tests]
-    ran = subprocess.run(words, cwd=package, env=where, stdout=subprocess.PIPE, stderr=subprocess.STDOUT, text=True, check=False)
+    how = {"stdout": subprocess.PIPE, "stderr": subprocess.STDOUT, "text": True}
+    ran = subprocess.run(words, cwd=package, env=where, check=False, **how)
     return ran.returncode == 0, ran.stdout
 
 

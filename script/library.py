@@ -63,8 +63,11 @@ def library(words: list[str]) -> int:
 
 def is_usable(folder: str) -> bool:
     """Returns whether files can be written to a folder; if not, standard error says why."""
+    if not os.path.exists(folder):
+        say(f"no such folder: {folder}. Nothing is built for it: mkdir -p makes it")
+        return False
     if not os.path.isdir(folder):
-        say(f"{folder} is not a folder" if os.path.exists(folder) else f"no such folder: {folder}. Nothing is built for it: mkdir -p makes it")
+        say(f"{folder} is not a folder")
         return False
     if not os.access(folder, os.W_OK | os.X_OK):
         say(f"{folder}: no file may be written there")

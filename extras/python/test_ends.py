@@ -1,4 +1,7 @@
-"""How banks end, and what does not end them, by `python3 -m unittest`. With PARBEGIN_TEST_PROGRAM the bank is asked through pipes."""
+"""How banks end, and what does not end them, by `python3 -m unittest`.
+
+With PARBEGIN_TEST_PROGRAM the bank is asked through pipes.
+"""
 from __future__ import annotations
 
 import os
@@ -66,9 +69,9 @@ class Raised(Exception):
 def calls_of(bank: Bank) -> list[Callable[[], object]]:
     """Returns a call of each kind."""
     return [
-        lambda: bank.join([1]), lambda: bank.leave(0), lambda: bank.ask(0, [1]), lambda: bank.want(0, [1]), lambda: bank.drop(0),
-        bank.wishes, lambda: bank.give(0, [1]), lambda: bank.drop_all(0), bank.order, lambda: bank.why(0, [1]), bank.capital, bank.cash,
-        lambda: bank.loans(0), lambda: bank.claims(0), bank.to_bytes,
+        lambda: bank.join([1]), lambda: bank.leave(0), lambda: bank.ask(0, [1]), lambda: bank.want(0, [1]),
+        lambda: bank.drop(0), bank.wishes, lambda: bank.give(0, [1]), lambda: bank.drop_all(0), bank.order,
+        lambda: bank.why(0, [1]), bank.capital, bank.cash, lambda: bank.loans(0), lambda: bank.claims(0), bank.to_bytes,
     ]
 
 
@@ -153,11 +156,15 @@ class Ends(unittest.TestCase):
         self.assertEqual(process.returncode, -signal.SIGKILL)
 
     def test_programs_that_are_none(self) -> None:
-        for program, kind in (("/bin/false", Ended), ("/bin/true", Ended), ("/nowhere/parbegin", Fault), ("/etc/passwd", Fault)):
+        for program, kind in (
+            ("/bin/false", Ended), ("/bin/true", Ended), ("/nowhere/parbegin", Fault), ("/etc/passwd", Fault),
+        ):
             self.assertRaises(kind, Bank, [1], program)
 
     def test_a_refusal_is_no_answer(self) -> None:
-        for answer, said in (("refused B12 the job has a wish", "has a wish"), ("refused B5 no such job 0", "no such job"), ("refused X9 what", "X9")):
+        for answer, said in (
+            ("refused B12 the job has a wish", "has a wish"), ("refused B5 no such job 0", "no such job"), ("refused X9 what", "X9"),
+        ):
             bank = self.answering(answer + "\n")
             for call in (bank.ask, bank.want):
                 with self.assertRaisesRegex(Fault, said) as caught:
@@ -237,7 +244,8 @@ class Interrupts(unittest.TestCase):
         for _ in range(200):
             bank.drop_all(0)
             bank.ask(0, [1, 2])
-            call = drawn.choice((lambda: bank.ask(0, [1, 1]), lambda: bank.give(0, [1, 0]), lambda: bank.drop_all(0), bank.order))
+            calls = (lambda: bank.ask(0, [1, 1]), lambda: bank.give(0, [1, 0]), lambda: bank.drop_all(0), bank.order)
+            call = drawn.choice(calls)
             interrupts += self.interrupted(call, drawn) is None
             held = bank.loans(0)
             self.assertIn(held, ([1, 2], [2, 3], [0, 2], [0, 0]))

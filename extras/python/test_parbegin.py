@@ -105,9 +105,10 @@ class Banks(unittest.TestCase):
         bank.join([2])
         for wrong in (1.0, "1", b"1", True, None, [1], 1j):
             for call in (
-                lambda it: Bank([it], PROGRAM), lambda it: bank.join([it]), lambda it: bank.ask(0, [it]), lambda it: bank.want(0, [it]),
-                lambda it: bank.give(0, [it]), lambda it: bank.why(0, [it]), lambda it: bank.ask(it, [1]), lambda it: bank.want(it, [1]),
-                lambda it: bank.give(it, [1]), lambda it: bank.why(it, [1]), bank.leave, bank.drop, bank.drop_all, bank.loans, bank.claims,
+                lambda it: Bank([it], PROGRAM), lambda it: bank.join([it]), lambda it: bank.ask(0, [it]),
+                lambda it: bank.want(0, [it]), lambda it: bank.give(0, [it]), lambda it: bank.why(0, [it]),
+                lambda it: bank.ask(it, [1]), lambda it: bank.want(it, [1]), lambda it: bank.give(it, [1]),
+                lambda it: bank.why(it, [1]), bank.leave, bank.drop, bank.drop_all, bank.loans, bank.claims,
             ):
                 self.assertRaises(TypeError, call, wrong)
         for wrong in ("1", b"1", 1, None):
@@ -122,8 +123,10 @@ class Banks(unittest.TestCase):
             self.assertEqual(bank.ask(0, [large, 0]), Answer.OVER_CLAIM)
             self.assertEqual(bank.why(0, [large, 2]), Reason("over claim", 0))
             self.assertEqual(bank.why(0, [0, large]), Reason("over claim", 1))
-            for wrong in (lambda: bank.give(0, [large, 0]), lambda: bank.join([large, 0]), lambda: bank.leave(large), lambda: bank.loans(large)):
-                self.assertRaises(Fault, wrong)
+            self.assertRaises(Fault, bank.give, 0, [large, 0])
+            self.assertRaises(Fault, bank.join, [large, 0])
+            self.assertRaises(Fault, bank.leave, large)
+            self.assertRaises(Fault, bank.loans, large)
         self.assertEqual((bank.cash(), bank.order()), ([1_000_000, 2], [0]))
 
     @unittest.skipIf(PROGRAM, "a bank in the program has no bytes")
@@ -137,9 +140,10 @@ class Banks(unittest.TestCase):
         self.assertEqual(Bank.from_bytes(bytearray(saved)).to_bytes(), saved)
         half = len(saved) // 2
         for wrong, said in (
-            (bytes(len(saved)), "magic word"), (bytes(8_464), "magic word"), (b"", "magic word"), (b"\xff" * len(saved), "magic word"),
-            (saved[20:], "magic word"), (saved[:7], "cut off"), (saved[:20], "not whole"), (saved[:-1], "not whole"), (saved + b"\0", "not whole"),
-            (saved[:8] + b"\2" + saved[9:], "version 2"), (saved[:half] + bytes(len(saved) - half), "damaged"),
+            (bytes(len(saved)), "magic word"), (bytes(8_464), "magic word"), (b"", "magic word"),
+            (b"\xff" * len(saved), "magic word"), (saved[20:], "magic word"), (saved[:7], "cut off"), (saved[:20], "not whole"),
+            (saved[:-1], "not whole"), (saved + b"\0", "not whole"), (saved[:8] + b"\2" + saved[9:], "version 2"),
+            (saved[:half] + bytes(len(saved) - half), "damaged"),
             (empty[:half] + saved[half:], "damaged"), (saved[:20] + bytes(len(saved) - 20), "damaged"),
         ):
             with self.assertRaisesRegex(Fault, said):

@@ -6,6 +6,8 @@ from collections.abc import Iterable
 
 from .answers import MAX_JOBS, NEGATIVE, NO_REQUEST, Fault
 
+ALL_INTEGERS = {int}
+
 
 def number_of(given: int) -> int:
     """Returns an integer as it is. Raises TypeError for anything else: floats, texts, and bools too."""
@@ -28,7 +30,9 @@ def amounts_of(amounts: Iterable[int]) -> list[int]:
     """Returns the amounts. Raises TypeError if they are not integers, and Fault if one is negative."""
     if isinstance(amounts, (str, bytes, bytearray)):
         raise TypeError(f"{amounts!r} are no amounts: a list of integers is wanted, one for each resource")
-    row = [number_of(amount) for amount in amounts]
+    row = list(amounts)
+    if not ALL_INTEGERS.issuperset(map(type, row)):
+        row = [number_of(amount) for amount in row]
     if row and min(row) < 0:
         raise Fault(NEGATIVE)
     return row

@@ -9,7 +9,8 @@ from collections.abc import Iterable, Sequence
 
 from ._pipes import Pipes
 from .answers import (
-    FULL, MAX_AMOUNT, MAX_JOBS, MAX_RESOURCES, NO_BANK, NO_REQUEST, NOT_HELD, OVER_CAPITAL, REFUSALS, Answer, Fault, Reason, Reply,
+    FULL, MAX_AMOUNT, MAX_JOBS, MAX_RESOURCES, NO_BANK, NO_REQUEST, NOT_HELD, OVER_CAPITAL, REFUSALS, Answer, Fault, Reason,
+    Reply,
 )
 
 # By the first word of the answer to a request.
