@@ -27,7 +27,11 @@ def find() -> str:
 
 def call(words: Sequence[str], given: bytes) -> Reply:
     """Calls the program with these words and this input."""
-    ran = subprocess.run([find(), *words], input=given, stdout=subprocess.PIPE, stderr=subprocess.DEVNULL, check=False)
+    program = find()
+    try:
+        ran = subprocess.run([program, *words], input=given, stdout=subprocess.PIPE, stderr=subprocess.DEVNULL, check=False)
+    except OSError as fault:
+        raise Fault(f"{program} could not be started: {fault.strerror}") from fault
     return Reply(ran.returncode, ran.stdout.decode(errors="replace"))
 
 
