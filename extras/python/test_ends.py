@@ -62,8 +62,8 @@ time.sleep(60)
 """
 
 
-class Raised(Exception):
-    """What the handler of a signal raises."""
+class Raised(TimeoutError):
+    """What the handler of a signal raises: an OSError, as a broken pipe is."""
 
 
 def calls_of(bank: Bank) -> list[Callable[[], object]]:
@@ -287,6 +287,13 @@ class Interrupts(unittest.TestCase):
                 bank.leave(job)
             self.assertEqual((bank.cash(), bank.wishes()), ([4, 4], []))
         self.assertGreater(interrupts, 20)
+
+    def test_a_handler_may_close(self) -> None:
+        signal.signal(signal.SIGALRM, lambda *_: self.bank.close())
+        signal.setitimer(signal.ITIMER_REAL, 5e-3)
+        with self.assertRaises(Ended):
+            while True:
+                self.bank.order()
 
     def test_a_handler_that_calls_does_not_wait_for_itself(self) -> None:
         bank, said = self.bank, []

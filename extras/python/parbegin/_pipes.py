@@ -2,6 +2,7 @@
 from __future__ import annotations
 
 import contextlib
+import errno
 import os
 import signal
 import subprocess
@@ -46,23 +47,23 @@ class Pipes:
 
     def say(self, command: str) -> list[str]:
         """Sends a command, and returns the lines of its answer. No other answer may be left to read."""
-        written, _ = self.open = [], []
+        written, told = self.open = [], []
         try:
             # (in one step: an interrupt comes before the line is written, or after it was noted that it is)
             written.extend(map(os.write, (self.given.fileno(),), (command.encode() + b"\n",)))
-        except (OSError, ValueError):
-            raise self.break_off() from None
-        return self.answer()
+        except (OSError, ValueError) as fault:
+            self.raise_if_broken(fault)
+            raise
+        return self.answer(told)
 
-    def answer(self) -> list[str]:
-        """Reads the answer, or what is left of it, and returns its lines."""
-        assert self.open is not None
-        _, told = self.open
+    def answer(self, told: list[bytes]) -> list[str]:
+        """Reads the answer, or what is left of it behind what was told, and returns its lines."""
         while not is_whole(told):
             try:
                 told.extend(map(os.read, (self.told.fileno(),), (65_536,)))
-            except (OSError, ValueError):
-                raise self.break_off() from None
+            except (OSError, ValueError) as fault:
+                self.raise_if_broken(fault)
+                raise
             if not told[-1]:
                 raise self.break_off(b"".join(told).decode(errors="replace"))
         self.open = None
@@ -70,8 +71,9 @@ class Pipes:
 
     def catch_up(self) -> None:
         """Reads the answer that an interrupted call has left, if there is one."""
-        if self.open is not None and self.open[0]:
-            self.answer()
+        written, told = self.open or ([], [])
+        if written:
+            self.answer(told)
         self.open = None
 
     def has_ended(self) -> bool:
@@ -93,6 +95,11 @@ class Pipes:
             return "the program of the bank has closed its end of a pipe"
         how = f", with status {status}" if status > 0 else f", by signal {-status}" if status else ""
         return f"the program of the bank has ended{how}"
+
+    def raise_if_broken(self, fault: OSError | ValueError) -> None:
+        """Raises Ended if a pipe is broken or closed, and not only the handler of a signal has raised something."""
+        if self.given.closed or getattr(fault, "errno", None) == errno.EPIPE:
+            raise self.break_off() from None
 
     def break_off(self, told: str = "") -> Ended:
         """Ends the conversation, and returns the error that says why."""
