@@ -48,7 +48,7 @@ put 644 "$built/libparbegin.a" "$prefix/lib" libparbegin.a
 put 755 "$built/libparbegin.so" "$prefix/lib" libparbegin.so.0
 ln -sf libparbegin.so.0 "$prefix/lib/libparbegin.so"
 echo "$prefix/lib/libparbegin.so"
-put 644 "$built/parbegin.pc" "$prefix/lib/pkgconfig" parbegin.pc
+put 644 "$top/extras/library/parbegin.pc" "$prefix/lib/pkgconfig" parbegin.pc
 put 644 "$built/parbegin.h" "$prefix/include" parbegin.h
 for module in "$top"/extras/python/parbegin/*.py; do
     put 644 "$module" "$prefix/share/parbegin/python/parbegin" "${module##*/}"

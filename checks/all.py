@@ -36,6 +36,8 @@ QUICK = (
     f"checks/server.py {PROGRAM}",
     "checks/tools.py",
     "checks/rebuilds.py",
+    "checks/library.py",
+    f"checks/python_bank.py {PROGRAM}",
     f"checks/pictures.py {PROGRAM}",
     "checks/example_tests.py",
     "checks/schedules.py",

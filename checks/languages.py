@@ -3,7 +3,7 @@
 
     checks/languages.py FOLDER [PROGRAM]
 
-FOLDER holds the library, as `./parbegin library FOLDER` or extras/library/build.py writes it. With the built program the
+FOLDER holds the library, as `./parbegin library FOLDER` writes it. With the built program the
 same calls are compared with what it writes, and the bank is asked through pipes too. What is not installed (gcc, g++,
 cargo, valgrind) is passed over with a line that says so. The programs of docs/LIBRARY.md are among those that are run.
 The status is 0 if all is as it should be, and 1 if not.
@@ -17,6 +17,8 @@ import sys
 import tempfile
 from collections.abc import Callable
 from pathlib import Path
+
+from python_bank import ALL, SECONDS, by_library, faults_of, through_pipes
 
 TOP = Path(__file__).resolve().parent.parent
 EXTRAS = TOP / "extras"
@@ -116,17 +118,17 @@ def in_rust(library: Path, room: Path) -> None:
     compare("night.rs", told, (EXTRAS / "rust" / "examples" / "night.stdout").read_text())
 
 
-def python_with(**names: str) -> dict[str, str]:
-    """Returns the environment in which the package finds what is named, and nothing else."""
-    others = {name: value for name, value in os.environ.items() if not name.startswith("PARBEGIN")}
-    return {**others, "PYTHONDONTWRITEBYTECODE": "1", "PYTHONPATH": str(EXTRAS / "python"), **names}
-
-
 def in_python(library: Path, _room: Path) -> None:
     """The tests and the example in Python."""
-    how = {"cwd": EXTRAS / "python", "env": python_with(PARBEGIN_SO=str(library / "libparbegin.so"))}
-    run(sys.executable, "-m", "unittest", "-q", "test_parbegin", **how)
-    told = run(sys.executable, "night.py", **how)
+    try_python(by_library(library))
+
+
+def try_python(where: dict[str, str]) -> None:
+    """The tests and the example in Python, over the library or the program."""
+    faults = faults_of(where, SECONDS, ALL)
+    if faults:
+        raise Wrong("\n".join(faults))
+    told = run(sys.executable, "night.py", cwd=EXTRAS / "python", env=where)
     compare("night.py", told, (EXTRAS / "python" / "night.stdout").read_text())
 
 
@@ -141,15 +143,6 @@ def calls_as_the_program(library: Path, room: Path, program: Path) -> None:
         ]
         if (ran[0].returncode, ran[0].stdout) != (ran[1].returncode, ran[1].stdout):
             raise Wrong(f"{' '.join(words)} of {names}: the library does not write what the program writes")
-
-
-def through_pipes(program: Path) -> None:
-    """The package without a library asks the program."""
-    how = {"cwd": EXTRAS / "python"}
-    where = python_with(PARBEGIN_SO="", PARBEGIN=str(program), PARBEGIN_TEST_PROGRAM=str(program))
-    run(sys.executable, "-m", "unittest", "-q", "test_parbegin", env=where, **how)
-    told = run(sys.executable, "night.py", env=where, **how)
-    compare("night.py", told, (EXTRAS / "python" / "night.stdout").read_text())
 
 
 def check(name: str, needs: str, does: Callable[[Path, Path], None], library: Path, room: Path) -> bool:
@@ -177,7 +170,7 @@ def with_program(library: Path, room: Path, program: Path) -> bool:
     if not has_bank(program):
         print("Python through pipes: passed over, since the program has no command bank")
         return well
-    return check("Python through pipes", "cat", lambda *_: through_pipes(program), library, room) and well
+    return check("Python through pipes", "cat", lambda *_: try_python(through_pipes(program)), library, room) and well
 
 
 def main(words: list[str]) -> int:

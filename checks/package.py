@@ -10,6 +10,7 @@ from __future__ import annotations
 
 import os
 import pathlib
+import re
 import shutil
 import subprocess
 import sys
@@ -30,6 +31,10 @@ PARTS = (
     "lib/python3/dist-packages/parbegin/__init__.py", "share/parbegin/page/page.html", "lib/libparbegin.a", "lib/libparbegin.so",
     "lib/pkgconfig/parbegin.pc", "include/parbegin.h",
 )
+
+
+# Files of the sources that a document names by their path.
+NAMED = re.compile(r"(?<![\w./-])\w[\w.-]*(?:/[\w.-]*\w)+")
 
 
 def unpacked(folder: pathlib.Path) -> dict[str, pathlib.Path]:
@@ -67,18 +72,32 @@ def try_prefix(tally: Tally, name: str, prefix: pathlib.Path) -> None:
     tally.expect(run(prefix, "--version")[0] == DONE, name, "the version")
 
 
+def try_documents(tally: Tally, name: str, prefix: pathlib.Path) -> None:
+    """Looks for what docs/LIBRARY.md names, and for the licence."""
+    documents = prefix / "share/doc/parbegin"
+    named = {path for path in NAMED.findall((documents / "docs/LIBRARY.md").read_text()) if (TOP / path).exists()}
+    tally.expect(len(named) > 20, name, "docs/LIBRARY.md names", named)
+    for path in named:
+        tally.expect((documents / path).exists(), name, "docs/LIBRARY.md names", path)
+    said = (documents / "copyright").read_text()
+    tally.expect(said.startswith("Format: https://www.debian.org/doc/packaging-manuals/copyright-format/1.0/\n"), name, "copyright")
+    terms = [line for line in (TOP / "LICENSE").read_text().splitlines()[3:] if line]
+    tally.expect(all(f"\n {line}\n" in said for line in terms), name, "the terms of the licence")
+
+
 def try_library(tally: Tally, name: str, prefix: pathlib.Path, folder: pathlib.Path) -> None:
     """Builds and runs the night of a batch runner in C, as pkg-config says, and the one in Python."""
     there = {**EMPTY, "PKG_CONFIG_PATH": f"{prefix}/lib/pkgconfig", "LD_LIBRARY_PATH": f"{prefix}/lib"}
     night, wanted = folder / "night", (TOP / "extras/library/night.stdout").read_bytes()
     flags = subprocess.run(["pkg-config", "--cflags", "--libs", "parbegin"], env=there, capture_output=True, text=True, check=False)
-    words = ["gcc", TOP / "extras/library/night.c", *flags.stdout.split(), "-o", night]
+    programs = prefix / "share/doc/parbegin/extras"
+    words = ["gcc", programs / "library/night.c", *flags.stdout.split(), "-o", night]
     tally.expect(subprocess.run(words, env=there, check=False).returncode == 0, name, "the night in C is not built")
     ran = subprocess.run([night], env=there, capture_output=True, check=False)
     tally.expect((ran.returncode, ran.stdout) == (DONE, wanted), name, "the night in C", ran)
     # (there is no program on the path that it could ask in place of the library)
     python = {**there, "PYTHONPATH": f"{prefix}/lib/python3/dist-packages", "PYTHONDONTWRITEBYTECODE": "1"}
-    copied, wanted = shutil.copy(TOP / "extras/python/night.py", folder), (TOP / "extras/python/night.stdout").read_bytes()
+    copied, wanted = shutil.copy(programs / "python/night.py", folder), (TOP / "extras/python/night.stdout").read_bytes()
     ran = subprocess.run(["python3", copied], env=python, capture_output=True, check=False)
     tally.expect((ran.returncode, ran.stdout) == (DONE, wanted), name, "the night in Python", ran)
 
@@ -91,6 +110,7 @@ def main() -> None:
     with tempfile.TemporaryDirectory(prefix="parbegin-package-") as folder:
         for name, prefix in unpacked(pathlib.Path(folder)).items():
             try_prefix(tally, name, prefix)
+            try_documents(tally, name, prefix)
             try_library(tally, name, prefix, pathlib.Path(folder))
     tally.end("package")
 

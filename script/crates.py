@@ -32,6 +32,11 @@ MINUTES = {
 
 def crates_below(tools: Iterable[str]) -> Crates:
     """Returns the crates that these tools are made of, their own included, each with those that it depends on."""
+    return with_those_below(crate_of(tool) for tool in tools)
+
+
+def with_those_below(crates: Iterable[str]) -> Crates:
+    """Returns these crates and all below them, each with those that it depends on."""
     listed = {}
     with open(f"{TOP}/crates.txt", encoding="utf-8") as lines:
         for line in lines:
@@ -39,7 +44,7 @@ def crates_below(tools: Iterable[str]) -> Crates:
             if colon:
                 listed[head.split()[0]] = libraries.split()
     found: Crates = {}
-    left = [crate_of(tool) for tool in tools]
+    left = list(crates)
     while left:
         crate = left.pop()
         if crate not in found:

@@ -156,6 +156,12 @@ def main(words: list[str]) -> int:
             return run_unproved(words[1:])
         if words[:1] == ["--built-by-the-gate"]:
             return record_of_gate(words[1:])
+        if words[:1] == ["help"] and words[1:] in (["library"], ["package"], ["page"]):
+            words = [words[1], "--help"]
+        if words[:1] == ["package"] and words != ["package"]:
+            from script.package import answer
+
+            return answer(words[1:])
         if words == ["package"]:
             from script.package import package
 
@@ -163,8 +169,6 @@ def main(words: list[str]) -> int:
         if words == ["build"]:
             program(*CALLS["build"])
             return 0
-        if words[:2] == ["help", "page"]:
-            words = ["page", "--help"]
         if words[:1] == ["page"] or words[:2] == ["--quiet", "page"]:
             from script.pages import page
 

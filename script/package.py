@@ -6,18 +6,40 @@ import pathlib
 import re
 import shutil
 import subprocess
+import sys
 import tarfile
 import tempfile
 
-from script.helping import ran_on
-from script.places import TOP, is_installed, say, stop
+from script.helping import HELPFUL, ran_on, write
+from script.places import TOP, WORDS, is_installed, say, stop
+
+USE = "usage: parbegin package"
+HELP = """Pack the program, the script and what belongs to them: a Debian package and a tar.gz
+
+Usage: parbegin package
+
+Writes dist/parbegin_VERSION_amd64.deb and dist/parbegin_VERSION_amd64.tar.gz below the top of the checkout, and removes what
+was in dist before. The program and the library are built first if they have to be, and standard error says how far that is.
+The package puts all below /usr; the tar.gz has the same in a folder of its own.
+
+Wants dpkg-deb, and for the library the kit's rt, gcc and ar.
+
+Options:
+  -h, --help  Print help
+"""
 
 # What is packed beside what install.sh puts under a prefix: a pattern below the top, and the folder of the prefix.
 CONTENTS = (
     ("README.md", "share/doc/parbegin"), ("LICENSE", "share/doc/parbegin"), ("docs", "share/doc/parbegin"),
     ("examples", "share/doc/parbegin"), ("extras/vim/*", "share/vim/vimfiles"), ("extras/vscode", "share/parbegin"),
     ("extras/README.md", "share/parbegin"),
+    # (what docs/LIBRARY.md names)
+    ("extras/library/*.c", "share/doc/parbegin/extras/library"), ("extras/library/*.stdout", "share/doc/parbegin/extras/library"),
+    ("extras/python", "share/doc/parbegin/extras"), ("extras/rust", "share/doc/parbegin/extras"),
+    ("crates/pb_example_[bp]*", "share/doc/parbegin/crates"), ("crates/pb_c_bank/specs", "share/doc/parbegin/crates/pb_c_bank"),
+    ("checks/languages*", "share/doc/parbegin/checks"), ("checks/python_bank.py", "share/doc/parbegin/checks"),
 )
+NO_CONTENTS = ("out", "target", "__pycache__", "*.pyc")
 CONTROL = """Package: parbegin
 Version: {version}
 Architecture: amd64
@@ -30,6 +52,33 @@ Description: programs of cooperating jobs that cannot deadlock
  A compiler and runtime for a small language in Dijkstra's notation of
  parbegin and parend, with a debugger, proved by the prover of Rattle.
 """
+
+
+COPYRIGHT = """Format: https://www.debian.org/doc/packaging-manuals/copyright-format/1.0/
+Upstream-Name: parbegin
+
+Files: *
+Copyright: {owner}
+License: Expat
+
+License: Expat
+{terms}
+"""
+
+
+def answer(words: list[str]) -> int:
+    """Answers a call that packs nothing, and returns the status."""
+    if any(word in HELPFUL for word in words):
+        return write(HELP)
+    print(USE, file=sys.stderr)
+    return WORDS
+
+
+def copyright_of(text: str) -> str:
+    """Returns the licence as Debian has it: the terms as one field, with a dot in each empty line."""
+    owner = re.search(r"^Copyright \(c\) (.+)$", text, re.M)
+    terms = text[owner.end() :].strip().splitlines()
+    return COPYRIGHT.format(owner=owner[1], terms="\n".join(f" {line or '.'}" for line in terms))
 
 
 def version(start: list[str]) -> str:
@@ -48,9 +97,11 @@ def fill(prefix: str) -> None:
             to = pathlib.Path(prefix, folder, path.name)
             to.parent.mkdir(parents=True, exist_ok=True)
             if path.is_dir():
-                shutil.copytree(path, to, ignore=shutil.ignore_patterns("out", "__pycache__"), dirs_exist_ok=True)
+                shutil.copytree(path, to, ignore=shutil.ignore_patterns(*NO_CONTENTS), dirs_exist_ok=True)
             else:
                 shutil.copy(path, to)
+    folder = pathlib.Path(prefix, "share/doc/parbegin")
+    (folder / "copyright").write_text(copyright_of((folder / "LICENSE").read_text()))
 
 
 def write_control(root: str, number: str) -> None:

@@ -1,23 +1,15 @@
-#!/usr/bin/env python3
-"""Builds the library for C and for whatever calls C: libparbegin.a, libparbegin.so, parbegin.h and parbegin.pc.
-
-    extras/library/build.py FOLDER     builds it into FOLDER
-
-The crates pb_c_bank and pb_c_call are proved and built by the kit's `rt lib`, which proves what they use first if that is
-not built yet. Wants `rt`, `gcc` and `ar`.
+"""Makes the library for C, and for whatever calls C, of the archives of crates: libparbegin.a, libparbegin.so, parbegin.h
+and parbegin.pc. `./parbegin library FOLDER` builds the archives first (script/library.py). Wants `rt`, `gcc` and `ar`.
 """
 from __future__ import annotations
 
 import shutil
 import subprocess
-import sys
 import tempfile
 from pathlib import Path
 
 HERE = Path(__file__).resolve().parent
-TOP = HERE.parent.parent
-# The crates whose archives are merged, and the names that the shared library gives out.
-CRATES = ("pb_c_bank", "pb_c_call")
+# The names that the shared library gives out.
 NAMES = (
     "pb_bank_new",
     "pb_bank_adopt",
@@ -49,15 +41,6 @@ def run(*words: object, folder: Path | None = None) -> str:
     if ran.returncode:
         raise Unbuilt(f"{' '.join(given)}\n{ran.stdout}")
     return ran.stdout
-
-
-def archives(top: Path) -> list[Path]:
-    """Proves and builds the crates, and returns their archives."""
-    built = []
-    for crate in CRATES:
-        run("rt", "lib", "--jobs", "1", folder=top / "crates" / crate)
-        built.append(top / "crates" / crate / "out" / f"lib{crate}.a")
-    return built
 
 
 def heap() -> Path:
@@ -93,30 +76,23 @@ def link(archive: Path, shared: Path) -> None:
     soname.symlink_to(shared.name)
 
 
-def build_library(top: str, into: str) -> None:
-    """Builds the library of the checkout `top` into the folder `into`.
+def pc_beside() -> str:
+    """Returns what pkg-config reads of a library that lies beside it; parbegin.pc is for one under a prefix."""
+    text = (HERE / "parbegin.pc").read_text()
+    for under, beside in (("${pcfiledir}/../..", "${pcfiledir}"), ("${prefix}/lib\n", "${prefix}\n"), ("${prefix}/include\n", "${prefix}\n")):
+        text = text.replace(under, beside)
+    return text
+
+
+def write_library(archives: list[str], into: str) -> list[str]:
+    """Makes the library of these archives in a folder, and returns the names of its files.
 
     Raises Unbuilt if a program that it needs is not there or fails.
     """
     folder = Path(into)
-    folder.mkdir(parents=True, exist_ok=True)
-    archive = folder / "libparbegin.a"
-    merge([*archives(Path(top)), heap()], archive)
-    link(archive, folder / "libparbegin.so")
-    for name in ("parbegin.h", "parbegin.pc"):
-        shutil.copyfile(HERE / name, folder / name)
-
-
-def main(words: list[str]) -> int:
-    if len(words) != 1:
-        sys.exit("usage: extras/library/build.py FOLDER")
-    try:
-        build_library(str(TOP), words[0])
-    except Unbuilt as fault:
-        sys.exit(f"{fault}")
-    print(f"{words[0]}: libparbegin.a libparbegin.so parbegin.h parbegin.pc")
-    return 0
-
-
-if __name__ == "__main__":
-    sys.exit(main(sys.argv[1:]))
+    archive, shared = folder / "libparbegin.a", folder / "libparbegin.so"
+    merge([*map(Path, archives), heap()], archive)
+    link(archive, shared)
+    shutil.copyfile(HERE / "parbegin.h", folder / "parbegin.h")
+    (folder / "parbegin.pc").write_text(pc_beside())
+    return [archive.name, shared.name, "parbegin.h", "parbegin.pc"]

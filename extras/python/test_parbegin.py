@@ -6,6 +6,7 @@ import unittest
 
 import parbegin
 from parbegin import Answer, Bank, Claim, Fault, Need, Nest, Reason
+from parbegin._saved import seal
 
 PROGRAM = os.environ.get("PARBEGIN_TEST_PROGRAM")
 COPIES = """resource tape = 2;
@@ -99,15 +100,60 @@ class Banks(unittest.TestCase):
         bank.leave(9)
         self.assertEqual((bank.cash(), len(bank.order()), bank.join([1])), ([2], 63, 9))
 
+    def test_takes_integers_alone(self) -> None:
+        bank = self.open(3)
+        bank.join([2])
+        for wrong in (1.0, "1", b"1", True, None, [1], 1j):
+            for call in (
+                lambda it: Bank([it], PROGRAM), lambda it: bank.join([it]), lambda it: bank.ask(0, [it]),
+                lambda it: bank.want(0, [it]), lambda it: bank.give(0, [it]), lambda it: bank.why(0, [it]),
+                lambda it: bank.ask(it, [1]), lambda it: bank.want(it, [1]), lambda it: bank.give(it, [1]),
+                lambda it: bank.why(it, [1]), bank.leave, bank.drop, bank.drop_all, bank.loans, bank.claims,
+            ):
+                self.assertRaises(TypeError, call, wrong)
+        for wrong in ("1", b"1", 1, None):
+            self.assertRaises(TypeError, bank.ask, 0, wrong)
+        self.assertEqual((bank.order(), bank.cash(), bank.wishes()), ([0], [3], []))
+        self.assertEqual(bank.ask(0, (it for it in (1,))), Answer.GRANTED)
+
+    def test_takes_no_number_for_another(self) -> None:
+        bank = self.open(1_000_000, 2)
+        bank.join([1_000_000, 1])
+        for large in (1_000_001, 2**32, 2**64, 2**64 + 1):
+            self.assertEqual(bank.ask(0, [large, 0]), Answer.OVER_CLAIM)
+            self.assertEqual(bank.why(0, [large, 2]), Reason("over claim", 0))
+            self.assertEqual(bank.why(0, [0, large]), Reason("over claim", 1))
+            self.assertRaises(Fault, bank.give, 0, [large, 0])
+            self.assertRaises(Fault, bank.join, [large, 0])
+            self.assertRaises(Fault, bank.leave, large)
+            self.assertRaises(Fault, bank.loans, large)
+        self.assertEqual((bank.cash(), bank.order()), ([1_000_000, 2], [0]))
+
     @unittest.skipIf(PROGRAM, "a bank in the program has no bytes")
     def test_adopts_what_was_saved(self) -> None:
         bank = self.open(3)
         bank.join([2])
+        empty = bank.to_bytes()
         bank.ask(0, [1])
         saved = bank.to_bytes()
         self.assertEqual(Bank.from_bytes(saved).loans(0), [1])
-        self.assertRaises(Fault, Bank.from_bytes, saved[:-1])
-        self.assertRaises(Fault, Bank.from_bytes, b"\xff" * len(saved))
+        self.assertEqual(Bank.from_bytes(bytearray(saved)).to_bytes(), saved)
+        half = len(saved) // 2
+        for wrong, said in (
+            (bytes(len(saved)), "magic word"), (bytes(8_464), "magic word"), (b"", "magic word"),
+            (b"\xff" * len(saved), "magic word"), (saved[20:], "magic word"), (saved[:7], "cut off"), (saved[:20], "not whole"),
+            (saved[:-1], "not whole"), (saved + b"\0", "not whole"), (saved[:8] + b"\2" + saved[9:], "version 2"),
+            (saved[:half] + bytes(len(saved) - half), "damaged"),
+            (empty[:half] + saved[half:], "damaged"), (saved[:20] + bytes(len(saved) - 20), "damaged"),
+        ):
+            with self.assertRaisesRegex(Fault, said):
+                Bank.from_bytes(wrong)
+        with self.assertRaisesRegex(Fault, "no bank"):
+            Bank.from_bytes(seal(bytes(8_464)))
+        for at in range(len(saved)):
+            damaged = bytearray(saved)
+            damaged[at] ^= 1 << at % 8
+            self.assertRaises(Fault, Bank.from_bytes, damaged)
 
 
 class Commands(unittest.TestCase):

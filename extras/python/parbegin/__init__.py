@@ -12,16 +12,17 @@ It calls libparbegin.so by ctypes: the file that the variable PARBEGIN_SO names,
 one that the loader finds. If there is none, it talks with the program `parbegin` through pipes, by its command `bank` and
 the others: the program that the variable PARBEGIN names, else the one on the path. Both say the same.
 
-A call keeps the interpreter's lock, so two threads of Python are never in one bank at once. There are no dependencies.
+Any thread may call any bank: a bank has a lock, which each of its calls holds from its first step to its last. There are no
+dependencies.
 """
 from __future__ import annotations
 
-from .answers import Answer, Fault, Outcome, Reason, Reply
+from .answers import Answer, Ended, Fault, Outcome, Reason, Reply
 from .bank import Bank
 from .commands import check, claims, outcomes, plan, run
 from .plans import Claim, Need, Nest, Plan
 
 __all__ = [
-    "Answer", "Bank", "Claim", "Fault", "Need", "Nest", "Outcome", "Plan", "Reason", "Reply", "check", "claims", "outcomes",
-    "plan", "run",
+    "Answer", "Bank", "Claim", "Ended", "Fault", "Need", "Nest", "Outcome", "Plan", "Reason", "Reply", "check", "claims",
+    "outcomes", "plan", "run",
 ]

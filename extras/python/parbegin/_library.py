@@ -4,11 +4,11 @@ from __future__ import annotations
 import ctypes
 import ctypes.util
 import os
-from collections.abc import Callable, Sequence
+from collections.abc import Callable, Iterable, Sequence
 from ctypes import POINTER, byref, c_char_p, c_size_t, c_uint8, c_uint32
 from pathlib import Path
 
-from .answers import ANSWERS, FAULTS, MAX_JOBS, MAX_RESOURCES, NO_REQUEST, Answer, Fault, Reason, Reply
+from .answers import ANSWERS, CLOSED, FAULTS, MAX_JOBS, MAX_RESOURCES, NO_BANK, Answer, Ended, Fault, Reason, Reply
 
 
 class Tables(ctypes.Structure):
@@ -59,53 +59,62 @@ DECLARED = {
 OF_TEXTS = ("check", "claims", "plan")
 
 
-def load() -> ctypes.PyDLL | None:
-    """Returns the library, or nothing if there is none."""
+def find() -> str | None:
+    """Returns the name of the library, or nothing if there is none."""
     beside = Path(__file__).resolve().parent / "libparbegin.so"
     named = os.environ.get("PARBEGIN_SO")
-    found = named if named is not None else str(beside) if beside.exists() else ctypes.util.find_library("parbegin")
+    return named if named is not None else str(beside) if beside.exists() else ctypes.util.find_library("parbegin")
+
+
+def load(kind: type[ctypes.CDLL]) -> ctypes.CDLL | None:
+    """Returns the library, or nothing if there is none."""
+    found = find()
     if not found:
         return None
-    library = ctypes.PyDLL(found)
+    library = kind(found)
     for name, (result, *parameters) in DECLARED.items():
         function = getattr(library, name)
         function.restype, function.argtypes = result, parameters
     return library
 
 
-LIBRARY = load()
+# For banks, whose calls take microseconds; and for commands, in which other threads of Python go on.
+LIBRARY, COMMANDS = load(ctypes.PyDLL), load(ctypes.CDLL)
 
 
 def row_of(amounts: Sequence[int]) -> tuple[ctypes.Array[c_uint32], int]:
     """Returns the amounts as C takes them; one that is too large is one that no bank has."""
-    if any(amount < 0 for amount in amounts):
-        raise Fault("an amount is negative")
     count = len(amounts)
     if count and max(amounts) > 0xFFFFFFFF:
         amounts = [min(amount, 0xFFFFFFFF) for amount in amounts]
     return (c_uint32 * count)(*amounts), count
 
 
-def number_of(job: int) -> int:
-    """Returns the slot of a job as C takes it."""
-    if job < 0:
-        raise Fault(NO_REQUEST)
-    return job
-
-
 class LibraryBank:
     """A bank in this process."""
 
-    def __init__(self, library: ctypes.PyDLL, capital: Sequence[int]) -> None:
+    def __init__(self, library: ctypes.CDLL, capital: Sequence[int] | None) -> None:
+        """Opens a bank with this capital; with none, one that `adopt` is to fill."""
         self.library = library
         self.tables = Tables()
         self.at = byref(self.tables)
-        self.done(library.pb_bank_new(self.at, *row_of(capital)))
+        self.is_closed = False
+        if capital is not None:
+            self.done(library.pb_bank_new(self.at, *row_of(capital)))
 
     @staticmethod
     def done(said: int) -> None:
         if said:
             raise Fault(FAULTS[said])
+
+    def adopt(self, given: bytes) -> None:
+        """Takes over the tables of a bank."""
+        if len(given) != ctypes.sizeof(Tables):
+            raise Fault(NO_BANK)
+        ctypes.memmove(self.at, given, len(given))
+        self.done(self.library.pb_bank_adopt(self.at))
+        if not self.tables.resources:
+            raise Fault(NO_BANK)
 
     def join(self, claims: Sequence[int]) -> int:
         slot = c_size_t()
@@ -113,17 +122,20 @@ class LibraryBank:
         return slot.value
 
     def leave(self, job: int) -> None:
-        self.done(self.library.pb_bank_leave(self.at, number_of(job)))
+        self.done(self.library.pb_bank_leave(self.at, job))
 
     def ask(self, job: int, amounts: Sequence[int]) -> Answer:
-        said = self.library.pb_bank_ask(self.at, number_of(job), *row_of(amounts))
+        said = self.library.pb_bank_ask(self.at, job, *row_of(amounts))
         answer = ANSWERS.get(said)
         if answer is None:
             raise Fault(FAULTS[said])
         return answer
 
     def give(self, job: int, amounts: Sequence[int]) -> None:
-        self.done(self.library.pb_bank_give(self.at, number_of(job), *row_of(amounts)))
+        self.done(self.library.pb_bank_give(self.at, job, *row_of(amounts)))
+
+    def drop_all(self, job: int) -> None:
+        self.done(self.library.pb_bank_drop_all(self.at, job))
 
     def order(self) -> list[int]:
         order = (c_uint8 * MAX_JOBS)()
@@ -132,7 +144,7 @@ class LibraryBank:
 
     def why(self, job: int, amounts: Sequence[int]) -> Reason:
         why = Why()
-        said = self.library.pb_bank_why(self.at, number_of(job), *row_of(amounts), byref(why))
+        said = self.library.pb_bank_why(self.at, job, *row_of(amounts), byref(why))
         if said == 0:
             return Reason("allowed")
         if said == 1:
@@ -145,8 +157,27 @@ class LibraryBank:
         table = getattr(self.tables, name)
         return list((table if job is None else table[job])[: self.tables.resources])
 
+    def loans_of(self, jobs: Iterable[int]) -> dict[int, list[int]]:
+        return {job: self.row("loans", job) for job in jobs}
+
     def has_job(self, job: int) -> bool:
-        return 0 <= job < MAX_JOBS and bool(self.tables.jobs[job])
+        return bool(self.tables.jobs[job])
+
+    def check(self) -> None:
+        if self.is_closed:
+            raise Ended(CLOSED)
+
+    def settle(self) -> None:
+        """Does nothing: a call of the library is made or not."""
+
+    def kill(self) -> None:
+        """Does nothing: no call of the library waits for anything."""
+
+    def close(self) -> None:
+        self.is_closed = True
+
+    def leave_to_parent(self) -> None:
+        """Does nothing: a forked process has a copy of the bank."""
 
 
 def grow(called: Callable[..., int]) -> Reply:
@@ -160,7 +191,7 @@ def grow(called: Callable[..., int]) -> Reply:
         room = needed.value
 
 
-def call(library: ctypes.PyDLL, words: Sequence[str], given: bytes) -> Reply:
+def call(library: ctypes.CDLL, words: Sequence[str], given: bytes) -> Reply:
     """Does what the program does with these words and this input."""
     if len(words) == 1 and words[0] in OF_TEXTS:
         called = getattr(library, f"pb_{words[0]}")

@@ -13,6 +13,10 @@ class Fault(Exception):
     """A call that did nothing; the text says why."""
 
 
+class Ended(Fault):
+    """There is no bank any more: its program has ended, or it was closed. Each later call raises this too."""
+
+
 class Answer(enum.Enum):
     """The answer to a request."""
 
@@ -56,6 +60,13 @@ FULL = "there are 64 jobs already"
 NOT_SAFE = "not all jobs could finish"
 HAS_WISH = "the job has a wish in the queue"
 NO_WISH = "the job has no wish in the queue"
+NEGATIVE = "an amount is negative"
+CLOSED = "the bank is closed"
+WITHIN_A_CALL = "a call of a bank within another call of it, as in the handler of a signal"
 # What the library says, as numbers.
 FAULTS = {3: NO_REQUEST, 4: NOT_HELD, 6: NO_BANK, 7: OVER_CAPITAL, 8: FULL, 10: NOT_SAFE}
+# What the program says, as codes.
+REFUSALS = {
+    "B4": NO_REQUEST, "B5": NO_REQUEST, "B9": FULL, "B10": OVER_CAPITAL, "B11": NOT_HELD, "B12": HAS_WISH, "B13": NO_WISH,
+}
 ANSWERS = {0: Answer.GRANTED, 1: Answer.NOT_NOW, 2: Answer.OVER_CLAIM}

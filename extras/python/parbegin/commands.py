@@ -16,7 +16,7 @@ def bytes_of(text: str | bytes) -> bytes:
 def reply(words: Sequence[str], text: str | bytes) -> Reply:
     """Does what the program does with these words and this input."""
     given = bytes_of(text)
-    library = _library.LIBRARY
+    library = _library.COMMANDS
     return _library.call(library, words, given) if library else _program.call(words, given)
 
 

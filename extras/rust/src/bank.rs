@@ -1,13 +1,16 @@
 //! The banker.
 
+use crate::saved;
 use std::fmt;
 
 /// The most jobs at once.
 pub const MAX_JOBS: usize = 64;
 /// The most resources of a bank.
 pub const MAX_RESOURCES: usize = 16;
-/// The bytes of a bank.
-pub const BYTES: usize = 8_464;
+/// The bytes of a bank in memory.
+const TABLES: usize = 8_464;
+/// The bytes of a bank as [`Bank::to_bytes`] returns them.
+pub const BYTES: usize = saved::HEAD + TABLES;
 
 /// A bank of jobs that come and go: plain data, `Send` and `Sync`, copied by `clone`.
 #[repr(C)]
@@ -23,7 +26,7 @@ pub struct Bank {
     jobs: [u8; MAX_JOBS],
 }
 
-const _: () = assert!(size_of::<Bank>() == BYTES);
+const _: () = assert!(size_of::<Bank>() == TABLES);
 
 #[repr(C)]
 struct Why {
@@ -89,6 +92,14 @@ pub enum Fault {
     Full,
     /// Not all jobs could finish.
     NotSafe,
+    /// The bytes do not begin with the magic word of a bank.
+    NoMagicWord,
+    /// The bytes are of another version than this crate reads.
+    OtherVersion(u32),
+    /// There are more bytes or less than were written.
+    NotWhole,
+    /// The bytes are not those of which the checksum was made.
+    Damaged,
 }
 
 impl fmt::Display for Fault {
@@ -100,6 +111,12 @@ impl fmt::Display for Fault {
             Fault::OverCapital(r) => write!(f, "the claim on resource {r} is over the capital"),
             Fault::Full => f.write_str("there are 64 jobs already"),
             Fault::NotSafe => f.write_str("not all jobs could finish"),
+            Fault::NoMagicWord => f.write_str("these are not the bytes of a bank: they do not begin with its magic word"),
+            Fault::OtherVersion(v) => write!(f, "the bytes of the bank are of version {v}, and this crate reads version 1"),
+            Fault::NotWhole => f.write_str("the bytes of the bank are not whole"),
+            Fault::Damaged => {
+                f.write_str("the bytes of the bank are damaged: they are not those of which the checksum was made")
+            }
         }
     }
 }
@@ -138,20 +155,26 @@ impl Bank {
         Ok(bank)
     }
 
-    /// Makes a bank of bytes that come from anywhere, as from a file that has those of [`Bank::as_bytes`].
-    pub fn adopt(bytes: &[u8; BYTES]) -> Result<Bank, Fault> {
+    /// Makes a bank of bytes that come from anywhere, as from a file that has those of [`Bank::to_bytes`].
+    pub fn adopt(bytes: &[u8]) -> Result<Bank, Fault> {
+        let tables: &[u8; TABLES] = saved::behind_head(bytes)?.try_into().map_err(|_| Fault::NoBank)?;
         // SAFETY: a bank is numbers alone, without padding, so that any bytes are one.
-        let mut bank: Bank = unsafe { std::mem::transmute(*bytes) };
+        let mut bank: Bank = unsafe { std::mem::transmute(*tables) };
         // SAFETY: a reference to a whole value, for the call, which asks nothing of what is in it.
         done(unsafe { pb_bank_adopt(&mut bank) }, 0)?;
+        if bank.resources == 0 {
+            return Err(Fault::NoBank);
+        }
         Ok(bank)
     }
 
-    /// Returns the bytes of the bank, for [`Bank::adopt`] on a machine of the same kind.
+    /// Returns the bytes of the bank, for [`Bank::adopt`] on a machine of the same kind. They begin with a magic word, a
+    /// version and a checksum, as those of the Python package do.
     #[must_use]
-    pub fn as_bytes(&self) -> &[u8; BYTES] {
+    pub fn to_bytes(&self) -> Vec<u8> {
         // SAFETY: a bank is numbers alone, without padding, so that it is so many bytes.
-        unsafe { &*std::ptr::from_ref(self).cast() }
+        let tables: &[u8; TABLES] = unsafe { &*std::ptr::from_ref(self).cast() };
+        [&saved::head(tables)[..], &tables[..]].concat()
     }
 
     /// A job joins with a claim on each resource: the most that it will hold at once. Returns its slot.

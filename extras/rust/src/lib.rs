@@ -7,6 +7,7 @@
 
 mod bank;
 mod commands;
+mod saved;
 
-pub use bank::{Answer, Bank, Fault, MAX_JOBS, MAX_RESOURCES, Reason};
+pub use bank::{Answer, BYTES, Bank, Fault, MAX_JOBS, MAX_RESOURCES, Reason};
 pub use commands::{call, check, claims, plan};

@@ -1,6 +1,6 @@
 //! The calls of the bank.
 
-use parbegin::{Answer, Bank, Fault, Reason};
+use parbegin::{Answer, BYTES, Bank, Fault, Reason};
 
 #[test]
 fn lends_what_is_safe() {
@@ -46,11 +46,50 @@ fn adopts_what_was_saved() {
     bank.join(&[2]).unwrap();
     bank.join(&[3]).unwrap();
     bank.ask(0, &[1]).unwrap();
-    let mut bytes = *bank.as_bytes();
+    let bytes = bank.to_bytes();
+    assert_eq!(bytes.len(), BYTES);
     assert_eq!(Bank::adopt(&bytes).unwrap().loans(0), Some(&[1][..]));
-    bytes[80] ^= 1;
-    assert_eq!(Bank::adopt(&bytes).err(), Some(Fault::NoBank));
-    assert_eq!(Bank::adopt(&[0xff; 8_464]).err(), Some(Fault::NoBank));
+    for at in (0..BYTES).filter(|at| *at < 20 || at % 97 == 0) {
+        let mut damaged = bytes.clone();
+        damaged[at] ^= 1 << (at % 8);
+        assert!(Bank::adopt(&damaged).is_err(), "{at}");
+    }
+}
+
+#[test]
+fn adopts_no_bytes_that_are_none() {
+    let mut bank = Bank::new(&[3]).unwrap();
+    let empty = bank.to_bytes();
+    bank.join(&[2]).unwrap();
+    bank.ask(0, &[1]).unwrap();
+    let bytes = bank.to_bytes();
+    let half = bytes.len() / 2;
+    let torn = [&empty[..half], &bytes[half..]].concat();
+    let other = [&bytes[..8], &[2], &bytes[9..]].concat();
+    for (given, fault) in [
+        (&[0; BYTES][..], Fault::NoMagicWord),
+        (&[0xff; BYTES], Fault::NoMagicWord),
+        (&bytes[20..], Fault::NoMagicWord),
+        (&[], Fault::NotWhole),
+        (&bytes[..7], Fault::NotWhole),
+        (&bytes[..BYTES - 1], Fault::NotWhole),
+        (&torn, Fault::Damaged),
+        (&other, Fault::OtherVersion(2)),
+    ] {
+        assert_eq!(Bank::adopt(given).err(), Some(fault), "{fault}");
+    }
+}
+
+/// The checksum is that of zlib, and with it bytes that are no bank are none.
+#[test]
+fn adopts_no_numbers_that_are_none() {
+    let mut zeroes = b"PB BANK\n\x01\0\0\0\x10\x21\0\0".to_vec();
+    zeroes.extend_from_slice(&0x15b4f1b7_u32.to_le_bytes());
+    zeroes.extend_from_slice(&[0; 8_464]);
+    assert_eq!(Bank::adopt(&zeroes).err(), Some(Fault::NoBank));
+    let mut few = b"PB BANK\n\x01\0\0\0\x09\0\0\0\x26\x39\xf4\xcb".to_vec();
+    few.extend_from_slice(b"123456789");
+    assert_eq!(Bank::adopt(&few).err(), Some(Fault::NoBank));
 }
 
 #[test]
