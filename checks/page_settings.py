@@ -99,7 +99,7 @@ def look_at_help(tally: Tally, it: Any, path: Path) -> None:
     """Help explains each sign of the lanes."""
     it.open(path)
     it.key("?", shift=True)
-    tally.expect(it.js("$('help').open"), path.name, "the key does not open Help")
+    tally.expect(it.js("$('help').open && $('help').scrollTop === 0"), path.name, "the key does not open Help at its beginning")
     unsaid = it.js("""Object.values(SIGNS).filter((sign) => ![...document.querySelectorAll("#help .sign")].some((it) => it.textContent === sign))""")
     tally.expect(unsaid == [], path.name, f"Help does not explain {unsaid}")
     kinds = it.js("['pick', 'live', 'join', 'asks', 'now'].filter((kind) => !document.querySelector(`#help .sign.${kind}`)?.checkVisibility())")
@@ -126,7 +126,7 @@ def look_at_limit(tally: Tally, it: Any, folder: Path) -> None:
     it.open(path)
     tally.expect(it.js("views.length") == 1, path.name, "there is a second view")
     said = it.js("$('note').textContent")
-    tally.expect("More than 100 configurations" in said and "page --states 1000" in said, path.name, f"of the limit is told {said}")
+    tally.expect("more than 100 configurations" in said and "page --states 1000" in said, path.name, f"of the limit is told {said}")
     path, _ = write_page(folder, "many", in_a_ring(5))
     it.open(path, "picks=")
     tally.expect(it.js("views.length") == 2 and it.js("view.graph.nodes.length") > 10_000, path.name, "there are not all schedules")

@@ -102,7 +102,8 @@ def read(name: str) -> str:
 
 def read_style() -> str:
     """Returns the style, without comments and without spaces that say nothing."""
-    return re.sub(r"\s*([{};])\s*|(?<=[,:]) ", r"\1", re.sub(r"/\*.*?\*/", "", read("page.css"), flags=re.DOTALL))
+    bare = re.sub(r"/\*.*?\*/\s*", "", read("page.css"), flags=re.DOTALL)
+    return re.sub(r"\s*([{};>])\s*|(?<=[,:]) ", r"\1", bare).replace(";}", "}")
 
 
 def read_scripts(tags: str) -> str:

@@ -76,7 +76,11 @@ function start() {
   addEventListener("resize", () => view.redraw());
   DARK.addEventListener("change", applySettings);
   for (const name of ["quiz", "large", "dark"]) $(name).onclick = () => change(name);
-  $("about").onclick = () => $("help").showModal();
+  $("about").onclick = () => {
+    $("help").showModal();
+    // (the focus is on the button at its lower end)
+    $("help").scrollTop = 0;
+  };
   addEventListener("keydown", (event) => {
     const { key, target } = event, isArrow = key.startsWith("Arrow");
     // What the focus is on may have a use of its own for the key.
