@@ -19,7 +19,7 @@ HEADER = """[Math.round($("title").getBoundingClientRect().height / parseFloat(g
 LANES = """new Promise((done) => requestAnimationFrame(() => requestAnimationFrame(() => {
   const {lanes, slider, rows} = view, box = lanes.box.getBoundingClientRect(), thumb = slider.getBoundingClientRect();
   const first = box.left + lanes.left, last = first + lanes.unit * rows.length;
-  done([first - thumb.left - 8, last - thumb.right + 8, lanes.canvas.width / devicePixelRatio - box.width].map(Math.round));
+  done([first - thumb.left - 8, last - thumb.right + 8, lanes.canvas.width / devicePixelRatio - box.width].map((it) => Math.round(it) || 0));
 })))"""
 
 # The words of the labels of the map, and of those that are not within it.
