@@ -3,14 +3,15 @@
 
     checks/page.py [PROGRAM]     PROGRAM is the one that ./parbegin has built if none is given
 
-It is run by hand, and needs Debian's package `chromium`; with `firefox-esr` the same is looked at there. At each position of a run the places, the integers, the lines,
-the reasons, the loans and the cash that the page has must be those that `debug` says; the outcomes and the deadlocks to
+It is run by hand, and needs Debian's package `chromium`; with `firefox-esr` the same is looked at there. At each position
+of a run the places, the integers, the lines, the reasons, the loans and the cash that the page has must be those that `debug` says; the outcomes and the deadlocks to
 which one can walk must be those that `outcomes` says, by the banker and by the cash alone, and `replay` must make the
 picks that lead there. A run by the cash alone must tell its deadlock, and the drawing of who holds and asks for what
 must be as `outcomes` says it. It walks by clicks: an arm that may not go on says why, and nothing changes. Further it
 looks at keys, the address, contrast, sizes from a telephone to a wide screen, a program without a text, a text that
-tries to be markup, and that nothing is loaded and no message comes. checks/page_bugs.py shows that it finds faults. Its
-status is 0 if all is as wanted, and 1 if not.
+tries to be markup, and that nothing is loaded and no message comes; at where things stand (page_layout.py); and at quiz,
+dark and large, Help, and how a run ends (page_settings.py). checks/page_bugs.py shows that it finds faults. Its status is
+0 if all is as wanted, and 1 if not.
 """
 from __future__ import annotations
 
@@ -18,45 +19,21 @@ import os
 import random
 import re
 import shutil
-import sys
 import tempfile
 from pathlib import Path
 from typing import Any
 
 from browser import Browser
-from calls import TOP, Tally, call, program
+from calls import TOP, Tally, call
 from firefox import Firefox
 from page_asks import ALL_DRAWN, CONTRAST, DRAWN, ENDS, LATER, SAYS, STOPS, UNLIKE
+from page_layout import look_at_layout
+from page_made import BYSTANDER, EXAMPLES, HOSTILE, make_page, write_page
+from page_settings import look_at_settings
 
-sys.path.insert(0, str(TOP / "extras/page"))
-import make_page  # noqa: E402
-
-EXAMPLES = ("devices", "lost", "customers", "philosophers")
 # The most bytes of a page without its data.
-MOST_PAGE = 70_000
+MOST_PAGE = 72_000
 SIZES = ((360, 700), (800, 600), (1280, 720), (1920, 1080), (3840, 2160))
-HOSTILE = b"""// </script><script>window.bad = 1</script> <!-- &lt; &amp; \\ " ' \\u003c %%
-process p
-begin
-  integer x;
-  x := 9223372036854775807; x := x - 1; print x div 0
-end
-"""
-
-# Two that can come to a deadlock, and one that has nothing to do with them.
-BYSTANDER = b"""resource tape = 1;
-resource disk = 1;
-process a begin hold 1 of tape do hold 1 of disk do skip od od end
-process b begin hold 1 of disk do hold 1 of tape do skip od od end
-process c begin print 1 end
-"""
-
-def write_page(folder: Path, name: str, given: bytes, lend: str | None = None) -> tuple[Path, str]:
-    """Writes the page of a text, and returns its path, and the text."""
-    page = make_page.make_page([program()], name, given, make_page.Options(seed="3", lend=lend))
-    path = folder / f"{name}.html"
-    path.write_text(page, encoding="utf-8")
-    return path, given.decode().partition("\n%%\n")[0].rstrip("\n")
 
 
 def debugger_says(text: str, picks: str, at: int, names: list, lend: str) -> list[str]:
@@ -223,13 +200,6 @@ def look_at_too_late(tally: Tally, it: Any, folder: Path) -> None:
     tally.expect(said.startswith("By the cash alone."), path.name, f"that the banker does not come here is not told: {said}")
 
 
-def look_at_limit(tally: Tally, it: Any, path: Path) -> None:
-    """A text with too many schedules has its run alone, and says so."""
-    it.open(path)
-    tally.expect(it.js("views.length") == 1, path.name, "there is a second view")
-    tally.expect("More than 10000 configurations" in it.js("$('note').textContent"), path.name, "the limit is not told")
-
-
 def look_at_looks(tally: Tally, it: Any, path: Path) -> None:
     """Looks at contrast in both schemes, and for what sticks out at the right."""
     for where in ("step=5", "picks=", "picks=a.0,b.0&lend=cash"):
@@ -363,13 +333,14 @@ def look_at_all(tally: Tally, it: Any, folder: Path, examples: tuple[str, ...] =
     look_at_too_late(tally, it, folder)
     look_at_looks(tally, it, folder / "devices.html")
     look_at_hostile(tally, it, folder)
+    look_at_layout(tally, it, folder)
+    look_at_settings(tally, it, folder, SIZES)
 
 
 def look_in_chromium(tally: Tally, folder: Path) -> None:
     it = Browser()
     try:
         look_at_all(tally, it, folder)
-        look_at_limit(tally, it, folder / "philosophers.html")
     finally:
         it.close()
 

@@ -1,5 +1,5 @@
 #!/usr/bin/env python3
-"""Plants faults in the script of a page, each of which checks/page.py must find.
+"""Plants faults in the scripts and the style of a page, each of which checks/page.py must find.
 
     checks/page_bugs.py [PROGRAM]     PROGRAM is the one that ./parbegin has built if none is given
 
@@ -21,7 +21,7 @@ from browser import Browser
 from calls import TOP, Tally
 from page import make_page
 
-# Faults of the scripts: what stands there, and what is put in its place.
+# Faults of the scripts and the style: what stands there, and what is put in its place.
 PLANTED = (
     ("changed.add(row[i]);", ""),
     ("this.integers + process.firstInteger + i", "this.integers + i"),
@@ -45,7 +45,7 @@ PLANTED = (
     ("find((row) => row[0] === arm)", "find((row) => row[0] >= arm)"),
     ("this.undone.push(this.rows.pop())", "this.rows.pop()"),
     ("this.lend = i;\n    this.follow(arms);", "this.lend = i;\n    this.follow([]);"),
-    ("\"aria-disabled\": !moves.has(arm)", "\"aria-disabled\": moves.has(arm)"),
+    ("\"aria-disabled\": isGrey(arm)", "\"aria-disabled\": !isGrey(arm)"),
     ("if (end === \"deadlock\") return deadEnd(this.program, state);\n", ""),
     ("lend: program.data.lend, happened, ending });", "lend: \"banker\", happened, ending });"),
     ("this.data.lend !== \"cash\")", "this.data.lend === \"cash\")"),
@@ -56,6 +56,24 @@ PLANTED = (
     ("this.processOf(arm).firstLine + state[arm]", "this.processOf(arm).firstLine"),
     ("near.firstChild.focus()", "near.firstChild"),
     ("(text || object).replace", "text.replace"),
+    ("flex-wrap: wrap; gap: .3rem .75rem; align-items: center;", "gap: .3rem .75rem; align-items: center;"),
+    ("      this.paint();\n      this.mark(run.at);\n", ""),
+    ("[...sets[sets[0].size > 1 ? 1 : 0]]", "[[...sets[0]][0]]"),
+    ("long(it) * down + 20", "long(it) * down - 20"),
+    ("farFrom(it, x, y) < 8).length;\n    const places = upFrom(0, 15)", "farFrom(it, x, y) < 8).length;\n    const places = upFrom(0, 1)"),
+    ("#bank th:first-child { width: var(--names)", "#bank .chip { white-space: nowrap } #bank th:first-child { width: 6rem"),
+    ("view.graphs || innerWidth < 992 ?", "true ?"),
+    (":root:not(.quiz) .hidden, .quiz .later {", ":root:not(.quiz) .hidden {"),
+    (".quiz .veil { display: block;", ".quiz .veil {"),
+    ("isQuiz() && state[program.reasons + arm] !== 0 ? null :", "false ? null :"),
+    ("!isQuiz() && Array.isArray(why)", "Array.isArray(why)"),
+    ("if (isQuiz() && !isFound) return null;", ""),
+    ("if (isQuiz()) return null;\n", ""),
+    ("[...settings, hash].join", "[hash].join"),
+    ("isWanted !== DARK.matches : isWanted", "isWanted === DARK.matches : isWanted"),
+    ("fault: \"×\", end: \"■\" };", "fault: \"!\", end: \"■\" };"),
+    ("#ending > .over { border-color: var(--accent);", "#ending > .over { border-color: var(--good);"),
+    ("most < more ?", "most > more ?"),
 )
 
 
@@ -84,6 +102,8 @@ def looks(it: Browser, folder: Path) -> Iterator[Callable[[Tally], None]]:
     yield lambda tally: page.look_at_no_text(tally, it, folder)
     yield lambda tally: page.look_at_tabs(tally, it, made["devices"][0])
     yield lambda tally: page.look_at_too_late(tally, it, folder)
+    yield lambda tally: page.look_at_settings(tally, it, folder, page.SIZES[:2])
+    yield lambda tally: page.look_at_layout(tally, it, folder)
     for path, text in made.values():
         for lend in ("banker", "cash"):
             yield lambda tally, path=path, text=text, lend=lend: page.look_at_ends(tally, it, path, text, lend)
@@ -93,12 +113,12 @@ def looks(it: Browser, folder: Path) -> Iterator[Callable[[Tally], None]]:
 
 
 def finds(it: Browser, folder: Path, mark: str, fault: str) -> bool:
-    """Returns whether a look finds a fault that is planted in a script."""
+    """Returns whether a look finds a fault that is planted."""
     template = folder / "template"
     shutil.copytree(TOP / "extras/page", template, dirs_exist_ok=True)
-    scripts = {path: path.read_text(encoding="utf-8") for path in template.glob("*.js")}
+    scripts = {path: path.read_text(encoding="utf-8") for path in [*template.glob("*.js"), template / "page.css"]}
     if sum(script.count(mark) for script in scripts.values()) != 1:
-        sys.exit(f"the scripts have not once: {mark}")
+        sys.exit(f"scripts and style have not once: {mark}")
     for path, script in scripts.items():
         path.write_text(script.replace(mark, fault), encoding="utf-8")
     kept, make_page.TEMPLATE = make_page.TEMPLATE, str(template)

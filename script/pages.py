@@ -24,7 +24,7 @@ Options:
                          [default: banker]
       --from <POSITION>  The first position of the run that the page has [default: 0]
       --rows <N>         The most picks of the run that the page has [default: 20000]
-      --states <N>       Leave the schedules out if there are more configurations [default: 10000]
+      --states <N>       Leave the schedules out if there are more configurations [default: 50000]
   -h, --help             Print help
 """
 

@@ -7,7 +7,7 @@ PROGRAM is the program parbegin, with words that come before each command, if an
 picks of a run behind a line `%%`, as `record` writes it; or an object in the place of a text. The program writes the
 data, each document as a line of JSON in which there is no `<` (docs/FORMATS.md, "Documents for a page"); here it is put
 into the template beside this file. Nothing of a text is looked at here, and no number is changed. The page has all
-schedules by the banker, and if there are resources those by the cash alone, if they have at most 10,000 configurations or
+schedules by the banker, and if there are resources those by the cash alone, if they have at most 50,000 configurations or
 what `--states` says. `--lend cash` is for the run: its picks are made by the cash alone, and of a text it is drawn, with
 seed 1 if no other is given. Of an object the page has the run of its picks alone, since `outcomes` takes a text.
 
@@ -43,7 +43,7 @@ class Options:
     lend: str | None = None
     first: str | None = None
     rows: str | None = None
-    states: str = "10000"
+    states: str = "50000"
 
 
 class Refusal(Exception):
@@ -100,10 +100,16 @@ def read(name: str) -> str:
         return "".join(line.lstrip(" ") for line in file)
 
 
+def read_style() -> str:
+    """Returns the style, without comments and without spaces that say nothing."""
+    bare = re.sub(r"/\*.*?\*/\s*", "", read("page.css"), flags=re.DOTALL)
+    return re.sub(r"\s*([{};>])\s*|(?<=[,:]) ", r"\1", bare).replace(";}", "}")
+
+
 def read_scripts(tags: str) -> str:
-    """Returns the scripts that tags name, as one, without the lines that are comments."""
-    texts = [read(name).removeprefix(STRICT) for name in re.findall(r'src="(.*)"', tags)]
-    return STRICT + "".join(line for text in texts for line in text.splitlines(keepends=True) if not line.startswith("//"))
+    """Returns the scripts that tags name, as one, without comments that have lines of their own, and without empty lines."""
+    texts = "".join(read(name).removeprefix(STRICT) for name in re.findall(r'src="(.*)"', tags))
+    return STRICT + re.sub(r"^(//[^\n]*|/\*\*.*?\*/|)\n", "", texts, flags=re.MULTILINE | re.DOTALL)
 
 
 def fill_template(title: str, data: str) -> str:
@@ -112,7 +118,7 @@ def fill_template(title: str, data: str) -> str:
     tags = "".join(re.findall(r'<script src=.*\n', page))
     parts = {
         "<title>parbegin</title>": f"<title>{html.escape(title)} - parbegin</title>",
-        '<link rel="stylesheet" href="page.css">': f"<style>\n{read('page.css')}</style>",
+        '<link rel="stylesheet" href="page.css">': f"<style>\n{read_style()}\n</style>",
         '<script type="application/json" id="data">{}': f'<script type="application/json" id="data">{data}',
         tags: f"<script>\n{read_scripts(tags)}</script>\n",
     }

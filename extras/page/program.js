@@ -37,11 +37,17 @@ function svg(tag, attributes, ...children) {
   return it;
 }
 
+/** What the reader has set: "quiz", "large", and "dark" or "light" if the system has it otherwise. */
+const settings = new Set();
+const isQuiz = () => settings.has("quiz");
+
 const $ = (id) => document.getElementById(id);
 const button = (text, key, title, onclick, more) => h("button", { type: "button", title, onclick, "data-key": key, ...more }, text);
 
 /** "a", "a and b", "a, b and c" */
 const listed = (words) => (words.length < 2 ? words.join("") : `${words.slice(0, -1).join(", ")} and ${words.at(-1)}`);
+/** A name of at most so many letters, by its beginning and its end: "customer_num…12.0". */
+const shortName = (name, most) => name.length > most ? `${name.slice(0, most - 5)}…${name.slice(-4)}` : name;
 const upFrom = (first, count) => Array.from({ length: count }, (_, i) => first + i);
 
 // ---- the data
@@ -136,10 +142,10 @@ class Program {
     return op === "join" ? upFrom(+first, +count).filter((a) => state[this.processOf(arm).first + a] !== ENDED) : [];
   }
 
-  /** Whether an arm cannot go on: it asks in vain, or waits at a join. */
+  /** Whether an arm is shown as one that cannot go on: it asks in vain, which a quiz does not tell, or waits at a join. */
   waits(state, arm) {
     const why = state[this.reasons + arm];
-    return (Array.isArray(why) && (why[0] === "cash" || this.data.lend !== "cash")) || this.awaits(state, arm).length > 0;
+    return (!isQuiz() && Array.isArray(why) && (why[0] === "cash" || this.data.lend !== "cash")) || this.awaits(state, arm).length > 0;
   }
 }
 
