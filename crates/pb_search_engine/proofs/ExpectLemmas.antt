@@ -32,22 +32,19 @@ use Rattle.pb_search.specs.declared.found.Until.TheVariants.{FirstDeadlock}
 use Rattle.pb_search_stages.specs.Traces.{Trace, trace_outcome}
 use Rattle.pb_search_stages.specs.declared.print.Mode.{Mode}
 use Rattle.pb_search_stages.specs.declared.print.Print.{Print}
-use Rattle.pb_search_engine.specs.Expected.{IsFirstOther, IsWanted, printing}
+use Rattle.pb_search_engine.specs.Expected.{AreWanted, IsFirstOther, IsWanted, printing}
 use Rattle.pb_search_engine.specs.PrintLines.{IsBadPrint, SpellsPrints}
 use Rattle.pb_search_engine.specs.SaysExpected.{IsPlain, SaysOfExpected, SaysOfLines, SaysOfRuns, TellsDeadlock, TellsOutcome, compared, no_prints, no_text}
 use Rattle.pb_search_engine.specs.SaysExpected.{as_expected, deadlock, endless, long, many, outcome}
 use Rattle.pb_search_engine.specs.SaysOfAll.{SaysOfSearches, SaysOrDocument, SaysWhether}
 use Rattle.pb_search_engine.specs.Showing.{HaveProcesses}
 use Rattle.pb_search_engine.specs.declared.print_lines.PrintFault.TheVariants.{NotPrint}
-use Rattle.pb_search_engine.proofs.OutcomeLemmas.{deadlocks_few, deadlocks_here, found_few, found_here, some_told}
+use Rattle.pb_search_engine.proofs.OutcomeLemmas.{deadlocks_few, deadlocks_here, found_few, found_here}
 use Rattle.pb_verifier.specs.Verified.{IsVerified, VerifiedCode}
 
 module _ (lending : Lending) (any_order : Bool) (wanted : List Print) (code : Code) (labels : List ProcessLabels) (states : ℕ) where
   abbrev Says : List ℕ → Status → Type 0
   Says = SaysOfRuns lending any_order wanted code labels states
-
-  abbrev AllWanted : List Found → Type 0
-  AllWanted found = All (λ f. IsWanted any_order wanted f.outcome) found
 
   -- with no deadlock in the list there is none
   none_there : (found : List FoundDeadlock) (stuck : List Trace) → AreFoundAt (printing lending) code found stuck → length found ≡ 0 → (s : Trace)
@@ -58,10 +55,17 @@ module _ (lending : Lending) (any_order : Bool) (wanted : List Print) (code : Co
 
   -- by how much was found
   plain_by : (found : List Found) (deadlocks : List FoundDeadlock) (e : Extent)
-      → IsTold (printing lending) code FirstDeadlock states found deadlocks e → AllWanted found → length deadlocks ≡ 0
+      → IsTold (printing lending) code FirstDeadlock states found deadlocks e → AreWanted any_order wanted found → length deadlocks ≡ 0
       → (text : List ℕ) (status : Status) → IsPlain states e text status → Says text status
   plain_by found deadlocks (extent.All true) h all none text status is =
-      subst (λ (s : Status). Says text s) (sym is.1) (subst (λ (t : List ℕ). Says t Unexpected) (sym is.0) (endless (h.endless.0 refl)))
+      subst (λ (s : Status). Says text s) (sym is.1) (subst (λ (t : List ℕ). Says t Unexpected) (sym is.0) (endless (record {
+        ends = λ picks end ends.
+            All-contains (IsWanted any_order wanted) (map (λ f. f.outcome) found) (trace_outcome end)
+            (All-map (IsWanted any_order wanted) (λ (f : Found). f.outcome) found all)
+            (h.outcomes.none_missing picks end ends);
+        no_deadlock = λ picks s dead.
+            none_there deadlocks h.deadlocks.some.stuck h.deadlocks.some.each none s (h.deadlocks.none_missing picks s dead);
+      }) (h.endless.0 refl)))
   plain_by found deadlocks (extent.All false) h all none text status is =
       subst (λ (s : Status). Says text s) (sym is.1) (subst (λ (t : List ℕ). Says t Done) (sym is.0) (as_expected (record {
         ends = λ picks end ends.
@@ -72,11 +76,13 @@ module _ (lending : Lending) (any_order : Bool) (wanted : List Print) (code : Co
             none_there deadlocks h.deadlocks.some.stuck h.deadlocks.some.each none s (h.deadlocks.none_missing picks s dead);
         all_end = h.bounded refl;
       })))
-  plain_by found deadlocks extent.TooMany h all none text status is =
-      subst (λ (s : Status). Says text s) (sym is.1) (subst (λ (t : List ℕ). Says t Limit) (sym is.0) (many found h.1.0 all h.0))
-  plain_by found deadlocks extent.TooLong h all none text status is =
-      subst (λ (s : Status). Says text s) (sym is.1) (subst (λ (t : List ℕ). Says t Limit) (sym is.0) (long found h.1.0 all h.0))
-  plain_by found deadlocks extent.AtDeadlock h all none text status is = let some = h.1 in absurd (omega (arith, some, none))
+  plain_by found [] extent.TooMany h all none text status is =
+      subst (λ (s : Status). Says text s) (sym is.1) (subst (λ (t : List ℕ). Says t Limit) (sym is.0) (many found h all))
+  plain_by found [] extent.TooLong h all none text status is =
+      subst (λ (s : Status). Says text s) (sym is.1) (subst (λ (t : List ℕ). Says t Limit) (sym is.0) (long found h all))
+  plain_by found (d ∷ deadlocks) extent.TooMany h all none text status is = absurd (omega (arith, none))
+  plain_by found (d ∷ deadlocks) extent.TooLong h all none text status is = absurd (omega (arith, none))
+  plain_by found deadlocks extent.AtDeadlock h all none text status is = let one = h.1.one in absurd (omega (arith, one, none))
 
   module _ (told : Outcomes) (tells : SearchTells (printing lending) code FirstDeadlock states told) where
     -- an outcome is not wanted
@@ -84,30 +90,29 @@ module _ (lending : Lending) (any_order : Bool) (wanted : List Print) (code : Co
         → TellsOutcome code.names labels (map found_view told.found.items) at text → status ≡ Unexpected → Says text status
     other_said at first text status said unexpected =
         subst (λ (s : Status). Says text s) (sym unexpected) (subst (λ (t : List ℕ). Says t Unexpected) (sym said.2.2.2)
-        (outcome (map found_view told.found.items) (some_told (printing lending) code FirstDeadlock states told tells).0 at first said.0 said.1
+        (outcome (map found_view told.found.items) (map deadlock_view told.deadlocks.items) told.extent tells at first said.0 said.1
         said.2.0 said.2.1 said.2.2.0 said.2.2.1))
 
     -- there is a deadlock
-    pub stuck_said : (text : List ℕ) (status : Status) → TellsDeadlock code.names labels (map deadlock_view told.deadlocks.items) text
+    pub stuck_said : AreWanted any_order wanted (map found_view told.found.items) → (text : List ℕ) (status : Status) → TellsDeadlock code.names labels (map deadlock_view told.deadlocks.items) text
         → status ≡ Unexpected → Says text status
-    stuck_said text status said unexpected =
+    stuck_said all text status said unexpected =
         subst (λ (s : Status). Says text s) (sym unexpected) (subst (λ (t : List ℕ). Says t Unexpected) (sym said.2.2)
-        (deadlock (map deadlock_view told.deadlocks.items) (some_told (printing lending) code FirstDeadlock states told tells).1 said.0 said.1
-        said.2.0 said.2.1))
+        (deadlock (map found_view told.found.items) (map deadlock_view told.deadlocks.items) told.extent tells all said.0 said.1 said.2.0 said.2.1))
 
     -- all that was found is wanted, and there is no deadlock
-    pub plain_said : AllWanted (map found_view told.found.items) → length told.deadlocks.items ≡ 0 → (text : List ℕ) (status : Status)
+    pub plain_said : AreWanted any_order wanted (map found_view told.found.items) → length told.deadlocks.items ≡ 0 → (text : List ℕ) (status : Status)
         → IsPlain states told.extent text status → Says text status
     plain_said all none text status is =
         let many = length-map told.deadlocks.items deadlock_view in
         plain_by (map found_view told.found.items) (map deadlock_view told.deadlocks.items) told.extent tells all (omega (arith, many, none)) text status is
 
     -- no outcome is another
-    pub no_other_said : AllWanted (map found_view told.found.items) → (text : List ℕ) (status : Status)
+    pub no_other_said : AreWanted any_order wanted (map found_view told.found.items) → (text : List ℕ) (status : Status)
         → ((length told.deadlocks.items ≡ 0) × IsPlain states told.extent text status)
         ⊎ (TellsDeadlock code.names labels (map deadlock_view told.deadlocks.items) text × (status ≡ Unexpected)) → Says text status
     no_other_said all text status (inl plain) = plain_said all plain.0 text status plain.1
-    no_other_said all text status (inr stuck) = stuck_said text status stuck.0 stuck.1
+    no_other_said all text status (inr stuck) = stuck_said all text status stuck.0 stuck.1
 
 -- what a search tells of the code as the calls return it
 pub tells_here : (v seen : VerifiedCode) → seen ≡ v → (mode : Mode) (lending : Lending) → mode ≡ printing lending → (states : ℕ) (told : Outcomes)

@@ -7,6 +7,8 @@ use Rattle.pb_code.specs.Whole.{Code}
 use Rattle.pb_command_io.specs.declared.status.Status.TheVariants.{Done, Limit, Unexpected}
 use Rattle.pb_search.specs.Deadlocks.{AreSomeDeadlocks, FoundDeadlock, IsFoundAt}
 use Rattle.pb_search.specs.Outcomes.{AreSomeOutcomes, Found, HasEndlessRun}
+use Rattle.pb_search.proofs.ToldLists.{some_of}
+use Rattle.pb_search.specs.declared.found.Until.TheVariants.{FirstDeadlock}
 use Rattle.pb_search_stages.proofs.ClosedSets.{comes_on, round}
 use Rattle.pb_search_stages.specs.Traces.{Outcome, Trace, TraceEnds, TraceLeads, trace_opening, trace_outcome}
 use Rattle.pb_search_stages.specs.declared.print.Print.{Print}
@@ -49,13 +51,17 @@ module _ (lending : Lending) (any_order : Bool) (wanted : List Print) (code : Co
 pub answers_are_right : AnswersAreRight
 answers_are_right lending any_order wanted code labels states text status (as_expected all) =
     (λ done. all, λ other. absurd (let e : Done ≡ Unexpected = other in cc))
-answers_are_right lending any_order wanted code labels states text status (outcome found some at first f there picks counted what is) =
-    (λ done. absurd (let e : Unexpected ≡ Done = done in cc), λ other all. no_other lending any_order wanted code all found some at first f there)
-answers_are_right lending any_order wanted code labels states text status (deadlock deadlocks some d there picks counted) =
-    (λ done. absurd (let e : Unexpected ≡ Done = done in cc), λ other all. none_stuck lending any_order wanted code all deadlocks some d there)
-answers_are_right lending any_order wanted code labels states text status (endless run) =
+answers_are_right lending any_order wanted code labels states text status (outcome found deadlocks extent told at first f there picks counted what is) = (
+  λ done. absurd (let e : Unexpected ≡ Done = done in cc),
+  λ other all. no_other lending any_order wanted code all found (some_of (printing lending) code FirstDeadlock states found deadlocks extent told).0 at first f there,
+)
+answers_are_right lending any_order wanted code labels states text status (deadlock found deadlocks extent told each d there picks counted) = (
+  λ done. absurd (let e : Unexpected ≡ Done = done in cc),
+  λ other all. none_stuck lending any_order wanted code all deadlocks (some_of (printing lending) code FirstDeadlock states found deadlocks extent told).1 d there,
+)
+answers_are_right lending any_order wanted code labels states text status (endless ends run) =
     (λ done. absurd (let e : Unexpected ≡ Done = done in cc), λ other all. none_endless lending any_order wanted code all run)
-answers_are_right lending any_order wanted code labels states text status (many found some each excess) =
+answers_are_right lending any_order wanted code labels states text status (many found told each) =
     (λ done. absurd (let e : Limit ≡ Done = done in cc), λ other. absurd (let e : Limit ≡ Unexpected = other in cc))
-answers_are_right lending any_order wanted code labels states text status (long found some each run) =
+answers_are_right lending any_order wanted code labels states text status (long found told each) =
     (λ done. absurd (let e : Limit ≡ Done = done in cc), λ other. absurd (let e : Limit ≡ Unexpected = other in cc))

@@ -11,6 +11,8 @@ use Rattle.pb_names.specs.Program.{Program}
 use Rattle.pb_names.specs.Resolves.{resource_names}
 use Rattle.pb_search.specs.Deadlocks.{AreSomeDeadlocks, FoundDeadlock, IsFoundAt}
 use Rattle.pb_search.specs.Outcomes.{AreSomeOutcomes, Found}
+use Rattle.pb_search.proofs.ToldLists.{some_of}
+use Rattle.pb_search.specs.declared.found.Until.TheVariants.{FirstDeadlock}
 use Rattle.pb_search_stages.specs.Reaching.{outcome_of}
 use Rattle.pb_search_stages.specs.Traces.{Outcome, Trace, TraceEnds, trace_outcome}
 use Rattle.pb_search_stages.specs.declared.print.Print.{Print}
@@ -58,14 +60,16 @@ module _ (lending : Lending) (any_order : Bool) (wanted : List Print) (program :
   not_all : (text : List ℕ) (status : Status) → SaysOfRuns lending any_order wanted code labels states text status → status ≡ Unexpected
       → EndsOtherwise lending any_order wanted program code ⊎ HasDeadlock lending program code ⊎ SourceIsEndless lending program code.claims
   not_all _ _ (as_expected all) is = absurd (let e : Done ≡ Unexpected = is in cc)
-  not_all _ _ (outcome found some at first f there picks counted what told) is =
+  not_all _ _ (outcome found deadlocks extent told at first f there picks counted what said) is =
+      let some = (some_of (printing lending) code FirstDeadlock states found deadlocks extent told).0 in
       inl (f.outcome, (same f.outcome).0 (found_by_code lending code found some at f there), first.other f there)
-  not_all _ _ (deadlock deadlocks some d there picks counted) is =
+  not_all _ _ (deadlock found deadlocks extent told each d there picks counted) is =
+      let some = (some_of (printing lending) code FirstDeadlock states found deadlocks extent told).1 in
       let dead = found_stuck lending code deadlocks some d there in
       inr (inl (dead.0, (runs.deadlocks dead.0).0 dead.1))
-  not_all _ _ (endless run) is = inr (inr (runs.endless run))
-  not_all _ _ (many found some each excess) is = absurd (let e : Limit ≡ Unexpected = is in cc)
-  not_all _ _ (long found some each run) is = absurd (let e : Limit ≡ Unexpected = is in cc)
+  not_all _ _ (endless ends run) is = inr (inr (runs.endless run))
+  not_all _ _ (many found told each) is = absurd (let e : Limit ≡ Unexpected = is in cc)
+  not_all _ _ (long found told each) is = absurd (let e : Limit ≡ Unexpected = is in cc)
 
 pub right_of_programs : AnswersAreRightOfPrograms
 right_of_programs text code labels is =

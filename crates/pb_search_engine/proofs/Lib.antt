@@ -8,6 +8,7 @@ pub mod OneRunLemmas
 pub mod OutcomeLemmas
 pub mod PrintedOutcomes
 pub mod PrintLemmas
+pub mod SourceFairLemmas
 pub mod SourceLaw
 pub mod Skips
 pub mod SourceOutcomeLemmas

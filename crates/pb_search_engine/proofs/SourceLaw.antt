@@ -6,9 +6,11 @@ use Rattle.pb_codegen.proofs.VerifiedProcesses.{well_numbered}
 use Rattle.pb_generator.specs.Generate.{program_code}
 use Rattle.pb_names.specs.Program.{AllWellNumbered, Program}
 use Rattle.pb_names.specs.Resolves.{resource_names}
+use Rattle.pb_search_engine.specs.SourceFair.{FairRunsEnd, FairRunsOfProgramsEnd}
 use Rattle.pb_search_engine.specs.SourceOutcomes.{HasOutcomesOf, OutcomesAreThoseOfTheProgram}
 use Rattle.pb_search_engine.specs.SourceRuns.{HasRunsOf, RunsAreThoseOfTheProgram}
 use Rattle.pb_search_engine.proofs.PrintedOutcomes.{listed_printed, same_printed}
+use Rattle.pb_search_engine.proofs.SourceFairLemmas.{fair_run_of_code}
 use Rattle.pb_search_engine.proofs.SourceOutcomeLemmas.{listed_is, same_outcome}
 use Rattle.pb_search_engine.proofs.SourceRunLemmas.{has_runs}
 
@@ -44,4 +46,21 @@ runs_are_those_of_the_program text code labels is =
       program,
       is.numbered,
       λ mode. subst (HasRunsOf program mode) (sym is.generated) (has_runs mode program code.claims arms),
+    )
+
+-- the fair runs of a program end if those of its code do
+fair_end : (lending : Lending) (program : Program) (claims : Table) → AllWellNumbered program.processes
+    → FairRunsEnd program lending (program_code program claims)
+fair_end lending program claims numbered = record {
+  kept = λ run. fair_run_of_code lending program claims numbered run;
+  told = λ states none run. none (fair_run_of_code lending program claims numbered run);
+}
+
+pub fair_runs_of_programs_end : FairRunsOfProgramsEnd
+fair_runs_of_programs_end text code labels is =
+    let program = is.program in
+    let arms = well_numbered (resource_names program) is.numbered.tree.processes program.processes is.numbered.numbered.processes in (
+      program,
+      is.numbered,
+      λ lending. subst (FairRunsEnd program lending) (sym is.generated) (fair_end lending program code.claims arms),
     )

@@ -27,6 +27,13 @@ HasNoFault processes = All (λ p. p.faulted ≡ false) processes
 abbrev pub IsWanted : (any_order : Bool) → (wanted : List Print) → Outcome → Type 0
 IsWanted any_order wanted outcome = HasNoFault outcome.processes × ArePrints any_order wanted outcome.prints
 
+-- each run of the code that ends is as expected: it has printed what is wanted, without a fault; and none comes to a
+-- deadlock
+pub record EndsAsExpected (lending : Lending) (any_order : Bool) (wanted : List Print) (code : Code) : Type 0 where
+  pub ends : (picks : List Pick) (end : Trace) → TraceEnds (printing lending) code picks end
+      → IsWanted any_order wanted (trace_outcome end)
+  pub no_deadlock : (picks : List Pick) (s : Trace) → ¬ TraceDeadlocks (printing lending) code picks s
+
 -- all runs of the code are as expected: each that ends has printed what is wanted, without a fault; none comes to
 -- a deadlock; and each ends
 pub record IsAsExpected (lending : Lending) (any_order : Bool) (wanted : List Print) (code : Code) : Type 0 where
@@ -35,8 +42,12 @@ pub record IsAsExpected (lending : Lending) (any_order : Bool) (wanted : List Pr
   pub no_deadlock : (picks : List Pick) (s : Trace) → ¬ TraceDeadlocks (printing lending) code picks s
   pub all_end : IsBounded (printing lending) code
 
+-- each outcome of a list is wanted
+abbrev pub AreWanted : (any_order : Bool) → (wanted : List Print) → List Found → Type 0
+AreWanted any_order wanted found = All (λ f. IsWanted any_order wanted f.outcome) found
+
 -- the outcome at this place is the first that is not wanted
 pub record IsFirstOther (any_order : Bool) (wanted : List Print) (found : List Found) (at : ℕ) : Type 0 where
   pub there : at < length found
   pub other : (f : Found) → slice_get found at ≡ Some f → ¬ IsWanted any_order wanted f.outcome
-  pub before : All (λ f. IsWanted any_order wanted f.outcome) (take at found)
+  pub before : AreWanted any_order wanted (take at found)

@@ -9,5 +9,6 @@ pub mod SaysOfAll
 pub mod SaysOfOne
 pub mod SaysOutcomes
 pub mod Showing
+pub mod SourceFair
 pub mod SourceOutcomes
 pub mod SourceRuns

@@ -1,5 +1,5 @@
 -- What `outcomes --expect` says of an input, and with which status.
-use Rattle.std.specs.Prelude.{◌≡◌, ◌+◌, ℕ, Bool, true, false, List, ◌++◌, All, Some, codes, slice_get, ⊤}
+use Rattle.std.specs.Prelude.{◌≡◌, ◌+◌, ℕ, Bool, true, false, List, [], ◌++◌, Some, codes, slice_get, ⊤}
 use Rattle.std.specs.Fmt.{decimal}
 use Rattle.pb_base.specs.Lines.{NameTable, line}
 use Rattle.pb_base.specs.declared.lending.Lending.{Lending}
@@ -15,14 +15,16 @@ use Rattle.pb_command_io.specs.declared.status.Status.TheVariants.{Done, Limit, 
 use Rattle.pb_history.specs.declared.counted.CountedPick.{CountedPick}
 use Rattle.pb_options.specs.Lends.{lending_for}
 use Rattle.pb_options.specs.declared.options.Lend.{Lend}
-use Rattle.pb_search.specs.Deadlocks.{AreSomeDeadlocks, FoundDeadlock}
-use Rattle.pb_search.specs.Outcomes.{AreSomeOutcomes, Found, HasEndlessRun, HasLongRun, IsExcess}
+use Rattle.pb_search.specs.Deadlocks.{FoundDeadlock}
+use Rattle.pb_search.specs.Outcomes.{Found, HasEndlessRun}
+use Rattle.pb_search.specs.Told.{IsTold}
 use Rattle.pb_search.specs.declared.found.Extent.{Extent}
 use Rattle.pb_search.specs.declared.found.Extent.TheVariants as extent
+use Rattle.pb_search.specs.declared.found.Until.TheVariants.{FirstDeadlock}
 use Rattle.pb_search_stages.specs.Reaching.{ProcessOutcome}
 use Rattle.pb_search_stages.specs.declared.print.Print.{Print}
 use Rattle.pb_search_engine.specs.DeadlockLines.{deadlock_lines}
-use Rattle.pb_search_engine.specs.Expected.{HasNoFault, IsAsExpected, IsFirstOther, IsWanted, printing}
+use Rattle.pb_search_engine.specs.Expected.{AreWanted, EndsAsExpected, HasNoFault, IsAsExpected, IsFirstOther, printing}
 use Rattle.pb_search_engine.specs.OutcomeLines.{AreCounted, outcome_lines}
 use Rattle.pb_search_engine.specs.PrintLines.{IsBadPrint, SpellsPrints}
 use Rattle.pb_search_engine.specs.declared.print_lines.PrintFault.TheVariants.{NotPrint}
@@ -36,30 +38,33 @@ pub data IsOtherText (processes : List ProcessOutcome) : List ℕ → Type 0 whe
   fault : ¬ HasNoFault processes → IsOtherText processes (codes "a fault")
   prints : HasNoFault processes → IsOtherText processes (codes "other prints")
 
--- what is said of code, under this lending: all its runs are as expected; or one is not, which is an outcome, a
--- deadlock, or one that does not end; or there may be others than were found, which all are as expected, since more
--- than this number of configurations are reached, or since picks lead somewhere that are more than a run may have
+-- what a search up to the first deadlock tells of the code: what `outcomes --prints --first-deadlock` lists
+abbrev pub IsListed : Lending → Code → (states : ℕ) → List Found → List FoundDeadlock → Extent → Type 0
+IsListed lending code = IsTold (printing lending) code FirstDeadlock
+
+-- what is said of code, under this lending: all its runs are as expected; or one is not, which is the first outcome of
+-- the list that is not, or, if each that is listed is, the deadlock of the list, or, if each run that ends is as
+-- expected, one that does not end; or there may be others than were found, which all are as expected, since more
+-- than this number of configurations are reached, or since picks lead to an outcome or a deadlock that are more than a run may have
 pub data SaysOfRuns (lending : Lending) (any_order : Bool) (wanted : List Print) (code : Code) (labels : List ProcessLabels)
     (states : ℕ) : List ℕ → Status → Type 0 where
   as_expected : IsAsExpected lending any_order wanted code
       → SaysOfRuns lending any_order wanted code labels states (line (codes "as expected")) Done
-  outcome : (found : List Found) → AreSomeOutcomes (printing lending) code found
+  outcome : (found : List Found) (deadlocks : List FoundDeadlock) (extent : Extent) → IsListed lending code states found deadlocks extent
       → (at : ℕ) → IsFirstOther any_order wanted found at → (f : Found) → slice_get found at ≡ Some f
       → (picks : List CountedPick) → AreCounted f.picks picks → (what : List ℕ) → IsOtherText f.outcome.processes what
       → SaysOfRuns lending any_order wanted code labels states
       (outcome_lines code.names labels (at + 1) f.outcome picks ++ other_line what) Unexpected
-  deadlock : (deadlocks : List FoundDeadlock) → AreSomeDeadlocks (printing lending) code deadlocks
-      → (d : FoundDeadlock) → slice_get deadlocks 0 ≡ Some d → (picks : List CountedPick) → AreCounted d.picks picks
+  deadlock : (found : List Found) (deadlocks : List FoundDeadlock) (extent : Extent) → IsListed lending code states found deadlocks extent
+      → AreWanted any_order wanted found → (d : FoundDeadlock) → slice_get deadlocks 0 ≡ Some d → (picks : List CountedPick) → AreCounted d.picks picks
       → SaysOfRuns lending any_order wanted code labels states
       (deadlock_lines code.names labels 1 d picks ++ other_line (codes "a deadlock")) Unexpected
-  endless : HasEndlessRun (printing lending) code
+  endless : EndsAsExpected lending any_order wanted code → HasEndlessRun (printing lending) code
       → SaysOfRuns lending any_order wanted code labels states (other_line (codes "some run does not end")) Unexpected
-  many : (found : List Found) → AreSomeOutcomes (printing lending) code found
-      → All (λ f. IsWanted any_order wanted f.outcome) found → IsExcess (printing lending) code states
+  many : (found : List Found) → IsListed lending code states found [] extent.TooMany → AreWanted any_order wanted found
       → SaysOfRuns lending any_order wanted code labels states
       (line (codes "more than " ++ decimal states ++ codes " configurations")) Limit
-  long : (found : List Found) → AreSomeOutcomes (printing lending) code found
-      → All (λ f. IsWanted any_order wanted f.outcome) found → HasLongRun (printing lending) code
+  long : (found : List Found) → IsListed lending code states found [] extent.TooLong → AreWanted any_order wanted found
       → SaysOfRuns lending any_order wanted code labels states
       (line (codes "more than " ++ decimal MAX_PICKS ++ codes " picks")) Limit
 

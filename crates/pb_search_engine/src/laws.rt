@@ -2,6 +2,7 @@
 
 ghost use Rattle.pb_search_engine.specs.ExpectedLaws.{AnswersAreRight, AnswersAreRightOfPrograms};
 ghost use Rattle.pb_search_engine.specs.SourceOutcomes.{OutcomesAreThoseOfTheProgram};
+ghost use Rattle.pb_search_engine.specs.SourceFair.{FairRunsOfProgramsEnd};
 ghost use Rattle.pb_search_engine.specs.SourceRuns.{RunsAreThoseOfTheProgram};
 
 /// The outcomes of the code of a text, with the integers and the faults of its processes, are those of the program
@@ -30,4 +31,11 @@ pub fn answers_are_right_of_programs()
 /// the code never ends, the program has runs of any length.
 pub fn runs_are_those_of_the_program()
     ensures { RunsAreThoseOfTheProgram }
+{}
+
+/// If some fair run of the program of a text never ends, some fair run of its code does not, whoever lends: pushes and
+/// jumps, which are no picks of the program, are made at once behind each of its picks. So if it is told that every fair
+/// run of the code ends, every fair run of the program does.
+pub fn fair_runs_of_programs_end()
+    ensures { FairRunsOfProgramsEnd }
 {}
