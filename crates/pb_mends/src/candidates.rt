@@ -1,9 +1,10 @@
-//! Edits that may mend a text: what is missing where it is refused. Each is tried before it is proposed.
+//! Edits that may mend a text: a word that is misspelt, or what is missing where it is refused. Each is tried before it is proposed.
 
 use crate::mend::Mend;
 use pb_base::NoMemory;
-use pb_codegen::ClaimsFault;
+use pb_codegen::{ClaimsFault, CompileFault};
 use pb_lexer::{Kind, Mark, Token};
+use pb_message_wording::respell;
 use std::alloc::Global;
 
 /// What may be missing behind a token.
@@ -46,6 +47,29 @@ pub fn add_missing(
         out.push(insertion(title, end, bytes))?;
     }
     Ok(())
+}
+
+/// Appends to `out` the edit that writes what is meant in the place of a word that is probably misspelt, if one is, and
+/// returns whether one is.
+pub fn add_respelling(
+    alloc: Global,
+    out: &mut Vec<Mend>,
+    text: &[u8],
+    fault: &CompileFault,
+) -> Result<bool, NoMemory> {
+    let meant = respell(alloc, text, fault)?;
+    let is_misspelt = meant.is_some();
+    if let Some(meant) = meant {
+        let bytes = String::from_utf8_lossy(alloc, &meant.bytes)?;
+        let title = format!(in alloc; "write `{}`", bytes)?;
+        out.push(Mend {
+            title,
+            start: meant.start,
+            end: meant.end,
+            bytes,
+        })?;
+    }
+    Ok(is_misspelt)
 }
 
 /// Returns whether a token is this symbol or reserved word.

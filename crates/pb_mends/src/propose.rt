@@ -4,7 +4,7 @@ ghost use Rattle.std.specs.Prelude.{◌≡◌, All, IfOk, true};
 ghost use Rattle.pb_codegen.specs.Compiled.{IsRefused};
 ghost use Rattle.pb_mends.specs.Mends.{HasCause, Mends, edit_of};
 
-use crate::candidates::{add_capital, add_declaration, add_missing};
+use crate::candidates::{add_capital, add_declaration, add_missing, add_respelling};
 use crate::further::gets_further;
 use crate::mend::{Mend, edited};
 use bumpalo::Bump;
@@ -37,8 +37,11 @@ fn candidates(alloc: Global, text: &[u8], fault: &CompileFault) -> Result<Vec<Me
         Err(LexFault::NoMemory) => return Err(NoMemory),
         Err(_) => return Ok(out),
     };
+    let is_misspelt = add_respelling(alloc, &mut out, text, fault)?;
     match fault {
-        CompileFault::Parse(ParseFault::Syntax(at)) => add_missing(alloc, &mut out, &tokens, *at)?,
+        CompileFault::Parse(ParseFault::Syntax(at)) if !is_misspelt => {
+            add_missing(alloc, &mut out, &tokens, *at)?
+        }
         CompileFault::Names(NameFault::Unknown(at)) => {
             add_declaration(alloc, &mut out, &tokens, *at)?
         }
