@@ -2,9 +2,9 @@
 #![tactic(auto)]
 
 use pb_base::{StandardInput, StandardOutput};
-use pb_debug_tool::DebugTool;
 use pb_call::StandardError;
 use pb_call::start::start;
+use pb_debug_tool::DebugTool;
 use std::process::ExitCode;
 
 fn main(rt: HostRuntime) -> ExitCode {
