@@ -29,6 +29,8 @@ QUICK = (
     f"checks/refusals.py {PROGRAM}",
     f"checks/editors.py {PROGRAM}",
     f"checks/usage.py {PROGRAM}",
+    f"checks/drawn_runs.py {PROGRAM}",
+    f"checks/grades.py {PROGRAM}",
     f"checks/json_lines.py {PROGRAM}",
     f"checks/check_formats.py {PROGRAM}",
     f"checks/terminal.py {PROGRAM}",

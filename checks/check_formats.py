@@ -31,11 +31,14 @@ FILES = {
     "early.pb": b"process p begin",
     "many.pb": b"".join(b"process p%d begin skip end\n" % it for it in range(65)),
     "odd name %.pb": b"process p begin print 1; end\n",
+    "a\n\x1b[1m.pb": b"process p begin print y end\n",
 }
+# Names as text and gcc show them.
+SHOWN = {name: name.replace("\n", "\\n").replace("\x1b", "\\x1b") for name in FILES}
 # The first place of each refusal: the file, the line, the column, the code.
 PLACES = [
     ("name.pb", 3, 3, "N3"), ("claim.pb", 4, 3, "C1"), ("several.pb", 3, 23, "N3"), ("early.pb", 1, 16, "P1"),
-    ("many.pb", 65, 1, "N1"), ("odd name %.pb", 1, 26, "P1"),
+    ("many.pb", 65, 1, "N1"), ("odd name %.pb", 1, 26, "P1"), ("a\n\x1b[1m.pb", 1, 23, "N3"),
 ]
 NAMES = [*FILES, "nosuch.pb"]
 
@@ -71,10 +74,10 @@ def own_lines(name: str) -> list[str]:
 def try_text(tally: Tally, it: Script) -> None:
     """Tries the lines of the program, with names before them."""
     status, told, said = it.run("check", *NAMES)
-    tally.expect(told.splitlines() == [f"{name}: {line}" for name in FILES for line in own_lines(name)], "text", told)
+    tally.expect(told.splitlines() == [f"{SHOWN[name]}: {line}" for name in FILES for line in own_lines(name)], "text", told)
     tally.expect(status == DEVICE, "the status with a missing file is", status)
     tally.expect("parbegin: no such file: nosuch.pb\n" in said, "nothing is said of a missing file")
-    tally.expect(said.endswith("parbegin: 8 files: 1 accepted, 6 refused, 1 not read\n"), "the sums", said)
+    tally.expect(said.endswith("parbegin: 9 files: 1 accepted, 7 refused, 1 not read\n"), "the sums", said)
     tally.expect(it.run("check", *FILES)[0] == REFUSED, "the status of refused files")
     tally.expect(it.run("check", "fine.pb") == (DONE, "fine.pb: ok\n", ""), "one file")
     tally.expect(it.run("check", "--jobs", "1", *NAMES)[:2] == (status, told), "one job says another thing than several")
@@ -85,7 +88,7 @@ def try_gcc(tally: Tally, it: Script) -> None:
     """Tries lines as compilers write them."""
     _, told, _ = it.run("check", "--format", "gcc", *NAMES)
     errors = [line.split(": ")[:3] for line in told.splitlines() if ": error: " in line]
-    wanted = [[f"{name}:{line or 1}:{column or 1}", "error", code] for name, line, column, code in PLACES]
+    wanted = [[f"{SHOWN[name]}:{line or 1}:{column or 1}", "error", code] for name, line, column, code in PLACES]
     tally.expect(errors == wanted, "gcc", errors)
     tally.expect("claim.pb:5:5: note: 1 of tape\n" in told, "the second place of a claim")
     tally.expect(all(": note: " in line or ": error: " in line for line in told.splitlines()), "another line", told)
@@ -122,7 +125,8 @@ def try_sarif(tally: Tally, it: Script) -> None:
     places = [result["locations"][0]["physicalLocation"] for result in run["results"]]
     regions = [(at.get("region", {}).get("startLine"), at.get("region", {}).get("startColumn")) for at in places]
     tally.expect(regions == [(line, column) for _, line, column, _ in PLACES], "the regions", regions)
-    tally.expect(places[-1]["artifactLocation"]["uri"] == "odd%20name%20%25.pb", "the address of a file")
+    uris = [it["artifactLocation"]["uri"] for it in places[-2:]]
+    tally.expect(uris == ["odd%20name%20%25.pb", "a%0A%1B%5B1m.pb"], "the address of a file", uris)
     fits(tally, "sarif", json.loads(it.run("check", "--format", "sarif", "fine.pb")[1]))
 
 

@@ -5,7 +5,8 @@ whether each path in them is there.
     checks/documents.py [PROGRAM]     PROGRAM is the one that ./parbegin has built if none is given
 
 A command is a line of a block that begins with `$ `, with the lines behind it that begin with `> `; what it writes is
-the lines up to the next command or the end of the block. The commands run in a folder with the script, as it is
+the lines up to the next command or the end of the block. If some of these begin with a prompt of the debugger, as `0/15> `,
+it is a session at a terminal, and what is behind the prompts is typed. The commands run in a folder with the script, as it is
 installed, and the examples. A block that names a language and a path behind its opening backquotes, as in
 "rust crates/NAME/src/main.rt", shows a file, and has to be that file. A path is a word of a document, in backquotes or
 not, that begins with the name of a folder at the top of the repository. Its status is 0 if all is as wanted, and 1 if
@@ -18,9 +19,11 @@ import subprocess
 import tempfile
 
 from calls import TOP, Tally, installed
+from pseudo_terminal import played
 
 DOCUMENTS = [TOP / "README.md", TOP / "examples/README.md", TOP / "extras/README.md", *sorted((TOP / "docs").glob("*.md"))]
 BLOCK = re.compile(r"^( *)```([^\n]*)\n(.*?)^\1```$", re.M | re.S)
+PROMPT = re.compile(r"\d+/\d+> ")
 PATH = re.compile(r"(?<![\w/.])(?:crates|docs|examples|checks|benches|extras|script)/[\w./{},*-]*[\w}*]\.\w+")
 
 
@@ -58,6 +61,15 @@ def install(folder):
     return top
 
 
+def written_by(command, shown, top):
+    """Returns the lines that a command writes, or a session at a terminal in which is typed what is shown."""
+    typed = [PROMPT.sub("", line, count=1) for line in shown if PROMPT.match(line)]
+    if typed:
+        return played(["bash", "-c", command], typed, PROMPT.pattern, str(top)).splitlines()
+    ran = subprocess.run(["bash", "-c", command], cwd=top, stdout=subprocess.PIPE, stderr=subprocess.DEVNULL, check=False)
+    return ran.stdout.decode().splitlines()
+
+
 def is_there(path):
     """Whether a path with braces or stars names files that are all there."""
     braces = re.search(r"\{(.*?)\}", path)
@@ -74,8 +86,7 @@ def main():
             text = document.read_text()
             for command, written in commands_of(text):
                 typed += 1
-                ran = subprocess.run(["bash", "-c", command], cwd=top, stdout=subprocess.PIPE, stderr=subprocess.DEVNULL)
-                got = ran.stdout.decode().splitlines()
+                got = written_by(command, written, top)
                 tally.expect(got == written, f"{document.name}: `{command}` writes", *got)
             for path, shown in files_of(text):
                 is_same = (TOP / path).is_file() and (TOP / path).read_text() == shown
@@ -89,4 +100,5 @@ def main():
     tally.end("documents")
 
 
-main()
+if __name__ == "__main__":
+    main()

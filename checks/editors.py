@@ -5,7 +5,7 @@
 
 Every reserved word of the lexer must be coloured by Vim and by VS Code, and nothing else as one; every command of
 `--help`, with every option of its own help, must be in both completions and in docs/parbegin.1, and no other one; and so
-must what the script adds, `page` and two options of `check`. bash must complete what follows. If vim is there, it must take a text and a recorded
+must what the script adds: commands of its own, and options of `check` and `run`. bash must complete what follows. If vim is there, it must take a text and a recorded
 run for what they are, and find the place of a refusal in what `check --format gcc` writes; if not, that is said. Its
 status is 0 if all is as wanted, and 1 if not.
 """
@@ -29,9 +29,12 @@ MANUAL = TOP / "docs/parbegin.1"
 TASKS = {"TODO", "FIXME", "NOTE"}
 # What clap gives to every command, and what may come before a command.
 COMMON = {"help", "version", "unproved", "quiet", "json"}
-# Options that the script takes, and a command that it has, and the program does not know.
-OF_SCRIPT = {"check": {"format", "jobs"}}
-COMMANDS_OF_SCRIPT = {"page": {"seed", "lend", "from", "rows", "states"}}
+# Options that the script takes, and commands that it has, and the program does not know.
+OF_SCRIPT = {"check": {"format", "jobs"}, "run": {"seed", "lend"}}
+COMMANDS_OF_SCRIPT = {
+    "grade": {"any", "fair", "lend", "states", "jobs", "csv", "html"}, "page": {"seed", "lend", "from", "rows", "states"},
+    "sample": {"runs", "seed", "lend", "steps", "events", "jobs"},
+}
 BEFORE = {
     BASH: ("--unproved", "--quiet", "--json"), FISH: ("-l unproved", "-l quiet", "-l json"),
     MANUAL: (r"\-\-unproved", r"\-\-quiet", r"\-\-json"),

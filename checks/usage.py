@@ -7,9 +7,11 @@ Its status is 0 if all is as wanted, and 1 if not.
 """
 from __future__ import annotations
 
+import os
 import pathlib
 import shutil
 import subprocess
+import sys
 import tempfile
 
 from calls import DEADLOCK, DEVICE, DONE, FAULT, LIMIT, REFUSED, TOP, WORDS, Tally, installed
@@ -40,6 +42,9 @@ CALLS = [
     (["help", "debug"], DONE, "until P.a N", None),
     (["debug", "--help"], DONE, "until P.a N", None),
     (["help", "fly"], WORDS, None, "fly"),
+    (["help", "words"], DONE, "critical section", None),
+    (["help", "Critical", "section"], DONE, "critical section: steps of which only one process", None),
+    (["run", "--help"], DONE, "--lend <WHO>", None),
     (["--version"], DONE, "parbegin ", None),
     (["outcomes", "--lend", "cash", "hello.pb"], DONE, "1 outcome\n", None),
     (["outcomes", "--lend", "banker", "hello.pb"], DONE, "1 outcome\n", None),
@@ -66,6 +71,10 @@ CALLS = [
     (["replay", "hello.pb"], DONE, "open\n", "parbegin: hello.pb has no line %% with picks"),
     (["replay", "crlf.run"], REFUSED, "refused L2", "save it with the line ends of Unix"),
     (["outcomes", "--expect", "answer.pb"], DONE, "as expected\n", None),
+    (["outcomes", "--expect", "two_prints.pb"], UNEXPECTED, "other prints\n", "parbegin: line 2 of the prints: wanted p.0 print 3, got p.0 print 2\n"),
+    (["outcomes", "--expect", "too_few.pb"], UNEXPECTED, "other prints\n", "parbegin: line 2 of the prints: wanted p.0 print 3, got no more\n"),
+    (["outcomes", "--expect", "--any-order", "two_prints.pb"], UNEXPECTED, "other prints\n", "wanted p.0 print 3, got p.0 print 2\n"),
+    (["--quiet", "outcomes", "--expect", "two_prints.pb"], UNEXPECTED, "other prints\n", None),
     (["outcomes", "--expect", "hello.pb"], UNEXPECTED, "not as expected: other prints\n", "parbegin: hello.pb has no line %% with the prints"),
     (["hello.pb"], WORDS, None, "hello.pb is a file, and a command comes before it: parbegin run hello.pb"),
     (["page", "--help"], DONE, "--states <N>", None),
@@ -73,7 +82,29 @@ CALLS = [
     (["page", "hello.pb"], DONE, "</html>", None),
     (["page", "--states", "1", "hello.pb"], DONE, "</html>", "there are more than 1 configurations"),
     (["--quiet", "page", "--states", "1", "hello.pb"], DONE, "</html>", None),
-    (["page"], WORDS, None, "usage: parbegin page "),
+    (["page"], WORDS, None, "Usage: parbegin page "),
+    (["page", "hello.pb", "--states=1"], DONE, "</html>", "there are more than 1 configurations"),
+    (["page", "hello.pb", "--quiet", "--states", "1"], DONE, "</html>", None),
+    (["page", "--seed", "1", "--seed=2", "hello.pb"], WORDS, None, "the argument '--seed' cannot be used multiple times"),
+    (["page", "--fly", "hello.pb"], WORDS, None, "unexpected argument '--fly' found"),
+    (["page", "hello.pb", "--seed"], WORDS, None, "a value is required for '--seed'"),
+    (["page", "hello.pb", "lost.pb"], WORDS, None, "page reads one file, and here are 2"),
+    (["page", "--seed", "x", "hello.pb"], WORDS, None, "invalid value 'x'"),
+    (["--json", "page", "hello.pb"], WORDS, None, "page has no '--json'"),
+    (["page", "wrong.pb"], REFUSED, "refused N3 at 16\n", "error N3: "),
+    (["page", "folder"], DEVICE, None, "parbegin: folder: Is a directory\n"),
+    (["grade", "--help"], DONE, "FOLDER EXERCISE", None),
+    (["help", "sample"], DONE, "--runs <N>", None),
+    (["check", "--format", "gcc", "--format", "json", "hello.pb"], WORDS, None, "cannot be used multiple times"),
+    (["check", "--jobs=1", "hello.pb", "--jobs", "2"], WORDS, None, "cannot be used multiple times"),
+    (["check", "--json", "hello.pb", "lost.pb"], WORDS, None, "here are 2: hello.pb, lost.pb; `check --format json` tells of several"),
+    (["--quiet", "run", "--quiet", "hello.pb"], WORDS, None, "--quiet"),
+    (["run", "hello.pb", "--steps", "5", "--steps=6"], WORDS, None, "cannot be used multiple times"),
+    (["--unproved", "run", "nosuch"], DEVICE, None, "parbegin: no such file: nosuch\n"),
+    (["--unproved", "outcomes", "--prints", "nosuch"], DEVICE, None, "parbegin: no such file: nosuch\n"),
+    (["--unproved", "run", "--steps", "5", "hello.pb", "lost.pb"], WORDS, None, "here are 2: hello.pb, lost.pb"),
+    (["--unproved", "fly"], WORDS, None, "--unproved takes a command of the program"),
+    (["run", "odd\nname"], DEVICE, None, "parbegin: no such file: odd\\nname\n"),
     (["--quiet", "exec", "hello.pb"], REFUSED, "refused O1 at 0", None),
     (["run", "--steps", "2", "hello.pb"], LIMIT, "limit 2\n", "--steps N allows N steps"),
     (["run", "--steps", "2", "hello.pb"], LIMIT, "limit 2\n", "a process with no line `end` or `fault` had not ended"),
@@ -110,7 +141,55 @@ def fill(folder: pathlib.Path) -> None:
     (folder / "two.pb").write_bytes(hello + b"%%\n" + hello)
     (folder / "crlf.run").write_bytes(b"process p begin print 1 end\r\n%%\r\np.0 3\r\n")
     (folder / "answer.pb").write_text("process p begin print 1 end\n%%\np.0 print 1\n")
+    (folder / "two_prints.pb").write_text("process p begin print 1; print 2 end\n%%\np.0 print 1\np.0 print 3\n")
+    (folder / "too_few.pb").write_text("process p begin print 1 end\n%%\np.0 print 1\np.0 print 3\n")
+    (folder / "wanted.txt").write_text("p.0 print 1\n")
+    (folder / "wrong.pb").write_text("process p begin x := 1 end\n")
     (folder / "folder").mkdir()
+
+
+# Calls that write something themselves, and do not only start the program.
+WRITING = (
+    ["--help"], ["help", "debug"], ["page", "--help"], ["page", "lost.run"], ["page", "wrong.pb"], ["check", "hello.pb", "wrong.pb"],
+    ["check", "--format", "gcc", "wrong.pb"], ["check", "--format", "json", "wrong.pb"], ["check", "--format", "sarif", "wrong.pb"],
+    ["grade", ".", "wanted.txt"], ["grade", "--csv", ".", "wanted.txt"], ["sample", "--runs", "3", "lost.pb"],
+    ["run", "--seed", "1", "lost.pb"], ["run", "--seed", "1", "wrong.pb"], ["outcomes", "--expect", "answer.pb"],
+)
+
+
+def try_outputs(tally: Tally, script: str, folder: pathlib.Path) -> None:
+    """Calls with a standard output that takes nothing, with one that is closed, and with other files that are closed."""
+    for words in WRITING:
+        call = {"args": [script, *words], "cwd": folder, "stdin": subprocess.DEVNULL, "check": False}
+        with open("/dev/full", "w") as full:
+            ran = subprocess.run(**call, stdout=full, stderr=subprocess.PIPE)
+        is_told = ran.stderr.endswith(b"parbegin: standard output: No space left on device\n") or b"error N3: " in ran.stderr
+        tally.expect(ran.returncode == DEVICE and is_told and b"Traceback" not in ran.stderr, words, "on a full device", ran)
+        ran = subprocess.run(**call, preexec_fn=lambda: os.close(1), stderr=subprocess.PIPE)
+        is_told = ran.stderr.endswith(b"parbegin: standard output: Bad file descriptor\n") or b"error N3: " in ran.stderr
+        tally.expect(ran.returncode == DEVICE and is_told and b"Traceback" not in ran.stderr, words, "with no output", ran)
+        usual = subprocess.run(**call, capture_output=True)
+        ran = subprocess.run(**call, preexec_fn=lambda: os.close(2), stdout=subprocess.PIPE)
+        tally.expect((ran.returncode, ran.stdout) == (usual.returncode, usual.stdout), words, "with no standard error", ran)
+        ran = subprocess.run([script, *words], cwd=folder, preexec_fn=lambda: os.close(0), capture_output=True, check=False)
+        tally.expect((ran.returncode, ran.stdout, ran.stderr) == (usual.returncode, usual.stdout, usual.stderr), words, "with no input", ran)
+    ran = subprocess.run(f"{script} page lost.run | head -n 1", shell=True, cwd=folder, capture_output=True, check=False)
+    tally.expect((ran.stdout, ran.stderr) == (b"<!doctype html>\n", b""), "a reader that ends early", ran)
+
+
+def try_modules(tally: Tally, script: str, folder: pathlib.Path) -> None:
+    """Calls with modules beside, and on PYTHONPATH, that have the names of modules of Python, and stop whoever takes them."""
+    beside = folder / "beside"
+    beside.mkdir()
+    for name in ("json", "subprocess", "csv", "script"):
+        (beside / f"{name}.py").write_text(f"raise SystemExit('the wrong module {name}')\n")
+    (beside / "hello.pb").write_bytes((folder / "hello.pb").read_bytes())
+    for start in ([script], [sys.executable, script], [sys.executable, "-S", script]):
+        for path in ("", ".", str(beside)):
+            ran = subprocess.run(
+                [*start, "check", "--format", "json", "hello.pb"], cwd=beside, env={**os.environ, "PYTHONPATH": path},
+                stdin=subprocess.DEVNULL, capture_output=True, check=False)
+            tally.expect(ran.returncode == DONE and b'"accepted": true' in ran.stdout, start, repr(path), "takes another module", ran)
 
 
 def main() -> None:
@@ -127,6 +206,8 @@ def main() -> None:
             ran = subprocess.run([script, "run"], cwd=folder, stdin=given, capture_output=True, check=False)
         is_told = b"parbegin: the input has picks" in ran.stderr and ran.stdout == b"refused L2 at 335\n"
         tally.expect(is_told, "picks on standard input", ran)
+        try_outputs(tally, script, folder)
+        try_modules(tally, script, folder)
     tally.end("usage")
 
 

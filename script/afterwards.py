@@ -20,8 +20,7 @@ def run_at_terminal(start: list[str], command: str, options: list[str], name: st
     with file:
         status = subprocess.run([*start, command, *options], stdin=file, check=False).returncode
     if status in (FAULT, LIMIT):
-        # (no more than what the program has said is said of a file that was changed meanwhile, or of too many picks)
-        with suppress(OSError, Refused, ValueError, IndexError):
+        with suppress(OSError):
             say_more(start, command, options, name, status)
     return status if status >= 0 else 128 - status
 
@@ -32,11 +31,18 @@ def say_more(start: list[str], command: str, options: list[str], name: str, stat
         given = file.read(files.MOST_READ)
     if command == "run":
         given = ran_on(start, ["record", *options], given)[1]
-    session = end_of(start, given, options if command == "replay" else [])
-    told = faults(session) if status == FAULT else unended(session)
-    session.close()
-    for line in told:
-        say(line)
+    say_of_picks(start, given, options if command == "replay" else [], status)
+
+
+def say_of_picks(start: list[str], given: bytes, options: list[str], status: int) -> None:
+    """Says where processes faulted by the picks behind a text, or which had not ended."""
+    # (no more than what the program has said is said of a file that was changed meanwhile, or of too many picks)
+    with suppress(OSError, Refused, ValueError, IndexError):
+        session = end_of(start, given, options)
+        told = faults(session) if status == FAULT else unended(session)
+        session.close()
+        for line in told:
+            say(line)
 
 
 def end_of(start: list[str], given: bytes, options: list[str]) -> Session:

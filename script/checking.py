@@ -11,8 +11,9 @@ from dataclasses import dataclass
 
 from script import files, helping
 from script.findings import Finding, finding, texts_of
-from script.places import DEVICE, WORDS, say
+from script.places import DEVICE, WORDS, say, shown
 from script.reports import gcc_lines, json_lines, sarif_document
+from script.standard import drop_output
 
 FORMATS = ("text", "gcc", "json", "sarif")
 STANDARD_INPUT = "<stdin>"
@@ -41,12 +42,15 @@ class Options:
 
 def read_options(words: list[str]) -> Options | str:
     """Takes the script's own options from the words, or returns what is wrong with them."""
-    options, left = Options(jobs=len(os.sched_getaffinity(0)), words=[]), iter(words)
+    options, left, seen = Options(jobs=len(os.sched_getaffinity(0)), words=[]), iter(words), set()
     for word in left:
         name, given, value = word.partition("=")
         if name not in ("--format", "--jobs"):
             options.words.append(word)
             continue
+        if name in seen:
+            return f"the argument '{name}' cannot be used multiple times"
+        seen.add(name)
         value = value if given else next(left, "")
         if name == "--format" and value in FORMATS:
             options.format = value
@@ -113,14 +117,14 @@ class Source:
         """Returns the bytes of a file, or says why it can't be read."""
         try:
             if name == STANDARD_INPUT:
-                return sys.stdin.buffer.read()
+                return files.read_input()
             file = files.opened(name)
             if file is None:
                 return None
             with file:
                 return file.read(files.MOST_READ + 1)
         except OSError as fault:
-            say(f"{name}: {fault.strerror}")
+            say(f"{shown(name)}: {fault.strerror}")
             return None
 
 
@@ -141,14 +145,14 @@ def groups(read: Iterable[tuple[str, bytes]]) -> Iterator[list[tuple[str, bytes]
 def tell_text(name: str, answer: Answer) -> None:
     """Writes the lines of an answer behind the name of its file, and its messages to standard error."""
     out = sys.stdout
-    out.writelines(f"{name}: {line}\n" for line in answer.lines)
+    out.writelines(f"{shown(name)}: {line}\n" for line in answer.lines)
     out.flush()
     # (no other line of a message begins so)
-    messages = re.sub(rb"^(?=error )", lambda _: os.fsencode(f"{name}: "), answer.messages, flags=re.M)
+    messages = re.sub(rb"^(?=error )", lambda _: os.fsencode(f"{shown(name)}: "), answer.messages, flags=re.M)
     try:
         sys.stderr.buffer.write(messages)
         sys.stderr.buffer.flush()
-    except (OSError, ValueError):
+    except (OSError, ValueError, AttributeError):
         pass
 
 
@@ -173,7 +177,7 @@ def check_as_text(checker: Checker, source: Source, jobs: int, sums: Sums) -> No
         for (name, given), answer in zip(group, checker.ask_all([given for _, given in group], jobs)):
             sums.add(answer)
             tell_text(name, answer)
-            told = files.advice("check", [], name, given)
+            told = files.advice("check", [], shown(name), given)
             if told and "--quiet" not in checker.call:
                 say(told)
 
@@ -235,9 +239,8 @@ def check(start: list[str], words: list[str]) -> int:
             check_as_text(checker, source, options.jobs, sums)
         else:
             check_as_data(checker, source, options, sums)
-    except OSError:
-        os.dup2(os.open(os.devnull, os.O_WRONLY), 1)
-        return DEVICE
+    except OSError as fault:
+        return drop_output(fault)
     if "--quiet" not in start and (len(source.names) > 1 or options.format != "text"):
         tell_sums(sums, source)
     return max(sums.status, DEVICE if source.not_read else 0)

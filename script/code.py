@@ -71,6 +71,17 @@ class Code:
     processes: dict[str, Process] = field(default_factory=dict)
 
 
+def arms_at(code: Code, line: int) -> list[str]:
+    """Returns the arms of which some place has this source line."""
+    found = []
+    for process in code.processes.values():
+        ends = [*process.entries[1:], len(process.code)]
+        for number, (first, end) in enumerate(zip(process.entries, ends)):
+            if any(it.line == line for it in process.code[first:end]):
+                found.append(f"{process.name}.{number}")
+    return found
+
+
 def read_code(text: str) -> Code:
     """Reads an object in the second format, as the program writes it."""
     code, process = Code(), Process("")

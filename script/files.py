@@ -9,7 +9,7 @@ import sys
 import tempfile
 from typing import BinaryIO, NamedTuple
 
-from script.places import DEVICE, say
+from script.places import DEVICE, say, shown
 
 # Commands whose words are never files.
 NO_FILES = ("explain", "help")
@@ -17,6 +17,8 @@ NO_FILES = ("explain", "help")
 OF_TEXTS = ("run", "claims", "plan", "emit", "record", "outcomes")
 OF_OBJECTS = ("exec", "migrate")
 OF_PICKS = ("replay", "draw")
+# Options of the program that have no value.
+WITHOUT_VALUE = ("--quiet", "--json", "--help", "--live", "--first-deadlock", "--prints", "--fair", "--expect", "--any-order", "--graph")
 # Commands that an editor starts, and what its messages begin with.
 OF_MESSAGES = ("dap", "lsp")
 MESSAGE = b"Content-Length:"
@@ -54,9 +56,24 @@ def sort_words(start: list[str], command: str, words: list[str]) -> Words:
     return sorted_words
 
 
+def named_unasked(command: str, words: list[str]) -> list[str]:
+    """Returns the words of a call that name files, as far as that is known without the program's help."""
+    if command in NO_FILES:
+        return []
+    behind = words[words.index(command) + 1 :]
+    values = [before.startswith("--") and "=" not in before and before not in WITHOUT_VALUE for before in ["", *behind]]
+    return [word for word, is_value in zip(behind, values) if not word.startswith("-") and not is_value]
+
+
+def tell_too_many(command: str, names: list[str]) -> None:
+    """Says that a command reads one file, and not these."""
+    several = "; `check --format json` tells of several" if command == "check" else ""
+    say(f"{command} reads one file, and here are {len(names)}: {', '.join(map(shown, names))}{several}")
+
+
 def tell_missing(name: str) -> None:
     """Says that there is no such file."""
-    say(f"no such file: {name}")
+    say(f"no such file: {shown(name)}")
 
 
 def opened(name: str) -> BinaryIO | None:
@@ -66,8 +83,16 @@ def opened(name: str) -> BinaryIO | None:
     except FileNotFoundError:
         tell_missing(name)
     except OSError as fault:
-        say(f"{name}: {fault.strerror}")
+        say(f"{shown(name)}: {fault.strerror}")
     return None
+
+
+def can_be_opened(name: str) -> bool:
+    """Returns whether a file can be opened to read, and says why if not."""
+    file = opened(name)
+    if file is not None:
+        file.close()
+    return file is not None
 
 
 def give_file(name: str) -> None:
@@ -77,6 +102,16 @@ def give_file(name: str) -> None:
         sys.exit(DEVICE)
     with file:
         os.dup2(file.fileno(), 0)
+
+
+def read_input() -> bytes:
+    """Returns what standard input has, or ends the script if it cannot be read."""
+    try:
+        with open(0, "rb", closefd=False) as file:
+            return file.read(MOST_READ + 1)
+    except OSError as fault:
+        say(f"standard input: {fault.strerror}")
+        sys.exit(DEVICE)
 
 
 def give_together(names: list[str]) -> None:
@@ -97,7 +132,7 @@ def give_together(names: list[str]) -> None:
 
 def tell_numbers(names: list[str]) -> None:
     """Says which number the text of each file has."""
-    say(", ".join(f"text {number} is {name}" for number, name in enumerate(names, 1)))
+    say(", ".join(f"text {number} is {shown(name)}" for number, name in enumerate(names, 1)))
 
 
 def parts_of(given: bytes) -> list[bytes]:
@@ -158,6 +193,6 @@ def advise(command: str, words: list[str], name: str | None) -> None:
             os.close(file)
     except OSError:
         return
-    told = advice(command, words, name or "the input", given)
+    told = advice(command, words, shown(name or "the input"), given)
     if told:
         say(told)

@@ -1,26 +1,39 @@
 """Help, the version, and words that the program refuses."""
 from __future__ import annotations
 
-import os
 import re
 import subprocess
 import sys
+from contextlib import suppress
 
-from script.places import DEVICE, WORDS
+from script.places import WORDS
 from script.program import is_built
+from script.standard import write
 
 FILES = """
 In place of standard input a FILE may be named: `parbegin run FILE`. So `parbegin COMMAND FILE` is
 `parbegin COMMAND < FILE`; of several, `parbegin check FILE ..` checks each, and `parbegin plan FILE ..` plans them
-together. `parbegin page FILE > page.html` makes a page for a browser (`parbegin page --help`). With --json before the
-command each line is a JSON object. This text and that of the version end with status 0 here, and with 2 if the program
-is called by itself.
+together. With --json before the command each line is a JSON object. This text and that of the version end with status 0
+here, and with 2 if the program is called by itself.
+
+Further commands, each with a help of its own:
+  grade   Judge the texts of a folder, each against one exercise
+  page    Make a page of a program for a browser
+  sample  Draw many runs of a program, and count how often each outcome came
+
+`parbegin help words` says what words of textbooks, such as available, need and race, are called here.
 """
 CHECK = """
 Of files:
       --format <FORMAT>  How each refusal is told: text, gcc (FILE:LINE:COLUMN: error: ..), json (an object a line) or
                          sarif [default: text]
       --jobs <COUNT>     The most calls of the program side by side [default: one for each processor]
+"""
+RUN = """
+Of a run that is drawn, as `record` draws it and `replay` makes it:
+      --seed <N>         Draw each step by a generator with this seed, from 0 to 18446744073709551615
+      --lend <WHO>       Who decides on a request: banker, or cash, by which the run is drawn, by seed 1 if no other is
+                         given, and may end in a deadlock [default: banker]
 """
 DEBUG = """
 At a terminal `parbegin debug FILE` is a session with a prompt, where `help` says what each command does.
@@ -63,6 +76,9 @@ def command_of_help(words: list[str]) -> str | None:
 
 def show_help(start: list[str], words: list[str]) -> int:
     """Writes help or the version, and returns the status: 0, unless the words are refused."""
+    on_words = help_on_words(words)
+    if on_words:
+        return write(on_words)
     command = command_of_help(words)
     known = commands(start)
     asked = [command, "--help"] if command in known else words
@@ -80,28 +96,28 @@ def more_help(start: list[str], command: str | None) -> str:
     if command == "debug":
         told = ran_on(start, ["debug"], SESSION)[1].decode(errors="replace") if is_built("debug") else ""
         return DEBUG + told if told else ""
-    return {"check": CHECK, "dap": EDITORS, "lsp": EDITORS, None: FILES}.get(command, "")
+    return {"check": CHECK, "dap": EDITORS, "lsp": EDITORS, "run": RUN, None: FILES}.get(command, "")
 
 
-def write(text: str) -> int:
-    """Writes a text to standard output, and returns the status."""
-    try:
-        sys.stdout.write(text)
-        sys.stdout.flush()
-    except OSError:
-        # (so that Python writes nothing more when it ends)
-        os.dup2(os.open(os.devnull, os.O_WRONLY), 1)
-        return DEVICE
-    return 0
+def help_on_words(words: list[str]) -> str | None:
+    """Returns what a word of textbooks means here, or all of them, if that is what help is asked on."""
+    asked = " ".join(words[1:]).lower()
+    if words[:1] != ["help"] or not asked:
+        return None
+    # (needed here alone)
+    from script.manual import TEXTBOOK, list_of_words
+
+    if asked == "words":
+        return "".join(f"{line}\n" for line in list_of_words(with_commands=False))
+    return f"{asked}: {TEXTBOOK[asked][0]}\n" if asked in TEXTBOOK else None
 
 
 def write_refusal(told: bytes, messages: bytes) -> int:
     """Writes to standard error why the words are refused, and returns the status."""
-    try:
+    with suppress(OSError, AttributeError):
+        # (it is nothing if it is closed)
         sys.stderr.buffer.write(told + messages)
         sys.stderr.flush()
-    except OSError:
-        pass
     return WORDS
 
 

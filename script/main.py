@@ -7,7 +7,9 @@ import signal
 import sys
 
 from script import files, helping
-from script.places import DEVICE, WORDS, say
+from script.drawn import is_drawn
+from script.own import own_call, run_own
+from script.places import DEVICE, WORDS, say, shown
 from script.program import is_built, program, record_of_gate
 from script.tools import CALLS, COMMANDS, command_of, path_of, tool_of
 
@@ -49,6 +51,10 @@ def run_command(start: list[str], command: str, words: list[str]) -> int:
         if helping.are_refused(start, [command, *words]):
             return WORDS
         start_program(start, [command, *words])
+    if command == "run" and is_drawn(words):
+        from script.drawn import run_drawn
+
+        return run_drawn(start, files.sort_words(start, "record", words))
     if command == "check" and "--json" not in start and any(not word.startswith("-") or word.startswith("--format") for word in words):
         from script.checking import check
 
@@ -65,7 +71,7 @@ def run_on_file(start: list[str], command: str, words: files.Words) -> int:
     if words.missing:
         return DEVICE
     if len(words.named) > 1 and command != "plan":
-        say(f"{command} reads one file, and here are {len(words.named)}: {', '.join(words.named)}")
+        files.tell_too_many(command, words.named)
         return WORDS
     if len(words.named) > 1:
         files.give_together(words.named)
@@ -87,14 +93,21 @@ def run_on_file(start: list[str], command: str, words: files.Words) -> int:
         files.give_file(name)
     else:
         tell_what_it_awaits(command)
+    if command == "outcomes" and "--expect" in words.others and len(start) == 1:
+        from script.expected import run_expected
+
+        return run_expected(start, words.others)
     start_program(start, [command, *words.others])
     return DEVICE
 
 
 def to_front(start: list[str], words: list[str]) -> tuple[list[str], list[str]]:
     """Puts `--quiet` and `--json` before the command, wherever they stand, in the order in which the program takes them."""
-    found = [word for word in ("--quiet", "--json") if word in words]
-    return [*start, *found], [word for word in words if word not in found]
+    found, left = [word for word in ("--quiet", "--json") if word in words], list(words)
+    for word in found:
+        # (the program refuses a second one)
+        left.remove(word)
+    return [*start, *found], left
 
 
 def run_words(start: list[str], words: list[str]) -> int:
@@ -105,7 +118,7 @@ def run_words(start: list[str], words: list[str]) -> int:
     if not words or words[0] not in COMMANDS:
         if helping.are_refused(start, words):
             if words and os.path.isfile(words[0]):
-                say(f"{words[0]} is a file, and a command comes before it: parbegin run {words[0]}")
+                say("{0} is a file, and a command comes before it: parbegin run {0}".format(shown(words[0])))
             return WORDS
         start_program(start, words)
     return run_command(start, words[0], words[1:])
@@ -123,16 +136,17 @@ def run_unproved(words: list[str]) -> int:
     if command not in (*COMMANDS, *WITHOUT_WORK):
         say(f"--unproved takes a command of the program: {', '.join(COMMANDS)}")
         return WORDS
-    missing = [word for word in words[1:] if not word.startswith("-") and {".", "/"} & set(word) and not os.path.exists(word)]
-    for name in missing:
-        files.tell_missing(name)
-    if missing:
-        return DEVICE
-    named = [word for word in words[1:] if not word.startswith("-") and os.path.isfile(word)]
-    if len(named) > 1:
-        say(f"--unproved takes one file, and here are {len(named)}: {', '.join(named)}")
+    if command == "run" and is_drawn(words):
+        say("--unproved is one call of the program: record draws a run, and replay makes it")
         return WORDS
-    if len(named) == 1 and command not in files.NO_FILES:
+    named = files.named_unasked(command, words)
+    for name in named:
+        if not files.can_be_opened(name):
+            return DEVICE
+    if len(named) > 1:
+        files.tell_too_many("--unproved", named)
+        return WORDS
+    if named:
         files.give_file(named[0])
         words = [word for word in words if word != named[0]]
     return run_trial(words)
@@ -156,7 +170,7 @@ def main(words: list[str]) -> int:
             return run_unproved(words[1:])
         if words[:1] == ["--built-by-the-gate"]:
             return record_of_gate(words[1:])
-        if words[:1] == ["help"] and words[1:] in (["library"], ["package"], ["page"]):
+        if words[:1] == ["help"] and words[1:] in (["library"], ["package"]):
             words = [words[1], "--help"]
         if words[:1] == ["package"] and words != ["package"]:
             from script.package import answer
@@ -169,13 +183,9 @@ def main(words: list[str]) -> int:
         if words == ["build"]:
             program(*CALLS["build"])
             return 0
-        if words[:1] == ["page"] or words[:2] == ["--quiet", "page"]:
-            from script.pages import page
-
-            at = words.index("page")
-            helps = any(word in helping.HELPFUL for word in words)
-            start = "" if helps else program(*CALLS["page"])
-            return page([start, *words[:at]], words[at + 1 :])
+        own = own_call(words)
+        if own:
+            return run_own(own)
         if words[:1] == ["library"]:
             from script.library import library
 

@@ -1,17 +1,21 @@
 """`./parbegin page`: the page of a program, its run and all its schedules, one HTML file for a browser."""
 from __future__ import annotations
 
+import functools
 import importlib.util
 import os
 import sys
 from types import ModuleType
 
-from script.helping import HELPFUL, write
+from script.files import opened
+from script.helping import write_refusal
+from script.options import WrongWords, read_options
 from script.places import DEVICE, TOP, WORDS, is_installed, say
+from script.standard import write
 
 # Where the template is: in a checkout, and under the prefix of install.sh.
 TEMPLATE = f"{TOP}/../../share/parbegin/page" if is_installed() else f"{TOP}/extras/page"
-USE = "usage: parbegin page [--seed N] [--lend WHO] [--from POSITION] [--rows N] [--states N] FILE > page.html"
+USE = "parbegin page [--seed N] [--lend WHO] [--from POSITION] [--rows N] [--states N] FILE > page.html"
 HELP = """Make a page of a program for a browser: one HTML file with a run and all schedules
 
 Usage: parbegin page [OPTIONS] FILE > page.html
@@ -29,6 +33,7 @@ Options:
 """
 
 
+@functools.cache
 def maker() -> ModuleType:
     """Returns the module beside the template that makes pages."""
     where = importlib.util.spec_from_file_location("make_page", f"{TEMPLATE}/make_page.py")
@@ -39,29 +44,24 @@ def maker() -> ModuleType:
     return module
 
 
-def page(start: list[str], words: list[str]) -> int:
+def call(start: list[str], words: list[str]) -> int:
     """Writes the page that the words ask for, or the refusal in its place, and returns the status."""
     pages = maker()
-    if any(word in HELPFUL for word in words):
-        return write(HELP)
-    if len(words) % 2 == 0 or any(name not in pages.OPTIONS for name in words[:-1:2]):
-        print(USE, file=sys.stderr)
-        return WORDS
-    options = pages.Options(**{pages.OPTIONS[name]: value for name, value in zip(words[:-1:2], words[1:-1:2])})
+    given = read_options(words, pages.OPTIONS)
+    if len(given.others) != 1:
+        raise WrongWords(f"page reads one file, and here are {len(given.others) or 'none'}")
+    name = given.others[0]
+    options = pages.Options(**{pages.OPTIONS[option]: value for option, value in given.options.items()})
+    file = opened(name)
+    if file is None:
+        return DEVICE
+    with file:
+        text = file.read()
     try:
-        with open(words[-1], "rb") as file:
-            given = file.read()
-        made = pages.make_page(start, os.path.basename(words[-1]), given, options)
-    except FileNotFoundError:
-        say(f"no such file: {words[-1]}")
-        return DEVICE
-    except OSError as fault:
-        say(f"{words[-1]}: {fault.strerror}")
-        return DEVICE
+        made = pages.make_page(start, os.path.basename(name), text, options)
     except pages.Refusal as refusal:
-        sys.stdout.buffer.write(refusal.said)
-        return refusal.status
+        return write_refusal(refusal.said, b"") if refusal.status == WORDS else write(refusal.said) or refusal.status
     if '"more_than":' in made and "--quiet" not in start:
         say(f"there are more than {options.states} configurations, so schedules are left out: --states N allows N")
-    sys.stdout.write(made)
-    return 0
+    # (it says itself that it is UTF-8)
+    return write(made.encode(errors="replace"))

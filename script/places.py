@@ -2,18 +2,27 @@
 from __future__ import annotations
 
 import os
+import re
 import sys
 from typing import NoReturn
 
 # The top of a checkout; or PREFIX/libexec/parbegin, where install.sh puts this folder beside the tools.
 TOP = os.path.dirname(os.path.dirname(os.path.realpath(__file__)))
-# The program's statuses of a refused input, of refused words, of a limit, of a fault, and of a failed read or write; the
-# script's of no program.
-REFUSED, WORDS, LIMIT, FAULT, DEVICE, NO_PROGRAM = 1, 2, 3, 4, 6, 8
+# The program's statuses of a refused input, of refused words, of a limit, of a fault, of a failed read or write, of a
+# deadlock, and of a run that is not as expected; the script's of no program.
+REFUSED, WORDS, LIMIT, FAULT, DEVICE, DEADLOCK, UNEXPECTED, NO_PROGRAM = 1, 2, 3, 4, 6, 9, 10, 8
+
+
+def shown(name: str) -> str:
+    """Returns the name of a file with its control characters escaped, as `\\n` and `\\x1b`, so that it stays in its line."""
+    return re.sub(r"[\x00-\x1f\x7f-\x9f\u2028\u2029]", lambda it: it[0].encode("unicode_escape").decode(), name)
 
 
 def say(text: object) -> None:
     """Writes a line to standard error, if that takes it."""
+    if sys.stderr is None:
+        # (print would take standard output in its place)
+        return
     try:
         print(f"parbegin: {text}", file=sys.stderr, flush=True)
     except (OSError, ValueError):

@@ -3,18 +3,21 @@ from __future__ import annotations
 
 import cmd
 import os
+import re
 import readline
 import signal
 from collections.abc import Iterable
 
 from script import shown
+from script.code import arms_at
 from script.happenings import Teller
-from script.manual import help_of, list_of_commands
+from script.manual import TEXTBOOK, help_of, list_of_commands, list_of_words
 from script.session import Denied, Session
 from script.typed import Completion, Mistake
 
 # A move tells of so many picks at most, and of more only the last.
 MOST_TOLD = 20
+INTEGER = re.compile(r"-?[0-9]{1,19}")
 
 
 class Prompt(Completion, cmd.Cmd):
@@ -140,7 +143,8 @@ class Prompt(Completion, cmd.Cmd):
 
     def do_to(self, words: str) -> None:
         """Carries out `to N`."""
-        aim, total = self.number(words), self.session.picks.total
+        total = self.session.picks.total
+        aim = total if words == "end" else self.number(words)
         if aim > total:
             raise Mistake(f"the positions are 0 to {total}")
         self.moved(f"to {aim}", f"to {aim}")
@@ -159,7 +163,26 @@ class Prompt(Completion, cmd.Cmd):
         arm = self.arm(arm)
         if not self.is_object and not 1 <= self.number(line) <= len(self.text):
             raise Mistake(f"the text has the lines 1 to {len(self.text)}")
+        there = arms_at(self.session.code, self.number(line))
+        if not there:
+            raise Mistake(f"no arm is ever at line {self.number(line)}")
+        if arm not in there:
+            tries = " or ".join(f"`until {it} {line}`" for it in there)
+            raise Mistake(f"{arm} never comes to line {line}, which is of {' and '.join(there)}: {tries}")
         self.moved(f"until {arm} {self.number(line)}", f"until {arm} {line}")
+
+    def do_find(self, words: str) -> None:
+        """Carries out `find P X V`."""
+        name, integer, value = (*words.split(), "", "", "")[:3]
+        name = self.process(name)
+        self.integer(name, integer)
+        if not INTEGER.fullmatch(value):
+            raise Mistake(f"{value} is no integer" if value else "a value is missing; `help find` shows where")
+        before, self.last_move = self.session.position, f"find {name} {integer} {int(value)}"
+        if self.session.becomes(name, integer, int(value)):
+            self.tell_from(before)
+        else:
+            self.say(f"{integer} does not become {int(value)} in the picks that follow")
 
     def do_pick(self, words: str) -> None:
         """Carries out `pick P.a`."""
@@ -274,7 +297,14 @@ class Prompt(Completion, cmd.Cmd):
 
     def do_help(self, arg: str) -> None:
         """Carries out `help [COMMAND]`."""
-        self.say(help_of(self.full(arg).split()[0]) if arg else list_of_commands())
+        word = " ".join(arg.lower().split())
+        if word == "words":
+            self.say(list_of_words())
+        elif word in TEXTBOOK:
+            meaning, command = TEXTBOOK[word]
+            self.say(f"  {word}: {meaning}; `{command}` shows it")
+        else:
+            self.say(help_of(self.full(arg).split()[0]) if arg else list_of_commands())
 
     def do_quit(self, _: str) -> bool:
         """Carries out `quit`."""

@@ -10,6 +10,7 @@ from urllib.parse import quote
 
 from script.findings import Finding, Place
 from script.helping import ran_on
+from script.places import shown
 
 SARIF = "https://json.schemastore.org/sarif-2.1.0.json"
 # A refusal that is of the whole text is told at its start, so that an editor goes to the file.
@@ -23,7 +24,7 @@ def gcc_lines(finding: Finding) -> Iterator[str]:
     first, *others = finding.places or [Place(finding.text.lines_before + 1, 1, "")]
 
     def line(place: Place, kind: str, text: str) -> str:
-        return f"{finding.text.file}:{place.line}:{place.column}: {kind}: {text}\n"
+        return f"{shown(finding.text.file)}:{place.line}:{place.column}: {kind}: {text}\n"
 
     yield line(first, "error", f"{finding.code}: {finding.message}")
     for place in ([first] if first.what else []) + others:

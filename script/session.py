@@ -11,6 +11,8 @@ from script.code import Code
 from script.picks import Picks
 from script.places import say
 
+# A search for a value looks through so many picks first, and then through twice as many each time.
+LOOKED_AHEAD = 64
 REFUSAL = re.compile(r"refused G\d$")
 # The line of a pick that is not enabled, with its number.
 NOT_ENABLED = re.compile(r"refused H1 at (\d+)")
@@ -123,6 +125,38 @@ class Session:
         count = len(self.code.processes[process].integers)
         lines = self.lines(f"vars {process}", count) if count else []
         return {name: int(value) for name, value in (line.split(" ") for line in lines)}
+
+    def becomes(self, process: str, integer: str, value: int) -> bool:
+        """Goes to the next position at which an integer is changed to this value, and returns whether there is one."""
+        here, total = self.position, self.picks.total
+        first, width = here, LOOKED_AHEAD
+        while first < total:
+            last = min(first + width, total)
+            found = [at for at in self.changes(process, integer, first, last) if self.value_at(at, process, integer) == value]
+            if found:
+                self.go(min(found))
+                return True
+            first, width = last, 2 * width
+        self.go(here)
+        return False
+
+    def value_at(self, position: int, process: str, integer: str) -> int:
+        """Goes to a position, and returns the value of an integer there."""
+        self.go(position)
+        return self.integers(process)[integer]
+
+    def changes(self, process: str, integer: str, first: int, last: int) -> Iterator[int]:
+        """Yields the positions behind the first one and up to the last just behind which a pick changed an integer, the
+        last first."""
+        at = last
+        while True:
+            self.go(at)
+            answer = self.ask(f"wrote {process} {integer}")
+            at = 0 if answer == "never" else int(answer.split()[1])
+            if at <= first:
+                return
+            yield at
+            at -= 1
 
     def places(self, process: str) -> dict[str, int | str]:
         """Returns the place of each arm of a process, or `idle`, `ended` or `faulted`."""

@@ -16,7 +16,10 @@ COMMANDS_OF = {
 # All commands, as `--help` lists them by name.
 COMMANDS = tuple(sorted(command for commands in COMMANDS_OF.values() for command in commands))
 # What each command of the script calls.
-CALLS = {"page": ("emit", "states"), "package": COMMANDS, "build": COMMANDS, "library": ()}
+CALLS = {
+    "page": ("emit", "states"), "grade": ("outcomes", "states"), "sample": ("record", "replay"), "package": COMMANDS, "build": COMMANDS,
+    "library": (),
+}
 # Becomes the tool that has the command of its words.
 FRONT = f"{TOP}/script/tools.sh"
 

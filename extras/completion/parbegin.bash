@@ -6,7 +6,7 @@ _parbegin() {
         at=$((at + 1))
     done
     if ((COMP_CWORD <= at)); then
-        local commands="bank check claims dap debug draw emit exec explain lsp migrate outcomes page plan record replay run states help --help --version"
+        local commands="bank check claims dap debug draw emit exec explain grade lsp migrate outcomes page plan record replay run sample states help --help --version"
         if [[ ${COMP_WORDS[at - 1]} != --quiet && ${COMP_WORDS[at - 1]} != --json ]]; then
             commands+=" --quiet"
         fi
@@ -33,7 +33,12 @@ _parbegin() {
         mapfile -t COMPREPLY < <(compgen -W "text gcc json sarif" -- "$word")
         return
         ;;
-    --jobs | --heap | --workers | --quantum | --steps | --seed | --states | --rows | --from | --width | --scale)
+    --html)
+        compopt -o filenames 2>/dev/null
+        mapfile -t COMPREPLY < <(compgen -f -- "$word")
+        return
+        ;;
+    --jobs | --heap | --workers | --quantum | --steps | --seed | --states | --rows | --runs | --from | --width | --scale)
         return
         ;;
     esac
@@ -52,17 +57,19 @@ _parbegin() {
         mapfile -t COMPREPLY < <(compgen -W "$codes --help" -- "$word")
         return
         ;;
+    grade) options="--any-order --fair --lend --states --jobs --csv --html" ;;
     migrate) options="" ;;
     outcomes) options="--states --lend --first-deadlock --prints --fair --expect --any-order --graph --run --deadlock" ;;
     page) options="--seed --lend --from --rows --states" ;;
     plan) options="--lend" ;;
     record) options="--workers --quantum --steps --seed --lend" ;;
     replay) options="--lend" ;;
-    run) options="--workers --quantum --steps" ;;
+    run) options="--workers --quantum --steps --seed --lend" ;;
+    sample) options="--runs --seed --lend --steps --events --jobs" ;;
     states) options="--rows --from --lend" ;;
     help)
         # its word is a command
-        local named="bank check claims dap debug draw emit exec explain lsp migrate outcomes page plan record replay run states"
+        local named="bank check claims dap debug draw emit exec explain grade lsp migrate outcomes page plan record replay run sample states"
         mapfile -t COMPREPLY < <(compgen -W "$named" -- "$word")
         return
         ;;

@@ -1,0 +1,105 @@
+"""`outcomes --expect`: the verdict, the run that is not as expected, and where its prints differ from those wanted."""
+from __future__ import annotations
+
+import re
+import subprocess
+from collections import Counter
+from dataclasses import dataclass, field
+from typing import NamedTuple
+
+from script.files import parts_of, read_input
+from script.places import UNEXPECTED, say
+from script.standard import write
+
+PRINT = re.compile(r"\w+\.\d+ print -?\d+")
+PICK = re.compile(r"\w+\.\d+ \d+")
+OVER = re.compile(r"(\w+) (faulted|waits)")
+# The line by which the program says what it found.
+VERDICT = re.compile(r"as expected|not as expected: .*|refused \w+.*|more than \d+ .*|memory")
+# What is said of prints that end before those that are wanted do, and of wanted ones that end before.
+NO_MORE = "no more"
+
+
+class Difference(NamedTuple):
+    """Where prints differ: the number of the line, from 1, what is wanted there and what came."""
+
+    number: int
+    wanted: str
+    came: str
+
+    def __str__(self) -> str:
+        return f"line {self.number} of the prints: wanted {self.wanted}, got {self.came}"
+
+
+@dataclass
+class Told:
+    """What the program says of a text and the prints that are wanted of it."""
+
+    verdict: str
+    printed: list[str] = field(default_factory=list)
+    picks: list[str] = field(default_factory=list)
+    ends: dict[str, str] = field(default_factory=dict)
+
+
+def read_told(lines: list[str]) -> Told:
+    """Reads what the program writes."""
+    told, is_reached = Told((list(filter(VERDICT.fullmatch, lines)) or lines or ["no answer"])[-1]), False
+    for line in lines:
+        over = OVER.fullmatch(line)
+        is_reached |= line == "reached by"
+        if PRINT.fullmatch(line):
+            told.printed.append(line)
+        elif is_reached and PICK.fullmatch(line):
+            told.picks.append(line)
+        elif over:
+            told.ends[over[1]] = over[2]
+    return told
+
+
+def difference(wanted: list[str], printed: list[str], in_any_order: bool) -> Difference | None:
+    """Returns where prints differ from those that are wanted first, or nothing if they do not."""
+    if in_any_order:
+        return difference_of_bags(wanted, printed)
+    for at in range(max(len(wanted), len(printed))):
+        want, came = (lines[at] if at < len(lines) else NO_MORE for lines in (wanted, printed))
+        if want != came:
+            return Difference(at + 1, want, came)
+    return None
+
+
+def difference_of_bags(wanted: list[str], printed: list[str]) -> Difference | None:
+    """Returns the first print that is too many, and the first that is wanted and did not come; nothing if neither is."""
+    left = Counter(wanted)
+    number, came = len(printed) + 1, NO_MORE
+    for at, line in enumerate(printed, 1):
+        left[line] -= 1
+        if left[line] < 0 and came == NO_MORE:
+            number, came = at, line
+    missing = next((line for line in wanted if left[line] > 0), NO_MORE)
+    return None if (missing, came) == (NO_MORE, NO_MORE) else Difference(number, missing, came)
+
+
+def ends_in_words(told: Told) -> str:
+    """Returns which processes faulted, or wait: `p faulted`, `p and q wait`."""
+    faulted = [name for name, end in told.ends.items() if end == "faulted"]
+    if faulted:
+        return f"{' and '.join(faulted)} faulted"
+    waiting = [name for name, end in told.ends.items() if end == "waits"]
+    return f"{' and '.join(waiting)} wait{'s' if len(waiting) == 1 else ''}" if waiting else ""
+
+
+def run_expected(start: list[str], words: list[str]) -> int:
+    """Runs `outcomes --expect` on standard input, says where the prints differ of a run that it tells, and returns the
+    status."""
+    given = read_input()
+    ran = subprocess.run([*start, "outcomes", *words], input=given, stdout=subprocess.PIPE, check=False)
+    failed = write(ran.stdout)
+    if failed:
+        return failed
+    told, parts = read_told(ran.stdout.decode(errors="replace").splitlines()), parts_of(given)
+    if ran.returncode == UNEXPECTED and told.picks and len(parts) < 3:
+        wanted = b"".join(parts[1:]).decode(errors="replace").splitlines()
+        differs = difference(wanted, told.printed, "--any-order" in words)
+        if differs:
+            say(differs)
+    return ran.returncode if ran.returncode >= 0 else 128 - ran.returncode

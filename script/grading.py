@@ -1,0 +1,211 @@
+"""`./parbegin grade`: judges the texts of a folder by `outcomes --expect`, each against one exercise."""
+from __future__ import annotations
+
+import os
+import re
+import subprocess
+from collections.abc import Iterator
+from concurrent.futures import Executor
+from dataclasses import dataclass
+
+from script.expected import Difference, Told, difference, ends_in_words, read_told
+from script.files import MOST_READ, opened
+from script.gradebook import lines_of, sums, write_report
+from script.helping import are_refused
+from script.options import Given, WrongWords, read_options
+from script.places import DEVICE, REFUSED, UNEXPECTED, WORDS, say, shown
+from script.side_by_side import workers
+from script.standard import write
+
+USE = "parbegin grade [--any-order] [--fair] [--lend WHO] [--states N] [--jobs N] [--csv] [--html FILE] FOLDER EXERCISE"
+HELP = """Judge the texts of a folder, each against one exercise
+
+Usage: parbegin grade [OPTIONS] FOLDER EXERCISE
+
+FOLDER has the submissions: all files below it whose names end in .pb. EXERCISE is a file with the lines that each run
+has to print, as `outcomes --expect` reads them behind a line %%. Lines before them that begin with // are comments, and
+one that begins so and goes on with an option has options of the exercise, as in `// --any-order`.
+
+Options:
+      --any-order    As for `outcomes --expect`
+      --fair         As for `outcomes --expect`
+      --lend <WHO>   As for `outcomes --expect`
+      --states <N>   As for `outcomes --expect`
+      --jobs <N>     The most submissions that are judged side by side [default: one for each processor]
+      --csv          Write a line of CSV for each submission, behind a line with the names of the columns
+      --html <FILE>  Write a report for a browser too, and a page of each run that is not as expected
+  -h, --help         Print help
+
+The status is the greatest of all: 0 if each submission is as expected.
+"""
+# Options that are the program's: those with a value, and those without.
+WITH_VALUE, WITHOUT = ("--lend", "--states"), ("--any-order", "--fair")
+SUBMISSION = ".pb"
+
+
+@dataclass(frozen=True)
+class Exercise:
+    """What is wanted of a text: lines, as they stand in the file, and the options with which they are compared."""
+
+    name: str
+    given: bytes
+    options: dict[str, str]
+
+    @property
+    def lines(self) -> list[str]:
+        """Returns the lines that are wanted."""
+        return self.given.decode(errors="replace").splitlines()
+
+    @property
+    def words(self) -> list[str]:
+        """Returns the options as words."""
+        return [word for name, value in self.options.items() for word in (name, value) if word]
+
+
+@dataclass(frozen=True)
+class Grade:
+    """What the program says of a submission; its name is its path below the folder."""
+
+    name: str
+    given: bytes
+    status: int
+    told: Told
+    message: str
+    differs: Difference | None
+
+    @property
+    def wanted(self) -> str:
+        """Returns the line that was wanted where the prints differ first."""
+        return self.differs.wanted if self.differs else ""
+
+    @property
+    def came(self) -> str:
+        """Returns what came in its place and what went wrong beside the prints, or the reason of a refusal."""
+        if self.status == REFUSED:
+            return line_of(self.message)
+        came = [self.differs.came if self.differs else "", ends_in_words(self.told)]
+        return ", ".join(it for it in came if it)
+
+
+def line_of(message: str) -> str:
+    """Returns what a message of the program says of a refusal, in a line, with the line of the text."""
+    head = re.match(r"error \w+: (.*)", message)
+    place = re.search(r"^ *--> .*?\bline (\d+)", message, re.M)
+    return f"{f'line {place[1]}: ' if place else ''}{head[1]}" if head else ""
+
+
+def read_exercise(name: str, given: bytes, options: dict[str, str]) -> Exercise:
+    """Reads an exercise. Options of the call count before its own."""
+    lines, own = given.splitlines(keepends=True), {}
+    while lines and lines[0].startswith(b"//"):
+        words = lines.pop(0)[2:].decode(errors="replace").split()
+        if words and words[0].startswith("--"):
+            try:
+                taken = read_options(words, WITH_VALUE, WITHOUT)
+            except WrongWords as wrong:
+                raise WrongWords(f"{wrong}, in {shown(name)}") from None
+            if taken.others:
+                raise WrongWords(f"unexpected argument '{taken.others[0]}' found, in {shown(name)}")
+            own |= taken.options
+    return Exercise(name, b"".join(lines), own | options)
+
+
+def submissions(folder: str) -> Iterator[str]:
+    """Yields the paths below a folder of the texts that were handed in, in order."""
+    for at, folders, names in os.walk(folder):
+        folders[:] = sorted(name for name in folders if not name.startswith("."))
+        for name in sorted(names):
+            if name.endswith(SUBMISSION) and not name.startswith("."):
+                yield os.path.relpath(os.path.join(at, name), folder)
+
+
+@dataclass(frozen=True)
+class Grader:
+    """Judges submissions of a folder by calls of the program."""
+
+    start: list[str]
+    folder: str
+    exercise: Exercise
+
+    def read(self, name: str) -> bytes | None:
+        """Returns a submission, with a line feed at its end, or says why it cannot be read."""
+        try:
+            file = opened(os.path.join(self.folder, name))
+            if file is None:
+                return None
+            with file:
+                given = file.read(MOST_READ + 1)
+        except OSError as fault:
+            say(f"{shown(name)}: {fault.strerror}")
+            return None
+        return given if given.endswith(b"\n") else given + b"\n"
+
+    def grade(self, name: str) -> Grade | None:
+        """Judges a submission, if it can be read."""
+        given = self.read(name)
+        if given is None:
+            return None
+        words = [*self.start, "outcomes", "--expect", *self.exercise.words]
+        ran = subprocess.run(words, input=given + b"%%\n" + self.exercise.given, capture_output=True, check=False)
+        told, differs = read_told(ran.stdout.decode(errors="replace").splitlines()), None
+        if ran.returncode == UNEXPECTED and told.picks:
+            differs = difference(self.exercise.lines, told.printed, "--any-order" in self.exercise.options)
+        # (a program that a signal ended has a status below 0)
+        status = ran.returncode if ran.returncode >= 0 else 128 - ran.returncode
+        return Grade(name, given, status, told, ran.stderr.decode(errors="replace"), differs)
+
+
+def read_words(words: list[str]) -> tuple[Given, str, str]:
+    """Reads the words of a call: the options, the folder and the file of the exercise."""
+    given = read_options(words, (*WITH_VALUE, "--jobs", "--html"), (*WITHOUT, "--csv"))
+    if len(given.others) != 2:
+        raise WrongWords(f"grade takes a folder and an exercise, and here are {len(given.others) or 'none'}")
+    folder, exercise = given.others
+    if os.path.isdir(exercise) and not os.path.isdir(folder):
+        raise WrongWords(f"the folder comes first: grade {shown(exercise)} {shown(folder)}")
+    return given, folder, exercise
+
+
+def call(start: list[str], words: list[str]) -> int:
+    """Judges the submissions that the words name, and returns the greatest status of all."""
+    given, folder, name = read_words(words)
+    jobs, is_quiet = given.number("--jobs", len(os.sched_getaffinity(0))), "--quiet" in start
+    file = opened(name)
+    if file is None:
+        return DEVICE
+    with file:
+        of_program = {option: value for option, value in given.options.items() if option in WITH_VALUE + WITHOUT}
+        exercise = read_exercise(name, file.read(MOST_READ + 1), of_program)
+    names = list(submissions(folder))
+    if not names:
+        say(f"{shown(folder)}: {'no names below it end in .pb' if os.path.isdir(folder) else 'no such folder'}")
+        return DEVICE
+    if are_refused(start[:1], ["outcomes", "--expect", *exercise.words]):
+        return WORDS
+    if b"\r\n" in exercise.given and not is_quiet:
+        say(f"the lines of {shown(name)} end with a carriage return: save it with the line ends of Unix")
+    with workers(jobs) as pool:
+        return judge(pool, Grader(start[:1], folder, exercise), names, given, is_quiet)
+
+
+def judge(pool: Executor, grader: Grader, names: list[str], given: Given, is_quiet: bool) -> int:
+    """Judges submissions side by side, tells of each in order, and returns the greatest status of all."""
+    grades: list[Grade] = []
+
+    def judged() -> Iterator[Grade]:
+        for it in pool.map(grader.grade, names):
+            if it is not None:
+                grades.append(it)
+                yield it
+
+    for line in lines_of(judged(), names, "--csv" in given.options):
+        failed = write(line)
+        if failed:
+            pool.shutdown(cancel_futures=True)
+            return failed
+    failed = 0
+    if "--html" in given.options:
+        failed = write_report(pool, grader, grades, sums(grades, names), given.options["--html"])
+    if not is_quiet:
+        say(sums(grades, names))
+    return max([failed, *[DEVICE] * (len(grades) < len(names)), *(it.status for it in grades)])
