@@ -88,39 +88,52 @@ fn number_mistake<'t>(tokens: &[Token<'t>], number: usize) -> Option<Told<'t>> {
 /// Returns the mistake of two signs that other languages write as one.
 fn pair_mistake<'t>(tokens: &[Token<'t>], number: usize) -> Option<Told<'t>> {
     let before = number.checked_sub(1)?;
-    let first = mark_at(tokens, before);
-    match (first, mark_at(tokens, number)) {
-        (Some(Mark::Equal), Some(Mark::Less)) => usual(
-            "there is no `=<`",
-            "at most is written a <= b",
-        ),
-        (Some(Mark::Equal), Some(Mark::Greater)) => {
-            usual("there is no `=>`", "at least is written a >= b")
-        }
-        (Some(Mark::Greater), Some(Mark::Less)) => {
-            usual("there is no `><`", "not equal is written a <> b")
-        }
-        (Some(Mark::Less), Some(Mark::Less)) => usual(
+    if is_at(tokens, number, Mark::Less) && is_arrow(tokens, number) {
+        return usual("there is no `<-`", "an assignment is written x := 1");
+    }
+    let first = mark_at(tokens, before)?;
+    let second = mark_at(tokens, number)?;
+    match first {
+        Mark::Equal => behind_equal(second),
+        Mark::Less => behind_less(second),
+        Mark::Greater => behind_greater(second),
+        _ => None,
+    }
+}
+
+/// Returns the mistake of a sign behind `=`.
+fn behind_equal<'t>(second: Mark) -> Option<Told<'t>> {
+    match second {
+        Mark::Less => usual("there is no `=<`", "at most is written a <= b"),
+        Mark::Greater => usual("there is no `=>`", "at least is written a >= b"),
+        _ => None,
+    }
+}
+
+/// Returns the mistake of a sign behind `<`.
+fn behind_less<'t>(second: Mark) -> Option<Told<'t>> {
+    match second {
+        Mark::Less => usual(
             "there is no `<<`",
             "a product is written a * 2, and a number is printed by print: print x",
         ),
-        (Some(Mark::Greater), Some(Mark::Greater)) => {
-            usual("there is no `>>`", "a quotient is written a div 2")
-        }
-        (Some(Mark::Less), Some(Mark::Minus)) if is_statement_start(tokens, before) => None,
-        (_, Some(Mark::Less)) if is_arrow(tokens, number) => {
-            usual("there is no `<-`", "an assignment is written x := 1")
-        }
-        (Some(Mark::Less), Some(Mark::Equal)) => usual(
+        Mark::Equal => usual(
             "there is no `< =`",
             "at most is written a <= b, with no blank",
         ),
-        (Some(Mark::Greater), Some(Mark::Equal)) => {
-            usual(
-                "there is no `> =`",
-                "at least is written a >= b, with no blank",
-            )
-        }
+        _ => None,
+    }
+}
+
+/// Returns the mistake of a sign behind `>`.
+fn behind_greater<'t>(second: Mark) -> Option<Told<'t>> {
+    match second {
+        Mark::Less => usual("there is no `><`", "not equal is written a <> b"),
+        Mark::Greater => usual("there is no `>>`", "a quotient is written a div 2"),
+        Mark::Equal => usual(
+            "there is no `> =`",
+            "at least is written a >= b, with no blank",
+        ),
         _ => None,
     }
 }
