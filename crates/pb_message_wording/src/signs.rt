@@ -93,6 +93,11 @@ fn pair_mistake<'t>(tokens: &[Token<'t>], number: usize) -> Option<Told<'t>> {
     }
     let first = mark_at(tokens, before)?;
     let second = mark_at(tokens, number)?;
+    two_signs(first, second)
+}
+
+/// Returns the mistake of a sign behind another one.
+fn two_signs<'t>(first: Mark, second: Mark) -> Option<Told<'t>> {
     match first {
         Mark::Equal => behind_equal(second),
         Mark::Less => behind_less(second),
