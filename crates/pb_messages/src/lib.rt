@@ -7,9 +7,8 @@ mod message;
 mod objects;
 mod picks;
 mod texts;
-mod worded;
+pub mod worded;
 
 pub use live::live_message;
 pub use message::{Reading, long_message, message_of};
 pub use texts::text_message;
-pub use worded::worded;

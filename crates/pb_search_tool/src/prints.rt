@@ -9,7 +9,7 @@ use pb_accept::Cause;
 use pb_base::NoMemory;
 use pb_code::Code;
 use pb_message_stops::{Lines, bad_print_line};
-use pb_messages::worded;
+use pb_messages::worded::worded;
 use pb_search_engine::{PrintFault, read_prints};
 use pb_verifier::Verified;
 use std::alloc::Global;
