@@ -1,4 +1,5 @@
-//! All tools as one: each call has one answer, by the tool that has its command.
+//! The whole program, over any words, input and output: it reads the words of a call, and calls the engine of
+//! their command.
 #![tactic(auto)]
 
 pub mod answer;

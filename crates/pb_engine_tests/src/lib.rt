@@ -34,6 +34,4 @@ mod places;
 #[cfg(test)]
 mod plan;
 #[cfg(test)]
-mod tools;
-#[cfg(test)]
 mod words;

@@ -1,3 +1,4 @@
+pub mod Kept
 pub mod LiveInputs
 pub mod Messages
 pub mod Said

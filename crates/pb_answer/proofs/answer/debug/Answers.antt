@@ -1,0 +1,67 @@
+use Rattle.std.proofs.Common.{Bool, true, false, IfSome, subst, sym}
+use Rattle.pb_base.specs.declared.lending.Lending.{Lending}
+use Rattle.pb_command_io.specs.Answers.{Tells}
+use Rattle.pb_options.specs.Lends.{lending_for}
+use Rattle.pb_answer.specs.Calls.{AnswersBeforeRead, SaysOfSession}
+use Rattle.pb_answer.proofs.answer.debug.Goals as goal
+
+pub returns-then-flags-clause-text : goal.returns-then-flags-clause-text
+returns-then-flags-clause-text g c =
+    subst (λ (live : Bool). IfSome (g.I.Input.rest c.args.input.now) (λ bytes.
+    Tells (SaysOfSession live (lending_for c.args.flags.lend) bytes) (g.O.Output.written c.args.output.now)
+    (g.O.Output.written c.debug_live_engine.new.output) c.debug_live_engine.result))
+    (sym c.if-flags.true)
+    (subst (λ (l : Lending). IfSome (g.I.Input.rest c.args.input.now) (λ bytes.
+    Tells (SaysOfSession true l bytes) (g.O.Output.written c.args.output.now)
+    (g.O.Output.written c.debug_live_engine.new.output) c.debug_live_engine.result)) c.lending-lending.ensures c.debug_live_engine.ensures.text)
+
+pub returns-else-flags-clause-text : goal.returns-else-flags-clause-text
+returns-else-flags-clause-text g c =
+    subst (λ (live : Bool). IfSome (g.I.Input.rest c.args.input.now) (λ bytes.
+    Tells (SaysOfSession live (lending_for c.args.flags.lend) bytes) (g.O.Output.written c.args.output.now)
+    (g.O.Output.written c.debug_engine.new.output) c.debug_engine.result))
+    (sym c.if-flags.false)
+    (subst (λ (l : Lending). IfSome (g.I.Input.rest c.args.input.now) (λ bytes.
+    Tells (SaysOfSession false l bytes) (g.O.Output.written c.args.output.now)
+    (g.O.Output.written c.debug_engine.new.output) c.debug_engine.result)) c.lending-lending.ensures c.debug_engine.ensures.text)
+
+pub returns-then-flags-clause-answered : goal.returns-then-flags-clause-answered
+returns-then-flags-clause-answered g c =
+    subst (λ (live : Bool). AnswersBeforeRead live (lending_for c.args.flags.lend) (g.I.Input.rest c.args.input.now) (g.I.Input.rest c.debug_live_engine.new.input)
+    (record {
+      reads = g.I.Input.failures c.args.input.now;
+      writes = g.O.Output.failures c.args.output.now;
+      written = g.O.Output.written c.args.output.now;
+    })
+    (record {
+      reads = g.I.Input.failures c.debug_live_engine.new.input;
+      writes = g.O.Output.failures c.debug_live_engine.new.output;
+      written = g.O.Output.written c.debug_live_engine.new.output;
+    }))
+    (sym c.if-flags.true)
+    (subst (λ (l : Lending). AnswersBeforeRead true l (g.I.Input.rest c.args.input.now) (g.I.Input.rest c.debug_live_engine.new.input)
+    (record {
+      reads = g.I.Input.failures c.args.input.now;
+      writes = g.O.Output.failures c.args.output.now;
+      written = g.O.Output.written c.args.output.now;
+    })
+    (record {
+      reads = g.I.Input.failures c.debug_live_engine.new.input;
+      writes = g.O.Output.failures c.debug_live_engine.new.output;
+      written = g.O.Output.written c.debug_live_engine.new.output;
+    })) c.lending-lending.ensures c.debug_live_engine.ensures.answered)
+
+pub returns-else-flags-clause-answered : goal.returns-else-flags-clause-answered
+returns-else-flags-clause-answered g c =
+    subst (λ (live : Bool). AnswersBeforeRead live (lending_for c.args.flags.lend) (g.I.Input.rest c.args.input.now) (g.I.Input.rest c.debug_engine.new.input)
+    (record {
+      reads = g.I.Input.failures c.args.input.now;
+      writes = g.O.Output.failures c.args.output.now;
+      written = g.O.Output.written c.args.output.now;
+    })
+    (record {
+      reads = g.I.Input.failures c.debug_engine.new.input;
+      writes = g.O.Output.failures c.debug_engine.new.output;
+      written = g.O.Output.written c.debug_engine.new.output;
+    }))
+    (sym c.if-flags.false) tt
