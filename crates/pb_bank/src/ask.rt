@@ -1,6 +1,6 @@
 //! Requests, and what comes back.
 
-ghost use Rattle.std.specs.Prelude.{◌≡◌, ◌++◌, ◌<◌, ◌≤◌, ◌↔◌, ℕ, List, codes, length, All, OnOk, IfNone, take, drop};
+ghost use Rattle.std.specs.Prelude.{◌≡◌, ◌++◌, ◌<◌, ◌≤◌, [], ℕ, List, codes, length, All, OnOk, IfNone, take, drop};
 ghost use Rattle.pb_base.specs.Banker.{processes, resources, loan};
 ghost use Rattle.pb_banker.specs.Jobs.{SaysWhy, state_held};
 ghost use Rattle.pb_bank.specs.Answers as answers;
@@ -92,6 +92,15 @@ impl Desk {
         }
     }
 
+    /// Appends why a request is not allowed to `out`.
+    fn tell_reason(&self, out: &mut Vec<u8>, reason: &Reason) -> Result<(), NoMemory>
+        requires { answers.IsReasonOf self.now.bank.state reason.now }
+        ensures { OnOk result (out.new.items
+            ≡ out.old.items ++ answers.reason_text [] self.now.names self.now.bank.state reason.now) }
+    {
+        put_reason(out, b"", &self.names, &self.bank, reason)
+    }
+
     /// Grants a request if it is allowed, and appends a line that says so, or why not, to `out`.
     fn tell_grant(
         &mut self,
@@ -105,7 +114,9 @@ impl Desk {
     {
         match self.grant(request) {
             Reason::Allowed => put_request(out, granted, &self.names, request),
-            reason => put_reason(out, b"", &self.names, &self.bank, &reason),
+            Reason::OverClaim(r) => self.tell_reason(out, &Reason::OverClaim(r)),
+            Reason::OverCash(r) => self.tell_reason(out, &Reason::OverCash(r)),
+            Reason::Rest(slots) => self.tell_reason(out, &Reason::Rest(slots)),
         }
     }
 

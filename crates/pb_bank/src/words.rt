@@ -33,7 +33,7 @@ pub fn is_blank(b: u8) -> bool
     b == b' ' || b == b'\t' || b == b'\r'
 }
 
-#[tactic(auto, using(crate::proofs::WordLemmas::skip_blank))]
+#[tactic(auto, using(crate::proofs::WordLemmas::skip_blank, crate::proofs::WordLemmas::trim_blank, crate::proofs::WordLemmas::trim_ends, crate::proofs::WordLemmas::trim_nothing))]
 /// Returns the number of blanks that a text begins with.
 fn blanks(text: &[u8]) -> usize
     ensures bound { result ≤ length text.now }
