@@ -7,8 +7,8 @@ use Rattle.pb_bank.specs.Answers.{unheld}
 use Rattle.pb_bank.proofs.PairLemmas.{unheld_next}
 use Rattle.pb_bank.proofs.ask.unheld.Goals as goal
 
-pub returns-then-loan-clause-first : goal.returns-then-loan-clause-first
-returns-then-loan-clause-first c =
+pub returns-then-loan-pair-clause-first : goal.returns-then-loan-pair-clause-first
+returns-then-loan-pair-clause-first c =
     let l : c.loop-i.i < length c.args.request.now.bundle = omega arith in
     let less : loan c.args.bank.now.state c.args.request.now.job c.get-pair.result.resource < c.get-pair.result.amount = omega arith in
     sym (sym c.loop-i.invariant.first ∙ unheld_next c.args.bank.now.state c.args.request.now.job c.args.request.now.bundle c.loop-i.i c.get-pair.result

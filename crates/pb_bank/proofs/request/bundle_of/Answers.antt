@@ -88,7 +88,7 @@ returns-then-not-is_comma-clause-said c =
     sym (c.loop-comma.invariant.same
     ∙ (ap (pairs_after names c.loop-comma.bundle) words
     ∙ (no_comma names c.loop-comma.bundle comma.word.now (words_of comma.rest.now) (sym c.is_comma.ensures ∙ c.if-not-is_comma.true)
-    ∙ ap none (sym c.len.ensures.len))))
+    ∙ ap none (sym c.len-place.ensures.len))))
 
 pub returns-in-Err-pair_of-clause-said : goal.returns-in-Err-pair_of-clause-said
 unfolding seen
@@ -102,7 +102,7 @@ returns-in-Err-pair_of-clause-said c =
     ∙ (ap (pairs_after names c.loop-comma.bundle) (words ∙ ap (λ (ws : List (List ℕ)). comma.word.now ∷ ws) c.in-Some-two_words.ensures.some)
     ∙ more_pairs names c.loop-comma.bundle comma.word.now two.first.now two.second.now (words_of two.rest.now) true (Err c.in-Err-pair_of.refusal)
     (sym c.is_comma.ensures ∙ c.if-not-is_comma.false)
-    (placed names c.loop-comma.bundle c.len.result two.first.now two.second.now _ c.len.ensures.len c.in-Err-pair_of.ensures.said)))
+    (placed names c.loop-comma.bundle c.len-place.result two.first.now two.second.now _ c.len-place.ensures.len c.in-Err-pair_of.ensures.said)))
 
 pub returns-then-not-is_new-clause-said : goal.returns-then-not-is_new-clause-said
 unfolding seen
@@ -120,7 +120,7 @@ returns-then-not-is_new-clause-said c =
     ∙ (ap (pairs_after names b) (words ∙ ap (λ (ws : List (List ℕ)). comma.word.now ∷ ws) c.in-Some-two_words.ensures.some)
     ∙ (more_pairs names b comma.word.now two.first.now two.second.now (words_of two.rest.now) true (Ok pair)
     (sym c.is_comma.ensures ∙ c.if-not-is_comma.false)
-    (placed names b c.len.result two.first.now two.second.now _ c.len.ensures.len c.in-Ok-pair_of.ensures.said)
+    (placed names b c.len-place.result two.first.now two.second.now _ c.len-place.ensures.len c.in-Ok-pair_of.ensures.said)
     ∙ ap (λ t. cond t next last) (sym c.is_new.ensures ∙ c.if-not-is_new.true))))
 
 pub push-requires-clause-new : goal.push-requires-clause-new
@@ -154,7 +154,7 @@ loop-comma-preserved c =
           ∙ (ap (pairs_after names b) (words ∙ ap (λ (ws : List (List ℕ)). comma.word.now ∷ ws) c.in-Some-two_words.ensures.some)
           ∙ (more_pairs names b comma.word.now two.first.now two.second.now (words_of two.rest.now) true (Ok pair)
           (sym c.is_comma.ensures ∙ c.if-not-is_comma.false)
-          (placed names b c.len.result two.first.now two.second.now _ c.len.ensures.len c.in-Ok-pair_of.ensures.said)
+          (placed names b c.len-place.result two.first.now two.second.now _ c.len-place.ensures.len c.in-Ok-pair_of.ensures.said)
           ∙ (ap (λ t. cond t next last) (sym c.is_new.ensures ∙ c.if-not-is_new.false)
           ∙ ap (λ (ps : List Pair). pairs_after names ps (words_of two.rest.now)) (sym c.push.ensures))));
       below =
