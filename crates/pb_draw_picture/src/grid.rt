@@ -1,7 +1,9 @@
 //! Where things are in a picture.
 
-ghost use Rattle.std.specs.Prelude.{◌≡◌, ◌≤◌, ◌+◌, ◌^◌, IfOk, length, map};
-ghost use Rattle.pb_draw_picture.specs.Axis.{IsAxis, IsChain};
+ghost use Rattle.std.specs.Prelude.{◌≡◌, ◌≤◌, ◌+◌, ◌^◌, ℕ, IfOk, length, map};
+ghost use Rattle.pb_base.specs.Lines.{names_view};
+ghost use Rattle.pb_code.specs.View.{labels_view};
+ghost use Rattle.pb_draw_picture.specs.Axis.{AreKnots, IsAxis, IsChain};
 ghost use Rattle.pb_draw_picture.specs.Places as spec;
 ghost use Rattle.pb_draw.specs.Arms.{AreDifferent};
 ghost use Rattle.pb_draw_picture.specs.Rows.{AreStacked, AreWithin};
@@ -108,6 +110,8 @@ pub(crate) fn grid_of(
     labels: &Labels,
     drawing: &Drawing,
 ) -> Result<Grid, NoMemory>
+    ensures knots { IfOk result (λ grid. (left : ℕ)
+        × AreKnots (names_view names.now) (labels_view labels.now) drawing.now.picks left drawing.now.marks.items grid.knots.items) }
     ensures chain { IfOk result (λ grid. IsChain grid.knots.items) }
     ensures axis { IfOk result (λ grid. IsAxis drawing.now.marks.items (spec.places_of grid).x) }
     ensures end { IfOk result (λ grid. grid.end ≡ drawing.now.picks + 1) }

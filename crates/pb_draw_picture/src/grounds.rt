@@ -27,23 +27,31 @@ pub(crate) const MARK_NOTE: &[u8] =
 
 pub(crate) const DEADLOCK_NOTE: &[u8] = b"deadlock: no arm can go on";
 
+/// Adds the ground of the stretch behind an event, if it is shortened.
+fn add_gap(rects: &mut Vec<Rect>, knot: &Knot, bottom: u64) -> Result<(), NoMemory>
+    ensures { OnOk result (rects.new.items ≡ rects.old.items ++ spec.gap_if_shortened bottom knot.now) }
+{
+    if knot.silent > MAX_SILENT {
+        let height = bottom.saturating_sub(GAP_TOP);
+        rects.push(rect_to(RectKind::Gap, knot.silent_x(), knot.end(), GAP_TOP, height))?;
+    }
+    Ok(())
+}
+
 /// Returns the grounds of the stretches that are shortened.
 pub(crate) fn gaps_of(alloc: Global, knots: &[Knot], bottom: u64) -> Result<Vec<Rect>, NoMemory>
-    ensures { IfOk result (λ rects. spec.AreGaps rects.items) }
+    ensures { IfOk result (λ rects. rects.items ≡ spec.gaps bottom knots.now) }
 {
     let mut rects = Vec::new(alloc);
-    let height = bottom.saturating_sub(GAP_TOP);
-    for knot in knots {
-        if knot.silent > MAX_SILENT {
-            rects.push(rect_to(RectKind::Gap, knot.silent_x(), knot.end(), GAP_TOP, height))?;
-        }
+    for i in 0..knots.len() {
+        add_gap(&mut rects, &knots[i], bottom)?;
     }
     Ok(rects)
 }
 
 /// Returns how many silent picks a stretch has.
 fn silent_at(alloc: Global, knot: &Knot) -> Result<Label, NoMemory>
-    ensures { IfOk result (λ l. l.kind ≡ LabelKind.Silent) }
+    ensures { IfOk result (λ l. text_of l ≡ spec.silent_at knot.now) }
 {
     let text = number_text(alloc, knot.silent, b" silent")?;
     Ok(Label {
@@ -54,16 +62,24 @@ fn silent_at(alloc: Global, knot: &Knot) -> Result<Label, NoMemory>
     })
 }
 
+/// Adds how many silent picks the stretch behind an event has, if it is shortened.
+fn add_silent(alloc: Global, knot: &Knot, labels: &mut Vec<Label>) -> Result<(), NoMemory>
+    ensures { OnOk result (map text_of labels.new.items ≡ map text_of labels.old.items ++ spec.silent_if_shortened knot.now) }
+{
+    if knot.silent > MAX_SILENT {
+        let silent = silent_at(alloc, knot)?;
+        labels.push(silent)?;
+    }
+    Ok(())
+}
+
 /// Returns how many silent picks each of these stretches has.
 pub(crate) fn silents_of(alloc: Global, knots: &[Knot]) -> Result<Vec<Label>, NoMemory>
-    ensures { IfOk result (λ labels. spec.AreSilents (map text_of labels.items)) }
+    ensures { IfOk result (λ labels. map text_of labels.items ≡ spec.silents knots.now) }
 {
     let mut labels = Vec::new(alloc);
-    for knot in knots {
-        if knot.silent > MAX_SILENT {
-            let silent = silent_at(alloc, knot)?;
-            labels.push(silent)?;
-        }
+    for i in 0..knots.len() {
+        add_silent(alloc, &knots[i], &mut labels)?;
     }
     Ok(labels)
 }
