@@ -8,8 +8,11 @@ ghost use Rattle.pb_frames.specs.Heads as spec;
 
 use pb_code::is_numeral;
 
-/// What the line that says the size begins with.
-const LENGTH: &[u8] = b"Content-Length: ";
+/// What the line that says the size begins with, in any case.
+const LENGTH: &[u8] = b"Content-Length:";
+
+/// The size that is told for one of more than eight digits, which is over any limit.
+const LARGE: usize = 100_000_000;
 
 /// What a line of a header comes to, with those before it.
 #[derive(Clone, Copy)]
@@ -35,15 +38,36 @@ fn value(digits: &[u8]) -> usize
     number
 }
 
-/// Returns the size that a word of one to eight digits writes.
+/// Returns the size that a word of digits writes, or `LARGE` if there are more than eight.
 fn size_in(word: &[u8]) -> Option<usize>
     ensures { result ≡ spec.size_of word.now }
 {
-    if is_numeral(word) && word.len() < 9 {
+    if !is_numeral(word) {
+        return None;
+    }
+    if word.len() < 9 {
         Some(value(word))
     } else {
-        None
+        Some(LARGE)
     }
+}
+
+/// Returns whether a line says the size.
+#[tactic(auto, using(std::proofs::lemmas::List::take_min))]
+fn says_length(line: &[u8]) -> bool
+    ensures { result ≡ spec.says_length line.now }
+{
+    let name = LENGTH.len().min(line.len());
+    line[..name].eq_ignore_ascii_case(LENGTH)
+}
+
+/// Returns what stands behind the name of the size, and behind the blanks there.
+#[tactic(auto, using(std::proofs::lemmas::List::drop_min, std::proofs::lemmas::Str::Ascii::trim_ascii_start_is))]
+fn field_value(line: &[u8]) -> &[u8]
+    ensures { result.now ≡ spec.field_value line.now }
+{
+    let name = LENGTH.len().min(line.len());
+    line.split_at(name).1.trim_ascii_start()
 }
 
 /// Returns what a line, given without its end, comes to.
@@ -56,10 +80,10 @@ fn line_says(line: &[u8], said: Option<usize>) -> LineEnd
             None => LineEnd::Wrong,
         };
     }
-    if !line.starts_with(LENGTH) {
+    if !says_length(line) {
         return LineEnd::Further(said);
     }
-    match size_in(&line[16..]) {
+    match size_in(field_value(line)) {
         Some(size) => LineEnd::Further(Some(size)),
         None => LineEnd::Wrong,
     }
