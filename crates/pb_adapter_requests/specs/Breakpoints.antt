@@ -6,7 +6,7 @@ use Rattle.serde_json.specs.Data.{Data, Items, no_items, item, null, boolean, nu
 use Rattle.serde_json.specs.Find.{as_str}
 use Rattle.pb_base.specs.declared.limits.TheConstants.{MAX_LINE}
 use Rattle.pb_code.specs.Whole.{ProcessLabels}
-use Rattle.pb_adapter_requests.specs.Requests.{Asked, items_asked, number_in}
+use Rattle.pb_adapter_requests.specs.Requests.{Asked, is_word, items_asked, number_in}
 use Rattle.pb_adapter_requests.specs.Responses.{list_below, listed}
 
 -- the line that a number says; 0, which is none, if there is no number or it is past all lines
@@ -40,11 +40,6 @@ lines_if (Some items) = lines_in (datas_in items)
 -- the lines that a request asks for
 abbrev pub asked_lines : Asked → List ℕ
 asked_lines r = lines_if (items_asked (codes "breakpoints") r)
-
--- whether a text is this word
-abbrev pub is_word : (word : List ℕ) → Option (List ℕ) → Bool
-is_word word None = false
-is_word word (Some text) = bytes_eq text word
 
 -- whether an item of a list is the word that asks to stop at events
 abbrev pub is_events : Data → Bool

@@ -1,6 +1,7 @@
 -- The requests of a client.
-use Rattle.std.specs.Prelude.{ℕ, ◌-◌, ◌/◌, ◌%◌, nat_eq, cond, List, Option, Some, None, option_map, option_and_then, codes}
-use Rattle.serde_json.specs.Data.{Data, Items}
+use Rattle.std.specs.Prelude.{ℕ, ◌-◌, ◌/◌, ◌%◌, nat_eq, cond, Bool, true, false, List, Option, Some, None, option_map, option_and_then, codes}
+use Rattle.std.specs.Str.{bytes_eq}
+use Rattle.serde_json.specs.Data.{Data, Items, null, boolean, number, string, array, object}
 use Rattle.serde_json.specs.Find.{get, as_array, as_number, as_str, as_u64}
 use Rattle.serde_json.specs.View.{view}
 use Rattle.pb_adapter_requests.specs.declared.request.Request.{Request}
@@ -33,9 +34,22 @@ asked d (Some seq) None = None
 asked d (Some seq) (Some command) =
     Some (record { seq = seq; command = command; arguments = get (codes "arguments") d })
 
+-- whether a text is this word
+abbrev pub is_word : (word : List ℕ) → Option (List ℕ) → Bool
+is_word word None = false
+is_word word (Some text) = bytes_eq text word
+
+-- whether a message says that it is a request; one that does not say what it is may be one
+abbrev pub is_request_type : Option Data → Bool
+is_request_type None = true
+is_request_type (Some said) = is_word (codes "request") (as_str said)
+
+abbrev pub may_be_request : Data → Bool
+may_be_request d = is_request_type (get (codes "type") d)
+
 -- the request that a message is, if it is one
 abbrev pub request_in : Data → Option Asked
-request_in d = asked d (number_in (codes "seq") d) (text_in (codes "command") d)
+request_in d = cond (may_be_request d) (asked d (number_in (codes "seq") d) (text_in (codes "command") d)) None
 
 -- the number, the text, and the list, that an argument of a request is
 abbrev pub number_of : List ℕ → Asked → Option ℕ
@@ -46,6 +60,19 @@ text_of name r = option_and_then (text_in name) r.arguments
 
 abbrev pub items_asked : List ℕ → Asked → Option Items
 items_asked name r = option_and_then (λ d. option_and_then as_array (get name d)) r.arguments
+
+-- whether an argument is there, and is not null
+abbrev pub is_there : Option Data → Bool
+is_there None = false
+is_there (Some null) = false
+is_there (Some (boolean b)) = true
+is_there (Some (number n)) = true
+is_there (Some (string s)) = true
+is_there (Some (array ds)) = true
+is_there (Some (object ms)) = true
+
+abbrev pub is_given : List ℕ → Asked → Bool
+is_given name r = is_there (option_and_then (get name) r.arguments)
 
 -- the arm of a process that the number of a thread means: 64 for each process, counted from 1. A request without
 -- a number means an arm of process 64, which no program has

@@ -8,5 +8,5 @@ mod response;
 
 pub use breakpoints::{asked_lines, asks_events, breakpoints_body};
 pub use kind::{Kind, kind_of};
-pub use request::{Place, Request, number_of, place_of, request_of, text_of};
+pub use request::{Place, Request, is_given, number_of, place_of, request_of, text_of};
 pub use response::{Reply, alone, answered, done, event, failed, refused, with_event};

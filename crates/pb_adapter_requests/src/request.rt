@@ -1,6 +1,7 @@
 //! The requests of a client.
 
 ghost use Rattle.std.specs.Prelude.{◌≡◌, option_map};
+ghost use Rattle.serde_json.specs.Find.{as_str};
 ghost use Rattle.serde_json.specs.View.{items_view, view};
 ghost use Rattle.pb_adapter_requests.specs.Requests as spec;
 ghost use Rattle.pb_adapter_requests.specs.Requests.{Place as AnyPlace, number_in, request_in, request_view, text_in};
@@ -41,10 +42,33 @@ fn text_at<'v>(value: &'v Value, name: &str) -> Option<&'v str>
     value.get(name).and_then(Value::as_str)
 }
 
-/// Returns the request that a message is, if it has a number and says what it asks for.
+/// Returns whether this is a text that is this word.
+fn is_word(value: &Value, word: &str) -> bool
+    ensures { result ≡ spec.is_word word.now (as_str (view value.now)) }
+{
+    match value.as_str() {
+        Some(text) => text.as_bytes() == word.as_bytes(),
+        None => false,
+    }
+}
+
+/// Returns whether a message says that it is a request, or does not say what it is.
+fn may_be_request(value: &Value) -> bool
+    ensures { result ≡ spec.may_be_request (view value.now) }
+{
+    match value.get("type") {
+        Some(said) => is_word(said, "request"),
+        None => true,
+    }
+}
+
+/// Returns the request that a message is, if it has a number, says what it asks for, and says of itself nothing else.
 pub fn request_of<'v>(value: &'v Value) -> Option<Request<'v>>
     ensures { option_map request_view result ≡ request_in (view value.now) }
 {
+    if !may_be_request(value) {
+        return None;
+    }
     let seq = number_at(value, "seq")?;
     let command = text_at(value, "command")?;
     Some(Request {
@@ -100,5 +124,25 @@ pub fn place_of(number: Option<u64>) -> Place
             }
         }
         None => NO_PLACE,
+    }
+}
+
+/// Returns whether an argument is there, and is not null.
+fn is_there(value: Option<&Value>) -> bool
+    ensures { result ≡ spec.is_there (option_map (λ v. view v.now) value.entry) }
+{
+    match value {
+        Some(Value::Null) | None => false,
+        Some(_) => true,
+    }
+}
+
+/// Returns whether a request has an argument of this name that is not null.
+pub fn is_given(request: Request<'_>, name: &str) -> bool
+    ensures { result ≡ spec.is_given name.now (request_view request.entry) }
+{
+    match request.arguments {
+        Some(arguments) => is_there(arguments.get(name)),
+        None => false,
     }
 }

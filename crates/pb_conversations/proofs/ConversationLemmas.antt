@@ -1,20 +1,74 @@
 -- A conversation, message by message.
-use Rattle.std.proofs.Common.{◌≡◌, ◌⊎◌, ◌<◌, ℕ, ◌+◌, List, [], ◌∷◌, ◌++◌, length, Bool, true, false, Option, Some, None, IfSome, sym, ap, ◌∙◌}
+use Rattle.std.proofs.Common.{◌≡◌, ◌≢◌, refl, ◌⊎◌, ◌<◌, ℕ, ◌+◌, List, [], ◌∷◌, ◌++◌, length, Bool, true, false, Option, Some, None, IfSome, sym, ap, ◌∙◌}
 use Rattle.std.proofs.Common.{subst, inl, inr, arith, append_assoc, length-append}
 use Rattle.std.proofs.lemmas.List.Concat.{flat_map-append}
 use Rattle.serde_json.specs.Data.{Data}
 use Rattle.pb_base.specs.Device.{appended, AddsPrefix}
 use Rattle.pb_base.proofs.DeviceLemmas.{appended-appended}
 use Rattle.pb_adapter_requests.specs.Requests.{Asked}
-use Rattle.pb_frames.specs.Frames.{IsFrame, IsFrameFault, IsRead}
+use Rattle.pb_frames.proofs.HeadLemmas.{head_front}
+use Rattle.pb_frames.specs.Frames.{IsFrame, IsFrameFault, IsPartOfFrame, IsRead}
+use Rattle.pb_frames.specs.Heads.{Says, head_of}
 use Rattle.pb_frames.specs.declared.fault.FrameFault.{FrameFault}
 use Rattle.pb_frames.specs.declared.fault.FrameFault.TheVariants as frame
 use Rattle.pb_conversations.specs.declared.conversation.Stop.{Stop}
 use Rattle.pb_conversations.specs.declared.conversation.Stop.TheVariants as stop
-use Rattle.pb_conversations.specs.Conversations.{message_text, texts, broken_data, AnswersContent, none_read, one_read}
+use Rattle.pb_conversations.specs.Conversations.{message_text, texts, broken_data, AnswersContent, AnswersRead, AreFrames, IsReadTo, SaysBefore, none_read, one_read}
 use Rattle.pb_conversations.specs.Conversations.{none_answered, one_answered, Talks, TalksOut, TalksSome}
 use Rattle.pb_conversations.specs.Conversations.{WritesBroken, WritesReply}
 use Rattle.pb_conversations.proofs.WrittenTexts.{known, none_appended, prefix_behind, texts_more}
+
+-- ---- the bytes of messages
+
+-- messages that were read are read so, whatever comes behind their bytes
+pub record Front (bytes : List ℕ) (contents : List (List ℕ)) (rest : List ℕ) : Type 0 where
+  pub front : List ℕ
+  pub cut : bytes ≡ front ++ rest
+  pub frames : (more : List ℕ) → AreFrames (front ++ more) contents more
+
+-- three texts in a row
+three : (xs ys zs ws : List ℕ) → xs ++ (ys ++ (zs ++ ws)) ≡ (xs ++ (ys ++ zs)) ++ ws
+three xs ys zs ws =
+    ap (λ (t : List ℕ). xs ++ t) (sym (append_assoc ys zs ws)) ∙ sym (append_assoc xs (ys ++ zs) ws)
+
+module _ (bytes : List ℕ) (contents : List (List ℕ)) (content mid rest : List ℕ) (before : Front bytes contents mid)
+    (is : IsFrame mid content rest) where
+  head : (front : List ℕ) × (mid ≡ front ++ (content ++ rest)) × ((more : List ℕ) → head_of (front ++ more) ≡ Says (length content) more)
+  head = head_front mid (length content) (content ++ rest) is.head
+
+  frames_more : (more : List ℕ) → AreFrames ((before.front ++ (head.0 ++ content)) ++ more) (contents ++ content ∷ []) more
+  frames_more more =
+      subst (λ (bs : List ℕ). AreFrames bs (contents ++ content ∷ []) more) (three before.front head.0 content more)
+      (one_read contents content (head.0 ++ (content ++ more)) more (before.frames (head.0 ++ (content ++ more)))
+      (record { head = head.2 (content ++ more); short = is.short }))
+
+  front_more : Front bytes (contents ++ content ∷ []) rest
+  front_more = record {
+    front = before.front ++ (head.0 ++ content);
+    cut = before.cut ∙ (ap (λ (t : List ℕ). before.front ++ t) head.1 ∙ three before.front head.0 content rest);
+    frames = frames_more;
+  }
+
+pub front_of : (bytes : List ℕ) (contents : List (List ℕ)) (rest : List ℕ) → AreFrames bytes contents rest → Front bytes contents rest
+front_of bytes _ _ none_read = record { front = []; cut = refl; frames = λ more. none_read }
+front_of bytes _ _ (one_read contents content mid rest before is) =
+    front_more bytes contents content mid rest (front_of bytes contents mid before) is
+
+-- of a part of what was to come, the bytes that were read
+pub read_to : (bytes front rest read later : List ℕ) (left : Option (List ℕ)) → bytes ≡ front ++ rest → rest ≡ read ++ later
+    → left ≡ Some later → IsReadTo bytes (front ++ read) left
+read_to bytes front rest read later left of cut to =
+    (later, of ∙ (ap (λ (t : List ℕ). front ++ t) cut ∙ sym (append_assoc front read later)), to)
+
+-- a fault is that of a device, or another one
+pub device_or : (fault : FrameFault) → (fault ≡ frame.Device) ⊎ (fault ≢ frame.Device)
+device_or frame.Early = inr (λ is. cc)
+device_or frame.Malformed = inr (λ is. cc)
+device_or frame.TooLong = inr (λ is. cc)
+device_or frame.Memory = inr (λ is. cc)
+device_or frame.Device = inl refl
+
+-- ---- message by message
 
 module _ {S : Type 0} (Answers : S → ℕ → Asked → List Data → S → Type 0) (over : S → Bool) (s : S) (first : ℕ) where
   -- the first messages are answered, and the next that is written is numbered so
@@ -69,6 +123,26 @@ module _ {S : Type 0} (Answers : S → ℕ → Asked → List Data → S → Typ
       talks = far.talks;
       written = far.written;
     }
+
+    -- a read failed, and nothing more is written
+    pub so_far_read : (left' new : Option (List ℕ)) → IfSome left (λ bs. IsPartOfFrame bs left') → new ≡ mid
+        → SaysBefore (AnswersRead Answers over s first) bytes left' old new
+    so_far_read left' new part kept =
+        let (read, later, cut, to, early) = known left far.rest (λ bs. IsPartOfFrame bs left') far.coming part in
+        let f = front_of bytes far.talks.contents far.rest far.talks.frames in (
+          f.front ++ read,
+          texts far.messages,
+          read_to bytes f.front far.rest read later left' f.cut cut to,
+          record {
+            part = read;
+            messages = far.messages;
+            after = here;
+            talks = record { contents = far.talks.contents; frames = f.frames read; conversation = far.talks.conversation };
+            unfinished = early;
+            said = refl;
+          },
+          kept ∙ far.written,
+        )
 
     -- no further message was read
     pub so_far_unread : (fault : FrameFault) (why : Stop) (new : Option (List ℕ)) → IfSome left (IsFrameFault fault)

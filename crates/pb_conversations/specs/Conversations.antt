@@ -126,6 +126,30 @@ pub record TalksSome {S : Type 0} (Answers : S → ℕ → Asked → List Data �
   pub talks : Talks Answers over s first bytes rest messages after
   pub written : WritesBefore why first rest messages old new
 
+-- ---- a read that fails
+
+-- these are the first of the bytes, and the others are still to come
+abbrev pub IsReadTo : (bytes read : List ℕ) → (left : Option (List ℕ)) → Type 0
+IsReadTo bytes read left = (rest : List ℕ) × (bytes ≡ read ++ rest) × (left ≡ Some rest)
+
+-- a read failed: what is written is the text that follows from the bytes read before it, all of it and no more
+abbrev pub SaysBefore : (Follows : List ℕ → List ℕ → Type 0) → (bytes : List ℕ) → (left old new : Option (List ℕ)) → Type 0
+SaysBefore Follows bytes left old new =
+    (read : List ℕ) × (text : List ℕ) × IsReadTo bytes read left × Follows read text × (new ≡ appended old text)
+
+-- the text is what answers all messages that are whole in what was read; behind them stand at most some first bytes of
+-- a further one
+pub record AnswersRead {S : Type 0} (Answers : S → ℕ → Asked → List Data → S → Type 0) (over : S → Bool) (s : S) (first : ℕ)
+    (read text : List ℕ) : Type 0 where
+  pub part : List ℕ
+  pub messages : List Data
+  pub after : S
+  pub talks : Talks Answers over s first read part messages after
+  pub unfinished : IsFrameFault frame.Early part
+  pub said : text ≡ texts messages
+
+-- ---- the last message, and counts
+
 -- what is written if no further message was read: why, if that is a fault of the bytes; nothing else
 abbrev pub WritesBroken : Stop → FrameFault → (seq : ℕ) → (old new : Option (List ℕ)) → Type 0
 WritesBroken stop.Broken fault seq old new = IsOfBytes fault × (new ≡ appended old (message_text (broken_data seq fault)))

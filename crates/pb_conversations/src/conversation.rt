@@ -4,7 +4,7 @@ ghost use Rattle.std.specs.Prelude.{◌≡◌, ◌≢◌, ◌≤◌, ◌<◌, �
 ghost use Rattle.serde_json.specs.Data.{Data};
 ghost use Rattle.pb_adapter_requests.specs.Requests.{Asked, request_view};
 ghost use Rattle.pb_adapter_requests.specs.Responses.{failed_data, told_by};
-ghost use Rattle.pb_conversations.specs.Conversations.{AnswersContent, AreFloatFree, CountsBoth, CountsWrites, TalksOut, TalksSome, WritesBroken};
+ghost use Rattle.pb_conversations.specs.Conversations.{AnswersContent, AnswersRead, AreFloatFree, CountsBoth, CountsWrites, SaysBefore, TalksOut, TalksSome, WritesBroken};
 ghost use Rattle.pb_conversations.specs.Conversations.{broken_data, fault_words};
 
 use crate::writer::{messages_in, write_reply};
@@ -75,7 +75,8 @@ fn broken_reply(alloc: Global, seq: u64, fault: FrameFault) -> Result<Reply, All
 fn break_off<O: Output>(alloc: Global, output: &mut O, seq: u64, fault: FrameFault) -> Stop
     ensures written { WritesBroken result fault seq (O.written output.old) (O.written output.new) }
     ensures counted { fault ≢ FrameFault.Device → CountsWrites result (O.failures output.old) (O.failures output.new) }
-    ensures device { fault ≡ FrameFault.Device → (result ≡ Stop.Device) × (O.failures output.new ≡ O.failures output.old) }
+    ensures device { fault ≡ FrameFault.Device → (result ≡ Stop.Device) × (O.failures output.new ≡ O.failures output.old)
+        × (O.written output.new ≡ O.written output.old) }
 {
     match fault {
         FrameFault::Memory => return Stop::Memory,
@@ -139,7 +140,7 @@ fn goes_on<A: Adapter>(adapter: &A, seq: u64) -> bool
 /// Answers the messages of an input, numbered from `first` on, each before the next is read, up to the end of
 /// the input or until there is nothing more to answer; returns the number of the next message. If what comes
 /// next is not a message, a last message says so, and the conversation breaks off. If out of memory, nothing of a
-/// reply is written that was not made whole.
+/// reply is written that was not made whole. If a read fails, exactly the messages that were read before are answered.
 pub fn converse<A: Adapter, I: Input, O: Output>(
     alloc: Global,
     first: u64,
@@ -153,6 +154,9 @@ pub fn converse<A: Adapter, I: Input, O: Output>(
         adapter.new next)) }
     ensures some { IfErr result (λ e. IfSome (I.rest input.old) (λ bytes.
         TalksSome A.Answers A.over adapter.old first bytes (O.written output.old) (O.written output.new) e)) }
+    ensures answered { IfErr result (λ _. I.failures input.new ≢ I.failures input.old → IfSome (I.rest input.old) (λ bytes.
+        SaysBefore (AnswersRead A.Answers A.over adapter.old first) bytes (I.rest input.new)
+        (O.written output.old) (O.written output.new))) }
     ensures few { IfOk result (λ next. next ≤ 2 ^ 33) }
     ensures counted_reads { OnOk result (I.failures input.new ≡ I.failures input.old) }
     ensures counted_writes { OnOk result (O.failures output.new ≡ O.failures output.old) }

@@ -1,9 +1,9 @@
-use Rattle.std.proofs.Common.{◌≡◌, ℕ, ◌+◌, List, Option, Some, None, option_map, IfSome, Vec, Global, sym, ◌∙◌, subst, arith, refl}
+use Rattle.std.proofs.Common.{◌≡◌, ℕ, ◌+◌, List, Option, Some, None, option_map, IfSome, Vec, Global, sym, ◌∙◌, subst, arith, refl, inl, inr}
 use Rattle.pb_adapter_requests.specs.Responses.{told_by}
 use Rattle.pb_frames.specs.Frames.{IsRead}
 use Rattle.pb_conversations.specs.Conversations.{AnswersContent}
 use Rattle.pb_conversations.proofs.ConversationLemmas.{SaysSoFar, so_far_nothing, so_far_all, so_far_end, so_far_memory}
-use Rattle.pb_conversations.proofs.ConversationLemmas.{so_far_unread, so_far_more, so_far_broken}
+use Rattle.pb_conversations.proofs.ConversationLemmas.{device_or, so_far_read, so_far_unread, so_far_more, so_far_broken}
 use Rattle.pb_base.proofs.DeviceLemmas.{if_known}
 use Rattle.pb_conversations.proofs.conversation.converse.Goals as goal
 
@@ -34,6 +34,22 @@ returns-in-Err-clause-some g c =
     so_far_unread g.A.Adapter.Answers g.A.Adapter.over c.args.adapter.now c.args.first bytes c.loop-alloc.seq (g.I.Input.rest c.loop-alloc.input)
     (g.O.Output.written c.args.output.now) (g.O.Output.written c.loop-alloc.output) c.loop-alloc.adapter (c.loop-alloc.invariant.says bytes is)
     c.in-Err.fault c.break_off.result (g.O.Output.written c.break_off.new.output) c.in-Err.ensures.refused c.break_off.ensures.written)
+
+pub returns-in-Err-clause-answered : goal.returns-in-Err-clause-answered
+returns-in-Err-clause-answered g c = λ changed. elim (device_or c.in-Err.fault) [
+  | inl is ↦ if_known (g.I.Input.rest c.args.input.now) _ (λ bytes known.
+      so_far_read g.A.Adapter.Answers g.A.Adapter.over c.args.adapter.now c.args.first bytes c.loop-alloc.seq (g.I.Input.rest c.loop-alloc.input)
+      (g.O.Output.written c.args.output.now) (g.O.Output.written c.loop-alloc.output) c.loop-alloc.adapter
+      (c.loop-alloc.invariant.says bytes known) (g.I.Input.rest c.read_frame.new.input) (g.O.Output.written c.break_off.new.output)
+      (c.in-Err.ensures.part is) (c.break_off.ensures.device is).2)
+  | inr other ↦ absurd (changed (c.in-Err.ensures.no_fault other ∙ c.loop-alloc.invariant.reads))
+]
+
+pub returns-in_default-clause-answered : goal.returns-in_default-clause-answered
+returns-in_default-clause-answered g c = λ changed. absurd (changed (c.in-Ok-Some.ensures.counted ∙ c.loop-alloc.invariant.reads))
+
+pub returns-in-Err-write_reply-clause-answered : goal.returns-in-Err-write_reply-clause-answered
+returns-in-Err-write_reply-clause-answered g c = λ changed. absurd (changed (c.in-Ok-Some.ensures.counted ∙ c.loop-alloc.invariant.reads))
 
 pub returns-in_default-clause-some : goal.returns-in_default-clause-some
 returns-in_default-clause-some g c =
