@@ -228,6 +228,7 @@ const ASKED: [&str; 2] = [
     "{\"seq\":1,\"type\":\"request\",\"command\":\"threads\"}",
     "{\"seq\":2,\"type\":\"request\",\"command\":\"threads\"}",
 ];
+
 const SAID: [&str; 2] = [
     "{\"command\":\"threads\",\"message\":\"no text is launched\",\"request_seq\":1,\"seq\":1,\"success\":false,\"type\":\"response\"}",
     "{\"command\":\"threads\",\"message\":\"no text is launched\",\"request_seq\":2,\"seq\":2,\"success\":false,\"type\":\"response\"}",

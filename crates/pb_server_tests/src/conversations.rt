@@ -164,6 +164,7 @@ const ASKED: [&str; 2] = [
     "{\"jsonrpc\":\"2.0\",\"id\":1,\"method\":\"shutdown\"}",
     "{\"jsonrpc\":\"2.0\",\"id\":2,\"method\":\"shutdown\"}",
 ];
+
 const SAID: [&str; 2] = [
     "{\"error\":{\"code\":-32002,\"message\":\"the server is not initialized\"},\"id\":1,\"jsonrpc\":\"2.0\"}",
     "{\"error\":{\"code\":-32002,\"message\":\"the server is not initialized\"},\"id\":2,\"jsonrpc\":\"2.0\"}",
