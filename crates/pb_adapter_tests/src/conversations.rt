@@ -224,29 +224,36 @@ fn conversations_are_answered(rt: HostRuntime) -> Result<(), NoMemory> {
 }
 
 /// Two requests while nothing is launched, and what answers each.
-const ASKED: [&str; 2] = [
-    "{\"seq\":1,\"type\":\"request\",\"command\":\"threads\"}",
+const FIRST: &str = "{\"seq\":1,\"type\":\"request\",\"command\":\"threads\"}";
+
+const ASKED: &[&str] = &[
+    FIRST,
     "{\"seq\":2,\"type\":\"request\",\"command\":\"threads\"}",
 ];
 
-const SAID: [&str; 2] = [
+const SAID_FIRST: &[&str] = &[
+    "{\"command\":\"threads\",\"message\":\"no text is launched\",\"request_seq\":1,\"seq\":1,\"success\":false,\"type\":\"response\"}",
+];
+
+const SAID_BOTH: &[&str] = &[
     "{\"command\":\"threads\",\"message\":\"no text is launched\",\"request_seq\":1,\"seq\":1,\"success\":false,\"type\":\"response\"}",
     "{\"command\":\"threads\",\"message\":\"no text is launched\",\"request_seq\":2,\"seq\":2,\"success\":false,\"type\":\"response\"}",
 ];
 
 #[test]
 fn what_was_read_before_a_fault_is_answered(rt: HostRuntime) -> Result<(), NoMemory> {
-    let asked = framed(rt.alloc(), &ASKED)?;
-    let first = framed(rt.alloc(), &ASKED[..1])?.as_slice().len() as u64;
+    let asked = framed(rt.alloc(), ASKED)?;
+    let first = framed(rt.alloc(), &[FIRST])?.as_slice().len() as u64;
+    let none: &[&str] = &[];
     for (passing, answered) in [
-        (0, 0),
-        (3, 0),
-        (first - 1, 0),
-        (first, 1),
-        (first + 30, 1),
-        (2 * first, 2),
+        (0, none),
+        (3, none),
+        (first.saturating_sub(1), none),
+        (first, SAID_FIRST),
+        (first.saturating_add(30), SAID_FIRST),
+        (first.saturating_mul(2), SAID_BOTH),
     ] {
-        let wanted = framed(rt.alloc(), &SAID[..answered])?;
+        let wanted = framed(rt.alloc(), answered)?;
         let mut said = Said::new(rt.alloc());
         let mut input = FaultyInput::new(asked.as_slice(), passing, 1);
         let status = adapter_engine(rt.alloc(), &mut input, &mut said);

@@ -160,29 +160,36 @@ fn conversations_are_answered(rt: HostRuntime) -> Result<(), NoMemory> {
 }
 
 /// Two requests before `initialize`, and what is said to each.
-const ASKED: [&str; 2] = [
-    "{\"jsonrpc\":\"2.0\",\"id\":1,\"method\":\"shutdown\"}",
+const FIRST: &str = "{\"jsonrpc\":\"2.0\",\"id\":1,\"method\":\"shutdown\"}";
+
+const ASKED: &[&str] = &[
+    FIRST,
     "{\"jsonrpc\":\"2.0\",\"id\":2,\"method\":\"shutdown\"}",
 ];
 
-const SAID: [&str; 2] = [
+const SAID_FIRST: &[&str] = &[
+    "{\"error\":{\"code\":-32002,\"message\":\"the server is not initialized\"},\"id\":1,\"jsonrpc\":\"2.0\"}",
+];
+
+const SAID_BOTH: &[&str] = &[
     "{\"error\":{\"code\":-32002,\"message\":\"the server is not initialized\"},\"id\":1,\"jsonrpc\":\"2.0\"}",
     "{\"error\":{\"code\":-32002,\"message\":\"the server is not initialized\"},\"id\":2,\"jsonrpc\":\"2.0\"}",
 ];
 
 #[test]
 fn what_was_read_before_a_fault_is_answered(rt: HostRuntime) -> Result<(), NoMemory> {
-    let asked = framed(rt.alloc(), &ASKED)?;
-    let first = framed(rt.alloc(), &ASKED[..1])?.as_slice().len() as u64;
+    let asked = framed(rt.alloc(), ASKED)?;
+    let first = framed(rt.alloc(), &[FIRST])?.as_slice().len() as u64;
+    let none: &[&str] = &[];
     for (passing, answered) in [
-        (0, 0),
-        (3, 0),
-        (first - 1, 0),
-        (first, 1),
-        (first + 30, 1),
-        (2 * first, 2),
+        (0, none),
+        (3, none),
+        (first.saturating_sub(1), none),
+        (first, SAID_FIRST),
+        (first.saturating_add(30), SAID_FIRST),
+        (first.saturating_mul(2), SAID_BOTH),
     ] {
-        let wanted = framed(rt.alloc(), &SAID[..answered])?;
+        let wanted = framed(rt.alloc(), answered)?;
         let mut said = Said::new(rt.alloc());
         let mut input = FaultyInput::new(asked.as_slice(), passing, 1);
         let status = server_engine(rt.alloc(), &mut input, &mut said);
