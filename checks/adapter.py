@@ -91,9 +91,13 @@ SESSION: list[Asked] = [
 ]
 
 
+# Headers as editors may write them.
+HEADERS = (b"Content-Length: %d\r\n\r\n", b"content-length:%d\r\n\r\n", b"Content-Type: x\r\nCONTENT-LENGTH: \t%d\r\n\r\n")
+
+
 def framed(message: Message) -> bytes:
     content = json.dumps(message).encode()
-    return b"Content-Length: %d\r\n\r\n%s" % (len(content), content)
+    return HEADERS[message["seq"] % len(HEADERS)] % len(content) + content
 
 
 def asked() -> list[bytes]:
@@ -154,6 +158,29 @@ def play(words: list[str]) -> int:
     return client.wrong
 
 
+# What is no request, and what is answered to it, with the status.
+WRONG: list[tuple[bytes, str, int]] = [
+    (framed({"seq": 1, "type": "response", "command": "threads"}), "this is not a request", 0),
+    (framed({"seq": 2, "type": 7, "command": "threads"}), "this is not a request", 0),
+    (framed({"seq": 3, "type": "request"}), "this is not a request", 0),
+    (b"Content-Length: 123456789\r\n\r\n", "the message is too long", 1),
+    (b"Content-Length: 9\r\n\r\n{}", "the input ends within a message", 1),
+    (b"Content-Size: 2\r\n\r\n{}", "this is not the header of a message", 1),
+]
+
+
+def play_wrong(program: str) -> int:
+    """Gives what is no request, and returns how often the answer is not as wanted."""
+    wrong = 0
+    for given, message, status in WRONG:
+        ran = subprocess.run([program, "dap"], input=given, capture_output=True, check=False)
+        said: Message = json.loads(ran.stdout.partition(b"\r\n\r\n")[2])
+        if (said["success"], said["message"], ran.returncode) != (False, message, status):
+            wrong += 1
+            print(f"{given!r}: {said}, and the status {ran.returncode}")
+    return wrong
+
+
 def check_said(file: str) -> int:
     with open(file, "rb") as source:
         client = Client(source)
@@ -171,10 +198,10 @@ def main() -> int:
     if words[:1] == ["--said"]:
         wrong = check_said(words[1])
     elif words:
-        wrong = play(words)
+        wrong = play(words) + play_wrong(words[0])
     else:
         from calls import program
-        wrong = play([str(program())])
+        wrong = play([str(program())]) + play_wrong(str(program()))
     print(f"{len(SESSION)} requests, {wrong} wrong")
     return 1 if wrong else 0
 

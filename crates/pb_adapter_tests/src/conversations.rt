@@ -1,7 +1,7 @@
 //! Conversations with the adapter, as bytes.
 
 use pb_adapter_engine::adapter_engine;
-use pb_base::{MemoryInput, NoMemory};
+use pb_base::{FaultyInput, MemoryInput, NoMemory};
 use pb_command_io::Status;
 use pb_conversations::Said;
 use pb_frames::write_frame;
@@ -223,6 +223,38 @@ fn conversations_are_answered(rt: HostRuntime) -> Result<(), NoMemory> {
     Ok(())
 }
 
+/// Two requests while nothing is launched, and what answers each.
+const ASKED: [&str; 2] = [
+    "{\"seq\":1,\"type\":\"request\",\"command\":\"threads\"}",
+    "{\"seq\":2,\"type\":\"request\",\"command\":\"threads\"}",
+];
+const SAID: [&str; 2] = [
+    "{\"command\":\"threads\",\"message\":\"no text is launched\",\"request_seq\":1,\"seq\":1,\"success\":false,\"type\":\"response\"}",
+    "{\"command\":\"threads\",\"message\":\"no text is launched\",\"request_seq\":2,\"seq\":2,\"success\":false,\"type\":\"response\"}",
+];
+
+#[test]
+fn what_was_read_before_a_fault_is_answered(rt: HostRuntime) -> Result<(), NoMemory> {
+    let asked = framed(rt.alloc(), &ASKED)?;
+    let first = framed(rt.alloc(), &ASKED[..1])?.as_slice().len() as u64;
+    for (passing, answered) in [
+        (0, 0),
+        (3, 0),
+        (first - 1, 0),
+        (first, 1),
+        (first + 30, 1),
+        (2 * first, 2),
+    ] {
+        let wanted = framed(rt.alloc(), &SAID[..answered])?;
+        let mut said = Said::new(rt.alloc());
+        let mut input = FaultyInput::new(asked.as_slice(), passing, 1);
+        let status = adapter_engine(rt.alloc(), &mut input, &mut said);
+        assert!(rt; status == Status::Device);
+        assert!(rt; said.as_slice() == wanted.as_slice());
+    }
+    Ok(())
+}
+
 #[test]
 fn what_is_no_message_ends_the_conversation(rt: HostRuntime) -> Result<(), NoMemory> {
     for (bytes, why) in [
@@ -232,6 +264,10 @@ fn what_is_no_message_ends_the_conversation(rt: HostRuntime) -> Result<(), NoMem
         ),
         (
             "Content-Length: 99999999\r\n\r\n",
+            "the message is too long",
+        ),
+        (
+            "content-length:123456789\r\n\r\n",
             "the message is too long",
         ),
         (

@@ -44,9 +44,22 @@ fn what_is_no_message_has_its_fault(rt: HostRuntime) {
         ("Content-Type: x\r\n\r\n{}", FrameFault::Malformed),
         ("Content-Length: 2\n\n{}", FrameFault::Malformed),
         ("Content-Length: 4194305\r\n\r\n", FrameFault::TooLong),
+        ("Content-Length: 123456789\r\n\r\n", FrameFault::TooLong),
+        (
+            "Content-Length: 12345678901234567890123\r\n\r\n",
+            FrameFault::TooLong,
+        ),
+        ("Content-Length: 2 \r\n\r\n{}", FrameFault::Malformed),
+        ("Content-Length : 2\r\n\r\n{}", FrameFault::Malformed),
     ] {
         assert!(rt; fault_of(rt.alloc(), bytes) == Some(fault));
     }
-    let other = "Content-Type: x\r\nContent-Length: 2\r\n\r\n{}";
-    assert!(rt; fault_of(rt.alloc(), other).is_none());
+    for bytes in [
+        "Content-Type: x\r\nContent-Length: 2\r\n\r\n{}",
+        "content-length: 2\r\n\r\n{}",
+        "CONTENT-LENGTH:2\r\n\r\n{}",
+        "Content-Length: \t 2\r\n\r\n{}",
+    ] {
+        assert!(rt; fault_of(rt.alloc(), bytes).is_none());
+    }
 }

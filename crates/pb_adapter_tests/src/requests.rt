@@ -37,7 +37,7 @@ fn commands_have_their_kinds(rt: HostRuntime) {
 #[test]
 fn requests_are_read(rt: HostRuntime) {
     let text =
-        "{\"seq\":4,\"command\":\"setBreakpoints\",\"arguments\":{\"threadId\":66,\"text\":\"t\",\"breakpoints\":[{\"line\":7},{\"line\":65537},{}]}}";
+        "{\"seq\":4,\"type\":\"request\",\"command\":\"setBreakpoints\",\"arguments\":{\"threadId\":66,\"text\":\"t\",\"breakpoints\":[{\"line\":7},{\"line\":65537},{}]}}";
     let Ok(message) = Value::from_str(rt.alloc(), text) else {
         panic!(rt; "this is not read");
     };
@@ -89,6 +89,9 @@ fn what_is_no_request_is_none(rt: HostRuntime) {
         "{\"seq\":1}",
         "{\"seq\":-1,\"command\":\"threads\"}",
         "[1]",
+        "{\"seq\":1,\"type\":\"response\",\"command\":\"threads\"}",
+        "{\"seq\":1,\"type\":\"Request\",\"command\":\"threads\"}",
+        "{\"seq\":1,\"type\":null,\"command\":\"threads\"}",
     ] {
         let Ok(message) = Value::from_str(rt.alloc(), text) else {
             panic!(rt; "this is not read");
