@@ -77,7 +77,7 @@ launched_known l first bytes s old new given is placed (text, done, session, wro
 pub opened_debugger : (lending : Lending) (verified v : VerifiedCode) (labels shown : List ProcessLabels) (counted cs : List CountedPick)
     (source text path : List ℕ) (d d' : Debugging) → v ≡ verified → shown ≡ labels → cs ≡ counted → text ≡ source
     → d ≡ at_start lending v shown (spread cs) → d' ≡ showing (Some text) d
-    → d' ≡ (says.opened (record { lending = lending; verified = verified; labels = labels; counted = counted; source = source; path = path })).debugger
+    → d' ≡ (says.opened (record { lending = lending; verified = verified; labels = labels; counted = counted; source = source; path = path; counting = counting })).debugger
 opened_debugger lending verified v labels shown counted cs source text path d d' code of picks bytes is is' =
     is'
     ∙ ap (λ (x : List ℕ). showing (Some x) d) bytes
