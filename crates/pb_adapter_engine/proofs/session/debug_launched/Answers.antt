@@ -16,7 +16,7 @@ returns-in-Ok-clause-text g c =
     let is : c.with_source-shown.result ≡ (opened l).debugger =
     opened_debugger c.args.launched.lending c.args.launched.compiled.verified c.verified.result.now c.args.launched.compiled.labels
     (labels_view c.labels-labels.result.now) c.args.launched.picks.items c.deref.result.now c.args.launched.source.items c.deref-in-Ok.result.now
-    c.args.launched.path.bytes.items c.in-Ok.debugger c.with_source-shown.result c.verified.ensures c.labels-labels.ensures.labels
+    c.args.launched.path.bytes.items c.args.launched.counting c.in-Ok.debugger c.with_source-shown.result c.verified.ensures c.labels-labels.ensures.labels
     c.deref.ensures.value c.deref-in-Ok.ensures.value c.in-Ok.ensures.opened c.with_source-shown.ensures.shown in
     let same : c.new-session.result ≡ opened l =
     c.new-session.ensures
@@ -32,7 +32,7 @@ returns-in-Ok-clause-answered g c = λ changed.
     let is : c.with_source-shown.result ≡ (opened l).debugger =
     opened_debugger c.args.launched.lending c.args.launched.compiled.verified c.verified.result.now c.args.launched.compiled.labels
     (labels_view c.labels-labels.result.now) c.args.launched.picks.items c.deref.result.now c.args.launched.source.items c.deref-in-Ok.result.now
-    c.args.launched.path.bytes.items c.in-Ok.debugger c.with_source-shown.result c.verified.ensures c.labels-labels.ensures.labels
+    c.args.launched.path.bytes.items c.args.launched.counting c.in-Ok.debugger c.with_source-shown.result c.verified.ensures c.labels-labels.ensures.labels
     c.deref.ensures.value c.deref-in-Ok.ensures.value c.in-Ok.ensures.opened c.with_source-shown.ensures.shown in
     let same : c.new-session.result ≡ opened l =
     c.new-session.ensures
