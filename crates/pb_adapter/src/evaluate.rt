@@ -30,6 +30,7 @@ pub fn answer_lines(
 }
 
 /// Returns whether a line of a text says that a command is refused.
+#[tactic(auto, using(crate::proofs::RefusedLines::refuses_step))]
 fn refuses(text: &[u8]) -> bool
     ensures { result ≡ refuses_from true text.now }
 {
