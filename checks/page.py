@@ -32,7 +32,7 @@ from page_made import BYSTANDER, EXAMPLES, HOSTILE, make_page, write_page
 from page_settings import look_at_settings
 
 # The most bytes of a page without its data.
-MOST_PAGE = 72_000
+MOST_PAGE = 70_000
 SIZES = ((360, 700), (800, 600), (1280, 720), (1920, 1080), (3840, 2160))
 
 

@@ -72,7 +72,7 @@ PLANTED = (
     ("[...settings, hash].join", "[hash].join"),
     ("isWanted !== DARK.matches : isWanted", "isWanted === DARK.matches : isWanted"),
     ("fault: \"×\", end: \"■\" };", "fault: \"!\", end: \"■\" };"),
-    ("#ending > .over { border-color: var(--accent);", "#ending > .over { border-color: var(--good);"),
+    ("#ending > .over { border-color: var(--accent)", "#ending > .over { border-color: var(--good)"),
     ("most < more ?", "most > more ?"),
 )
 

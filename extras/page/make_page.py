@@ -114,7 +114,7 @@ def read_scripts(tags: str) -> str:
 
 def fill_template(title: str, data: str) -> str:
     """Returns the page, with its style, its scripts and its data in it."""
-    page = read("page.html")
+    page = re.sub(r"<!--.*-->\n", "", read("page.html"))
     tags = "".join(re.findall(r'<script src=.*\n', page))
     parts = {
         "<title>parbegin</title>": f"<title>{html.escape(title)} - parbegin</title>",

@@ -14,7 +14,9 @@ function remember(hash) {
   remembered = setTimeout(() => {
     try {
       history.replaceState(null, "", `#${[...settings, hash].join("&")}`);
-    } catch { /* the page is as good without */ }
+    } catch {
+      // The page is as good without.
+    }
   }, 200);
 }
 
@@ -36,7 +38,7 @@ function tooManySchedules(documents) {
 /** Looks as the settings say, and draws anew. */
 function applySettings() {
   const root = document.documentElement, isDark = settings.has("dark") || (DARK.matches && !settings.has("light"));
-  const are = { dark: isDark, large: settings.has("large"), quiz: settings.has("quiz") };
+  const are = { dark: isDark, large: settings.has("large"), quiz: isQuiz() };
   for (const [name, is] of Object.entries(are)) {
     root.classList.toggle(name, is);
     $(name).setAttribute("aria-pressed", is);

@@ -42,22 +42,25 @@ except KeyboardInterrupt:
     print(bank.ask(0, [1]).value, bank.loans(0))
 bank.close()
 """
-# A runner that does not close its bank, and has a child that lives on.
+# A runner that does not close its bank. One child of it tries to use the bank, another one only lives on.
 UNCLOSED = """
 import os, sys, time
 from parbegin import Bank
 bank = Bank([2], sys.argv[1])
-child = os.fork()
-if child == 0:
+trying = os.fork()
+if trying == 0:
     try:
         bank.join([1])
     except Exception as fault:
         os.write(1, f"child {type(fault).__name__}\\n".encode())
     bank.close()
+    os._exit(0)
+os.waitpid(trying, 0)
+living = os.fork()
+if living == 0:
     time.sleep(60)
     os._exit(0)
-time.sleep(0.5)
-print(bank._bank.pipes.process.pid, child, bank.join([2]), flush=True)
+print(bank._bank.pipes.process.pid, living, bank.join([2]), flush=True)
 time.sleep(60)
 """
 
