@@ -1,9 +1,10 @@
-//! Edits that may mend a text: what is missing where it is refused. Each is tried before it is proposed.
+//! Edits that may mend a text: a word that is misspelt, or what is missing where it is refused. Each is tried before it is proposed.
 
 use crate::mend::Mend;
 use pb_base::NoMemory;
-use pb_codegen::ClaimsFault;
+use pb_codegen::{ClaimsFault, CompileFault};
 use pb_lexer::{Kind, Mark, Token};
+use pb_message_wording::respelling;
 use std::alloc::Global;
 
 /// What may be missing behind a token.
@@ -44,6 +45,26 @@ pub fn add_missing(
         let title = format!(in alloc; "insert `{}`", word.trim_start())?;
         let bytes = String::from_str(alloc, word)?;
         out.push(insertion(title, end, bytes))?;
+    }
+    Ok(())
+}
+
+/// Appends to `out` the edit that writes what is meant in the place of a word that is probably misspelt, if one is.
+pub fn add_respelling(
+    alloc: Global,
+    out: &mut Vec<Mend>,
+    text: &[u8],
+    fault: &CompileFault,
+) -> Result<(), NoMemory> {
+    if let Some(meant) = respelling(alloc, text, fault)? {
+        let bytes = String::from_utf8_lossy(alloc, &meant.bytes)?;
+        let title = format!(in alloc; "write `{}`", bytes)?;
+        out.push(Mend {
+            title,
+            start: meant.start,
+            end: meant.end,
+            bytes,
+        })?;
     }
     Ok(())
 }

@@ -2,9 +2,14 @@
 
 ghost use Rattle.std.specs.Prelude.{◌≤◌, length};
 
+use crate::foreign::hint_of;
+use crate::misspelt::fault_of;
+use crate::mistakes::word_mistake;
 use crate::open::{Open, open_before};
-use crate::tokens::{is_at, is_declaration, is_name, is_number};
-use crate::wording::{Shown, Wording};
+use crate::tokens::{
+    is_at, is_declaration, is_name, is_number, is_statement_start, text_at, token_at,
+};
+use crate::wording::{Shown, Told, Wording};
 use pb_base::NoMemory;
 use pb_lexer::{LexFault, Mark, Token, lex};
 use std::alloc::{AllocError, Global};
@@ -24,9 +29,50 @@ pub fn bad_byte(alloc: Global, text: &[u8], at: usize) -> Result<Wording, NoMemo
         Err(_) => Vec::new(alloc),
     };
     let open = open_before(alloc, &tokens, tokens.len())?;
+    let cause = word_before(alloc, &text[..at], &tokens)?;
+    let meaning = meaning_of(&tokens, open.last(), rest);
     let mut wording = Wording::new(alloc, byte_in_words(alloc, byte));
-    wording.hint(alloc, meaning_of(&tokens, open.last(), rest));
+    match cause {
+        Some(cause) if is_excused(byte) => cause.put_cause(alloc, &mut wording),
+        Some(cause) => {
+            wording.hint(alloc, meaning);
+            cause.put_cause(alloc, &mut wording);
+        }
+        None => wording.hint(alloc, meaning),
+    }
     Ok(wording)
+}
+
+/// Returns the mistake of a word in a part of a text with these tokens, up to which it is right.
+fn word_before<'t>(
+    alloc: Global,
+    text: &'t [u8],
+    tokens: &[Token<'t>],
+) -> Result<Option<Told<'t>>, NoMemory> {
+    let fault = fault_of(alloc, tokens)?;
+    let Some(number) = faulty_token(tokens, fault) else {
+        return Ok(None);
+    };
+    let open = open_before(alloc, tokens, number)?;
+    word_mistake(alloc, text, tokens, number, open.as_slice())
+}
+
+/// Returns the number of the token at an offset, if there is one; behind the last one, if that is a word with which no
+/// statement begins.
+fn faulty_token(tokens: &[Token], at: Option<usize>) -> Option<usize> {
+    match token_at(tokens, at?) {
+        Some(number) => Some(number),
+        None if is_name(tokens, tokens.len().saturating_sub(1)) => Some(tokens.len()),
+        None => None,
+    }
+}
+
+/// Returns whether a byte is explained by a word of another language before it.
+fn is_excused(byte: u8) -> bool {
+    matches!(
+        byte,
+        b':' | b'{' | b'}' | b'"' | b'\'' | b'.' | b'[' | b']' | b'&' | b'@' | b'#' | b'?'
+    )
 }
 
 fn byte_in_words(alloc: Global, byte: u8) -> Result<String, AllocError> {
@@ -39,45 +85,166 @@ fn byte_in_words(alloc: Global, byte: u8) -> Result<String, AllocError> {
 
 /// Returns what is usually meant by the first byte of the rest of a text, behind these tokens.
 fn meaning_of(tokens: &[Token], open: Option<&Open>, rest: &[u8]) -> &'static str {
-    let last = tokens.len().saturating_sub(1);
     match rest.first().copied().unwrap_or(0) {
-        b':' => meaning_of_colon(tokens, last),
-        b'/' if rest.starts_with(b"/*") =>
-            "a comment begins with // and goes to the end of its line; there is no /* */",
-        b'%' if rest.starts_with(b"%%") =>
-            "a line %% has nothing else in it; behind it are further texts, for check, or picks, for replay, draw and debug",
-        b'.' => meaning_of_point(tokens, last),
-        b'{' => meaning_of_brace(tokens, open),
+        b':' => meaning_of_colon(tokens, open, rest),
+        b'.' => meaning_of_point(tokens, rest),
+        b'{' => meaning_of_brace(tokens, open, rest),
+        b'|' | b'&' => meaning_of_bars(open, rest),
+        b'/' | b'%' | b'#' | b'$' => meaning_of_pair(rest),
         b'}' =>
             "statements are grouped by begin and end; an if ends with fi, a while or a hold with od",
         byte => usual_meaning(byte),
     }
 }
 
+/// Returns what is usually meant by these bytes, of which the first ones have a meaning of their own.
+fn meaning_of_pair(rest: &[u8]) -> &'static str {
+    if rest.starts_with(b"/*") {
+        "a comment begins with // and goes to the end of its line; there is no /* */"
+    } else if rest.starts_with(b"%%") {
+        "a line %% has nothing else in it; behind it are further texts, for check, or picks, for replay, draw and debug"
+    } else if rest.starts_with(b"#include") || rest.starts_with(b"#import") {
+        "nothing is included: a program is one text, of resources and processes"
+    } else if rest.starts_with(b"#define") {
+        "there are no constants but numbers: a process declares an integer, integer n; and assigns it, n := 5"
+    } else {
+        usual_meaning(rest.first().copied().unwrap_or(0))
+    }
+}
+
+/// Returns what is usually meant by `|` or `&`.
+fn meaning_of_bars(open: Option<&Open>, rest: &[u8]) -> &'static str {
+    let is_in_test = match open {
+        Some(open) => open.part.is_none() && matches!(open.word, Mark::If | Mark::While),
+        None => true,
+    };
+    let is_in_arms = match open {
+        Some(open) => open.word == Mark::Parbegin,
+        None => false,
+    };
+    if is_in_arms || (rest.starts_with(b"||") && !is_in_test && !is_operand(rest)) {
+        "a semicolon separates the arms of a parbegin: parbegin a; b parend"
+    } else {
+        "the logical operators are written a and b, a or b"
+    }
+}
+
+/// Returns whether what is behind two bytes seems to be an operand, and no statement: up to the end of its line it does not
+/// assign, and no reserved word begins it.
+fn is_operand(rest: &[u8]) -> bool {
+    for i in 2..rest.len() {
+        if rest[i] == b':' {
+            return false;
+        }
+        if matches!(rest[i], b'\n' | b';') {
+            break;
+        }
+    }
+    !STATEMENTS
+        .iter()
+        .any(|word| behind_blanks(rest, 2).starts_with(word.as_bytes()))
+}
+
+/// The words with which statements begin that are often arms.
+const STATEMENTS: [&str; 6] = ["print", "begin", "hold", "while", "if", "skip"];
+
+/// Returns bytes without the first ones and the blanks behind them.
+fn behind_blanks(bytes: &[u8], count: usize) -> &[u8] {
+    for i in count..bytes.len() {
+        if !matches!(bytes[i], b' ' | b'\t' | b'\n' | b'\r') {
+            return &bytes[i..];
+        }
+    }
+    b""
+}
+
 /// Returns what is usually meant by `:` behind these tokens.
-fn meaning_of_colon(tokens: &[Token], last: usize) -> &'static str {
+fn meaning_of_colon(tokens: &[Token], open: Option<&Open>, rest: &[u8]) -> &'static str {
+    let last = tokens.len().saturating_sub(1);
+    let behind = behind_blanks(rest, 1);
     if is_at(tokens, last.saturating_sub(1), Mark::Resource) {
         "a resource is declared with `=`: resource r = 2;"
     } else if is_declaration(tokens, tokens.len()) {
         "integers are declared without a type: integer x, y;"
+    } else if is_type(behind) {
+        "the integers of a process are declared behind its first begin, without a type: integer x, y;"
+    } else if behind.starts_with(b"=") {
+        "an assignment is written x := 1, with no blank between `:` and `=`"
+    } else if let Some(hint) = meaning_of_line_end(tokens, open) {
+        hint
+    } else if is_name(tokens, last) && is_statement_start(tokens, last) {
+        "there are no labels: an arm goes on to the end of its statements; an assignment is written x := 1"
     } else {
         "an assignment is written x := 1, with no blank between `:` and `=`"
     }
 }
 
+/// Returns whether bytes begin with the name of a type of other languages.
+fn is_type(bytes: &[u8]) -> bool {
+    bytes.starts_with(b"int") || bytes.starts_with(b"bool") || bytes.starts_with(b"semaphore")
+}
+
+/// Returns what is meant by a `:` with which other languages end a line that begins a list of statements.
+fn meaning_of_line_end(tokens: &[Token], open: Option<&Open>) -> Option<&'static str> {
+    let last = tokens.len().checked_sub(1)?;
+    if is_at(tokens, last, Mark::Else) {
+        return Some("an else is written else print 2 fi, without a colon");
+    }
+    if is_at(tokens, last.saturating_sub(1), Mark::Process) {
+        return Some("a process is written process p begin print 1 end, without a colon");
+    }
+    let open = open?;
+    if matches!(open.part, Some(Mark::Else)) || matches!(open.part, Some(Mark::Do)) && is_number(tokens, last) {
+        return None;
+    }
+    match (open.word, open.part) {
+        (Mark::If, None) => Some("an if is written if x = 1 then print 1 fi, without a colon"),
+        (Mark::While, None) => {
+            Some("a while is written while x < 9 do x := x + 1 od, without a colon")
+        }
+        (Mark::Hold, None) => Some("a hold is written hold 1 of tape do print 1 od, without a colon"),
+        _ => None,
+    }
+}
+
 /// Returns what is usually meant by `.` behind these tokens.
-fn meaning_of_point(tokens: &[Token], last: usize) -> &'static str {
+fn meaning_of_point(tokens: &[Token], rest: &[u8]) -> &'static str {
+    let last = tokens.len().saturating_sub(1);
     if is_at(tokens, last, Mark::End) {
         "a process ends with end, and no point is behind it"
     } else if is_number(tokens, last) {
         "numbers are integers: they have no decimal point"
     } else {
-        "a name has no point: a process uses only the integers that it declares itself"
+        meaning_of_member(text_at(tokens, last), rest)
     }
 }
 
+/// Returns what is usually meant by a name with a point behind it.
+fn meaning_of_member(name: &[u8], rest: &[u8]) -> &'static str {
+    if let Some(hint) = hint_of(name) {
+        return hint;
+    }
+    if let Some(hint) = hint_of(word_at_start(rest)) {
+        return hint;
+    }
+    "a name has no point: a process uses only the integers that it declares itself"
+}
+
+/// Returns the letters behind the first byte.
+fn word_at_start(bytes: &[u8]) -> &[u8] {
+    for end in 1..bytes.len() {
+        if !bytes[end].is_ascii_alphanumeric() && bytes[end] != b'_' {
+            return &bytes[1..end];
+        }
+    }
+    b""
+}
+
 /// Returns what is usually meant by `{` behind these tokens.
-fn meaning_of_brace(tokens: &[Token], open: Option<&Open>) -> &'static str {
+fn meaning_of_brace(tokens: &[Token], open: Option<&Open>, rest: &[u8]) -> &'static str {
+    if tokens.is_empty() || is_remark(rest) {
+        return "a comment begins with // and goes to the end of its line; there is no { }";
+    }
     match open {
         Some(open) if open.part.is_none() && open.word == Mark::If =>
             "an if is written if x = 1 then print 1 fi, without braces",
@@ -91,17 +258,38 @@ fn meaning_of_brace(tokens: &[Token], open: Option<&Open>) -> &'static str {
     }
 }
 
+/// Returns whether what is in braces seems to be words of a person: letters and blanks, and more than one word.
+fn is_remark(rest: &[u8]) -> bool {
+    let mut blanks = 0u32;
+    for byte in behind_blanks(rest, 1) {
+        if *byte == b'}' {
+            return blanks > 1 || rest.ends_with(b"}") && blanks > 0;
+        }
+        if *byte == b' ' {
+            blanks = blanks.saturating_add(1);
+        }
+        if matches!(*byte, b'=' | b';' | b'(' | b'+' | b'\n') {
+            return false;
+        }
+    }
+    false
+}
+
 /// Returns what is usually meant by a byte that is not allowed.
 fn usual_meaning(byte: u8) -> &'static str {
     match byte {
         b'/' => "a quotient is written a div b; a comment begins with //",
         b'%' => "a remainder is written a mod b",
         b'!' => "not equal is written a <> b, and negation not a",
-        b'&' | b'|' => "the logical operators are written a and b, a or b",
         b'#' => "a comment begins with //",
         b'_' => "a name begins with a letter",
         b'"' | b'\'' => "the language has no strings: print writes integers",
         b'[' | b']' => "the language has no arrays: each integer has a name of its own",
+        b'^' => "a power is written as a product, 2 * 2 * 2, or multiplied in a while",
+        b'?' => "a choice is a statement: if x > 0 then y := 1 else y := 2 fi",
+        b'~' => "negation is written not a, and not equal a <> b",
+        b'$' => "a name is made of letters, digits and _, with no sign before it",
+        b'\\' => "a line has no sign at its end: a statement goes on in the next line",
         _ =>
             "a text consists of names, numbers, reserved words and := ; , ( ) + - * = <> < <= > >=",
     }

@@ -2,43 +2,41 @@
 
 use crate::open::{Open, closer, spelled};
 use crate::tokens::{
-    begins_statement, closes, ends_statement, is_at, line_at, mark_at, opens, process_before,
-    process_name,
+    begins_statement, closes, ends_statement, is_at, is_name, line_at, mark_at, opens,
+    process_before, process_name, text_at,
 };
-use crate::wording::{Shown, Wording};
+use crate::wording::{Told, told, usual};
 use pb_lexer::{Mark, Token};
-use std::alloc::Global;
 
-/// Returns the wording of a statement that is not closed before the token with a number, or of that token, if
-/// it closes nothing.
-pub fn closing_mistake(
-    alloc: Global,
-    tokens: &[Token],
+/// Returns the mistake of a statement that is not closed before the token with a number, or of that token, if it closes
+/// nothing.
+pub fn closing_mistake<'t>(
+    tokens: &[Token<'t>],
     number: usize,
     open: &[Open],
-) -> Option<Wording> {
+) -> Option<Told<'t>> {
     let Some(last) = open.last() else {
-        return outside_mistake(alloc, tokens, number);
+        return outside_mistake(tokens, number);
     };
     if !ends_statement(tokens, number.checked_sub(1)?) {
         return None;
     }
     if tokens.len() <= number || is_at(tokens, number, Mark::Process) {
-        return Some(not_closed(alloc, tokens, last));
+        return Some(not_closed(tokens, last));
     }
     if is_at(tokens, number, Mark::Else) {
-        return else_mistake(alloc, tokens, last, open);
+        return else_mistake(tokens, last, open);
     }
     if !closes(tokens, number) || last.is_closed_by(tokens, number) {
         return None;
     }
     if last.is_closed_by(tokens, number.saturating_add(1)) && has_one_too_many(tokens, number) {
-        return Some(closed_behind(alloc, tokens, number, last));
+        return Some(closed_behind(tokens, number, last));
     }
     if is_closing(tokens, number, open) {
-        return Some(not_closed(alloc, tokens, last));
+        return Some(not_closed(tokens, last));
     }
-    Some(wrong_closer(alloc, tokens, number, last))
+    Some(wrong_closer(tokens, number, last))
 }
 
 /// Returns whether the token with a number closes something that is open.
@@ -63,74 +61,56 @@ fn has_one_too_many(tokens: &[Token], number: usize) -> bool {
     opened < closed
 }
 
-/// Returns the wording of a word that closes nothing, just before the one that closes what is open.
-fn closed_behind(alloc: Global, tokens: &[Token], number: usize, last: &Open) -> Wording {
-    let word = spelled_at(tokens, number);
-    let closing = spelled(closer(last.word));
-    let mut wording = Wording::new(
-        alloc,
-        format!(in alloc;
-            "this `{word}` is one too many: the `{closing}` behind it closes the `{}` of line {}",
-            spelled(last.word),
-            line_at(tokens, last.number)
-        ),
-    );
-    wording.spot_token(alloc, "it is opened at ", tokens.get(last.number));
-    wording.hint(
-        alloc,
+/// Returns the mistake of a word that closes nothing, just before the one that closes what is open.
+fn closed_behind<'t>(tokens: &[Token<'t>], number: usize, last: &Open) -> Told<'t> {
+    told(
+        "this `@1` is one too many: the `@2` behind it closes the `@3` of line @n",
         "leave it out, or look for a begin that is missing above",
-    );
-    wording
+    )
+    .with_words(
+        spelled_at(tokens, number),
+        spelled(closer(last.word)).as_bytes(),
+        spelled(last.word).as_bytes(),
+    )
+    .on_line(line_at(tokens, last.number))
+    .placed("it is opened at ", tokens.get(last.number))
 }
 
-/// Returns the wording of an `else` that cannot be here.
-fn else_mistake(alloc: Global, tokens: &[Token], last: &Open, open: &[Open]) -> Option<Wording> {
+/// Returns the mistake of an `else` that cannot be here.
+fn else_mistake<'t>(tokens: &[Token<'t>], last: &Open, open: &[Open]) -> Option<Told<'t>> {
     if last.word == Mark::If && last.part == Some(Mark::Else) {
-        let summary = format!(in alloc;
-            "the `if` of line {} has two `else`",
-            line_at(tokens, last.number)
+        return Some(
+            told(
+                "the `if` of line @n has two `else`",
+                "an if has one else; another if behind it has a fi of its own",
+            )
+            .on_line(line_at(tokens, last.number)),
         );
-        let mut wording = Wording::new(alloc, summary);
-        wording.hint(
-            alloc,
-            "an if has one else; another if behind it has a fi of its own",
-        );
-        return Some(wording);
     }
     if open.iter().any(|one| one.word == Mark::If) {
-        return Some(not_closed(alloc, tokens, last));
+        return Some(not_closed(tokens, last));
     }
-    Some(Wording::noted(
-        alloc,
+    usual(
         "there is no `if` to which this `else` could belong",
-        "hint: a choice is written if x = 1 then print 1 else print 2 fi",
-    ))
+        "a choice is written if x = 1 then print 1 else print 2 fi",
+    )
 }
 
-/// Returns the wording of a statement that is not closed.
-fn not_closed(alloc: Global, tokens: &[Token], open: &Open) -> Wording {
-    let mut wording = Wording::new(
-        alloc,
-        format!(in alloc;
-            "`{}` is missing: the `{}` of line {} is not closed",
-            spelled(closer(open.word)),
-            spelled(open.word),
-            line_at(tokens, open.number)
-        ),
-    );
-    wording.spot_token(alloc, "it is opened at ", tokens.get(open.number));
-    if is_else_if(tokens, open) {
-        wording.hint(
-            alloc,
-            "each if has a fi of its own, also one behind else: else if .. fi fi",
-        );
+/// Returns the mistake of a statement that is not closed.
+fn not_closed<'t>(tokens: &[Token<'t>], open: &Open) -> Told<'t> {
+    let hint = if is_else_if(tokens, open) {
+        "each if has a fi of its own, also one behind else: else if .. fi fi"
     } else {
-        wording.note(format!(in alloc;
-            "hint: write {} behind the last of its statements",
-            spelled(closer(open.word))
-        ));
-    }
-    wording
+        "write @1 behind the last of its statements"
+    };
+    told("`@1` is missing: the `@2` of line @n is not closed", hint)
+        .with_words(
+            spelled(closer(open.word)).as_bytes(),
+            spelled(open.word).as_bytes(),
+            b"",
+        )
+        .on_line(line_at(tokens, open.number))
+        .placed("it is opened at ", tokens.get(open.number))
 }
 
 /// Returns whether what is open is an `if` with another one just behind its `else`.
@@ -146,86 +126,81 @@ fn is_else_if(tokens: &[Token], open: &Open) -> bool {
     false
 }
 
-/// Returns the wording of a word that closes nothing, beside what is open.
-fn wrong_closer(alloc: Global, tokens: &[Token], number: usize, last: &Open) -> Wording {
-    let mut wording = Wording::new(
-        alloc,
-        format!(in alloc;
-            "the `{}` of line {} is closed by `{}`",
-            spelled(last.word),
-            line_at(tokens, last.number),
-            spelled(closer(last.word))
-        ),
-    );
-    wording.spot_token(alloc, "it is opened at ", tokens.get(last.number));
-    wording.note(format!(in alloc;
-        "hint: write {} in the place of {}, or leave {} out if it is one too many",
-        spelled(closer(last.word)),
+/// Returns the mistake of a word that closes nothing, beside what is open.
+fn wrong_closer<'t>(tokens: &[Token<'t>], number: usize, last: &Open) -> Told<'t> {
+    told(
+        "the `@1` of line @n is closed by `@2`",
+        "write @2 in the place of @3, or leave @3 out if it is one too many",
+    )
+    .with_words(
+        spelled(last.word).as_bytes(),
+        spelled(closer(last.word)).as_bytes(),
         spelled_at(tokens, number),
-        spelled_at(tokens, number)
-    ));
-    wording
+    )
+    .on_line(line_at(tokens, last.number))
+    .placed("it is opened at ", tokens.get(last.number))
 }
 
 /// Returns the word that closes a statement at a token as it is spelled.
-fn spelled_at(tokens: &[Token], number: usize) -> &'static str {
+fn spelled_at(tokens: &[Token], number: usize) -> &'static [u8] {
     match mark_at(tokens, number) {
-        Some(word) => spelled(word),
-        None => "it",
+        Some(word) => spelled(word).as_bytes(),
+        None => b"it",
     }
 }
 
-/// Returns the wording of a token outside of all processes.
-fn outside_mistake(alloc: Global, tokens: &[Token], number: usize) -> Option<Wording> {
+/// Returns the mistake of a token outside of all processes.
+fn outside_mistake<'t>(tokens: &[Token<'t>], number: usize) -> Option<Told<'t>> {
     if process_before(tokens, number).is_some() {
-        return behind_mistake(alloc, tokens, number);
+        return behind_mistake(tokens, number);
     }
     if tokens.len() <= number {
-        return Some(Wording::noted(
-            alloc,
+        return usual(
             "the text has no process",
-            "hint: a program has at least one: process p begin print 1 end",
-        ));
+            "a program has at least one: process p begin print 1 end",
+        );
     }
-    if begins_statement(tokens, number)
-        && (number == 0 || is_at(tokens, number.checked_sub(1)?, Mark::Semicolon))
-    {
-        return Some(Wording::noted(
-            alloc,
-            "a statement stands outside of all processes",
-            "hint: statements stand in a process: process p begin print 1 end",
-        ));
+    if number != 0 && !is_at(tokens, number.checked_sub(1)?, Mark::Semicolon) {
+        return None;
     }
-    None
+    if is_name(tokens, number) && !is_at(tokens, number.saturating_add(1), Mark::Assign) {
+        return Some(
+            told(
+                "neither a resource nor a process begins with `@1`",
+                "a program is made of these: resource r = 1; process p begin print 1 end",
+            )
+            .naming(text_at(tokens, number)),
+        );
+    }
+    if !begins_statement(tokens, number) {
+        return None;
+    }
+    usual(
+        "a statement stands outside of all processes",
+        "statements stand in a process: process p begin print 1 end",
+    )
 }
 
-/// Returns the wording of a token behind the end of a process.
-fn behind_mistake(alloc: Global, tokens: &[Token], number: usize) -> Option<Wording> {
+/// Returns the mistake of a token behind the end of a process.
+fn behind_mistake<'t>(tokens: &[Token<'t>], number: usize) -> Option<Told<'t>> {
     if !is_at(tokens, number.checked_sub(1)?, Mark::End) {
         return None;
     }
-    let name = Shown(process_name(tokens, number));
+    let name = process_name(tokens, number);
     if closes(tokens, number) {
-        let word = spelled_at(tokens, number);
-        let mut wording = Wording::new(
-            alloc,
-            format!(in alloc;
-                "this `{word}` is one too many: process {name} has ended just before it"
-            ),
+        return Some(
+            told(
+                "this `@1` is one too many: process @2 has ended just before it",
+                "leave it out, or look for a begin that is missing above",
+            )
+            .with_words(spelled_at(tokens, number), name, b""),
         );
-        wording.hint(
-            alloc,
-            "leave it out, or look for a begin that is missing above",
-        );
-        return Some(wording);
     }
-    let mut wording = Wording::new(
-        alloc,
-        format!(in alloc; "process {name} has ended before this"),
-    );
-    wording.hint(
-        alloc,
-        "behind the end of a process only another process follows: look for an end that is one too many above",
-    );
-    Some(wording)
+    Some(
+        told(
+            "process @1 has ended before this",
+            "behind the end of a process only another process follows: look for an end that is one too many above",
+        )
+        .naming(name),
+    )
 }

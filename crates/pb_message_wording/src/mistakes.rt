@@ -2,94 +2,99 @@
 
 use crate::closing::closing_mistake;
 use crate::foreign::foreign_word;
+use crate::misspelt::misspelt_word;
 use crate::open::{Open, open_before};
 use crate::parts::part_mistake;
 use crate::resources::resource_mistake;
+use crate::signs::sign_mistake;
+use crate::statements::{head_mistake, named_mistake};
 use crate::tokens::{
-    begins_list, begins_statement, ends_list, ends_statement, is_at, is_declaration, is_name,
-    is_number, is_reserved, is_statement_start, mark_at, process_before, text_at,
+    begins_list, begins_statement, ends_before, ends_list, is_at, is_declaration, is_name,
+    is_statement_start, mark_at, process_before, statement_before,
 };
-use crate::wording::{Shown, Wording};
+use crate::wording::{Told, usual};
 use pb_base::NoMemory;
 use pb_lexer::{Mark, Token};
 use std::alloc::Global;
 
-/// A mistake in words, with what is usually meant.
-#[derive(Clone, Copy)]
-struct Mistake {
-    summary: &'static str,
-    hint: &'static str,
-}
-
-/// Returns a mistake with these words.
-fn usual(summary: &'static str, hint: &'static str) -> Option<Mistake> {
-    Some(Mistake { summary, hint })
-}
-
-/// Returns the wording of the mistake that was probably made, if the token with a number cannot come where
-/// it is (behind the last token: if the text cannot end there); nothing if none of them is likely.
-pub fn likely_mistake(
+/// Returns the mistake that was probably made in a text, if the token with a number cannot come where it is (behind the
+/// last token: if the text cannot end there); nothing if none of them is likely.
+pub fn likely_mistake<'t>(
     alloc: Global,
-    tokens: &[Token],
+    text: &'t [u8],
+    tokens: &[Token<'t>],
     number: usize,
-) -> Result<Option<Wording>, NoMemory> {
-    if let Some(wording) = foreign_word(alloc, tokens, number)? {
-        return Ok(Some(wording));
-    }
+) -> Result<Option<Told<'t>>, NoMemory> {
     let open = open_before(alloc, tokens, number)?;
+    let open = open.as_slice();
+    if let Some(told) = word_mistake(alloc, text, tokens, number, open)? {
+        return Ok(Some(told));
+    }
+    Ok(other_mistake(tokens, number, open))
+}
+
+/// Returns the mistake of a word of another language, or of one that is misspelt.
+pub fn word_mistake<'t>(
+    alloc: Global,
+    text: &'t [u8],
+    tokens: &[Token<'t>],
+    number: usize,
+    open: &[Open],
+) -> Result<Option<Told<'t>>, NoMemory> {
+    if let Some(told) = foreign_word(tokens, number, open.last()) {
+        return Ok(Some(told));
+    }
+    Ok(match misspelt_word(alloc, text, tokens, number)? {
+        Some(misspelt) => Some(misspelt.told(tokens, number)),
+        None => None,
+    })
+}
+
+/// Returns a mistake that no word of its own tells.
+fn other_mistake<'t>(tokens: &[Token<'t>], number: usize, open: &[Open]) -> Option<Told<'t>> {
     if let Some(told) = plain_mistake(tokens, number, open.last()) {
-        return Ok(Some(wording_of(alloc, told)));
+        return Some(told);
     }
-    if let Some(wording) = resource_mistake(alloc, tokens, number) {
-        return Ok(Some(wording));
+    if let Some(told) = resource_mistake(tokens, number) {
+        return Some(told);
     }
-    if let Some(wording) = named_mistake(alloc, tokens, number, open.last()) {
-        return Ok(Some(wording));
+    if let Some(told) = named_mistake(tokens, number, open.last()) {
+        return Some(told);
     }
-    if let Some(wording) = part_mistake(alloc, tokens, number, open.last()) {
-        return Ok(Some(wording));
+    if let Some(told) = part_mistake(tokens, number, open.last()) {
+        return Some(told);
     }
-    if let Some(wording) = closing_mistake(alloc, tokens, number, &open) {
-        return Ok(Some(wording));
+    if let Some(told) = head_mistake(tokens, number) {
+        return Some(told);
+    }
+    if let Some(told) = closing_mistake(tokens, number, open) {
+        return Some(told);
     }
     if begins_statement(tokens, number) && ends_before(tokens, number) && !open.is_empty() {
-        return Ok(Some(missing_semicolon(alloc)));
+        return usual(
+            "a semicolon is missing",
+            "a semicolon separates this statement from the one before",
+        );
     }
-    Ok(None)
-}
-
-fn wording_of(alloc: Global, told: Mistake) -> Wording {
-    let mut wording = Wording::of(alloc, told.summary);
-    wording.hint(alloc, told.hint);
-    wording
-}
-
-fn missing_semicolon(alloc: Global) -> Wording {
-    let mut wording = Wording::of(alloc, "a semicolon is missing");
-    wording.hint(
-        alloc,
-        "a semicolon separates this statement from the one before",
-    );
-    wording
-}
-
-/// Returns whether a statement may end just before a token.
-fn ends_before(tokens: &[Token], number: usize) -> bool {
-    match number.checked_sub(1) {
-        Some(before) => ends_statement(tokens, before),
-        None => false,
-    }
+    None
 }
 
 /// Returns a mistake that is told in the same words wherever it is made.
-fn plain_mistake(tokens: &[Token], number: usize, open: Option<&Open>) -> Option<Mistake> {
+fn plain_mistake<'t>(
+    tokens: &[Token<'t>],
+    number: usize,
+    open: Option<&Open>,
+) -> Option<Told<'t>> {
+    if let Some(told) = sign_mistake(tokens, number) {
+        return Some(told);
+    }
     if let Some(told) = list_mistake(tokens, number) {
         return Some(told);
     }
     if let Some(told) = declaration_mistake(tokens, number) {
         return Some(told);
     }
-    if let Some(told) = program_mistake(tokens, number) {
+    if let Some(told) = program_mistake(tokens, number, open) {
         return Some(told);
     }
     if let Some(told) = joined_mistake(tokens, number) {
@@ -99,7 +104,7 @@ fn plain_mistake(tokens: &[Token], number: usize, open: Option<&Open>) -> Option
 }
 
 /// Returns a mistake of a list of statements.
-fn list_mistake(tokens: &[Token], number: usize) -> Option<Mistake> {
+fn list_mistake<'t>(tokens: &[Token<'t>], number: usize) -> Option<Told<'t>> {
     let before = number.checked_sub(1)?;
     if begins_list(tokens, before) && ends_list(tokens, number) {
         return usual(
@@ -132,7 +137,7 @@ fn list_mistake(tokens: &[Token], number: usize) -> Option<Mistake> {
 }
 
 /// Returns a mistake of a declaration of integers.
-fn declaration_mistake(tokens: &[Token], number: usize) -> Option<Mistake> {
+fn declaration_mistake<'t>(tokens: &[Token<'t>], number: usize) -> Option<Told<'t>> {
     if is_at(tokens, number, Mark::Integer) && process_before(tokens, number).is_some() {
         return usual(
             "integers are not declared here",
@@ -165,7 +170,11 @@ fn declaration_mistake(tokens: &[Token], number: usize) -> Option<Mistake> {
 }
 
 /// Returns a mistake of the parts of a program.
-fn program_mistake(tokens: &[Token], number: usize) -> Option<Mistake> {
+fn program_mistake<'t>(
+    tokens: &[Token<'t>],
+    number: usize,
+    open: Option<&Open>,
+) -> Option<Told<'t>> {
     let process = process_before(tokens, number);
     if is_at(tokens, number, Mark::Resource) && process.is_some() {
         return usual(
@@ -174,6 +183,12 @@ fn program_mistake(tokens: &[Token], number: usize) -> Option<Mistake> {
         );
     }
     let before = number.checked_sub(1)?;
+    if is_at(tokens, number, Mark::Process) && open.is_some() && is_statement_start(tokens, number) {
+        return usual(
+            "a process stands in no other one",
+            "a process begins behind the end of the one before: process p begin print 1 end process q begin print 2 end",
+        );
+    }
     if is_at(tokens, before, Mark::End)
         && is_at(tokens, number, Mark::Semicolon)
         && !begins_statement(tokens, number.saturating_add(1))
@@ -182,6 +197,13 @@ fn program_mistake(tokens: &[Token], number: usize) -> Option<Mistake> {
         return usual(
             "there is a semicolon behind the end of a process",
             "a process ends with end, and no semicolon is behind it",
+        );
+    }
+    if is_at(tokens, before.saturating_sub(1), Mark::Process) && is_at(tokens, number, Mark::Semicolon)
+    {
+        return usual(
+            "there is a semicolon behind the name of a process",
+            "begin is behind the name: process p begin print 1 end",
         );
     }
     if is_at(tokens, before.saturating_sub(1), Mark::Resource)
@@ -196,7 +218,7 @@ fn program_mistake(tokens: &[Token], number: usize) -> Option<Mistake> {
 }
 
 /// Returns a mistake of what is joined by a comma, by `and`, or by `**`.
-fn joined_mistake(tokens: &[Token], number: usize) -> Option<Mistake> {
+fn joined_mistake<'t>(tokens: &[Token<'t>], number: usize) -> Option<Told<'t>> {
     let before = number.checked_sub(1)?;
     if is_at(tokens, before, Mark::And) && begins_command(tokens, number) {
         return usual(
@@ -234,19 +256,12 @@ fn begins_command(tokens: &[Token], number: usize) -> bool {
         && (!is_name(tokens, number) || is_at(tokens, number.saturating_add(1), Mark::Assign))
 }
 
-/// Returns the number of the token with which the statement before a token begins.
-fn statement_before(tokens: &[Token], number: usize) -> Option<usize> {
-    let mut found = None;
-    for i in 0..number.min(tokens.len()) {
-        if is_statement_start(tokens, i) {
-            found = Some(i);
-        }
-    }
-    found
-}
-
 /// Returns a mistake of `=`, `:=` and comparisons.
-fn equals_mistake(tokens: &[Token], number: usize, open: Option<&Open>) -> Option<Mistake> {
+fn equals_mistake<'t>(
+    tokens: &[Token<'t>],
+    number: usize,
+    open: Option<&Open>,
+) -> Option<Told<'t>> {
     let before = number.checked_sub(1)?;
     let begins = is_statement_start(tokens, before) && is_name(tokens, before);
     if is_at(tokens, number, Mark::Equal) && is_at(tokens, before, Mark::Equal)
@@ -262,6 +277,12 @@ fn equals_mistake(tokens: &[Token], number: usize, open: Option<&Open>) -> Optio
         return usual(
             "an assignment is written with `:=`",
             "write x := 1; `=` alone is a comparison",
+        );
+    }
+    if is_at(tokens, number, Mark::Assign) && open.is_some() && is_assigned_twice(tokens, number) {
+        return usual(
+            "one integer is assigned at a time",
+            "an assignment has no value: write y := 1; x := y for x := y := 1",
         );
     }
     if is_at(tokens, number, Mark::Assign) && open.is_some() {
@@ -283,6 +304,14 @@ fn equals_mistake(tokens: &[Token], number: usize, open: Option<&Open>) -> Optio
     None
 }
 
+/// Returns whether the statement before a token is an assignment already.
+fn is_assigned_twice(tokens: &[Token], number: usize) -> bool {
+    match statement_before(tokens, number) {
+        Some(start) => is_at(tokens, start.saturating_add(1), Mark::Assign),
+        None => false,
+    }
+}
+
 /// Returns whether a token compares two numbers.
 fn is_comparison(tokens: &[Token], number: usize) -> bool {
     matches!(
@@ -291,143 +320,4 @@ fn is_comparison(tokens: &[Token], number: usize) -> bool {
             Mark::Equal | Mark::NotEqual | Mark::Less | Mark::AtMost | Mark::Greater | Mark::AtLeast
         )
     )
-}
-
-/// Returns a mistake that is told with a word of the text.
-fn named_mistake(
-    alloc: Global,
-    tokens: &[Token],
-    number: usize,
-    open: Option<&Open>,
-) -> Option<Wording> {
-    let before = number.checked_sub(1)?;
-    if is_reserved(tokens, number) && wants_name(tokens, before) {
-        return Some(reserved_name(alloc, tokens, number));
-    }
-    if is_at(tokens, before.saturating_sub(1), Mark::Process) && is_name(tokens, before) {
-        return Some(missing_begin(alloc, tokens, before));
-    }
-    let begins = is_statement_start(tokens, before) && is_name(tokens, before);
-    if begins && open.is_some() && is_change(tokens, number) {
-        return Some(changed_in_place(alloc, tokens, before));
-    }
-    let open = open?;
-    if open.word == Mark::Hold && open.part.is_none() {
-        return hold_mistake(alloc, tokens, number);
-    }
-    None
-}
-
-/// Returns whether a name is wanted behind a token.
-fn wants_name(tokens: &[Token], number: usize) -> bool {
-    matches!(
-        mark_at(tokens, number),
-        Some(Mark::Integer | Mark::Process | Mark::Resource | Mark::Of)
-    ) || is_at(tokens, number, Mark::Comma) && is_declaration(tokens, number)
-}
-
-fn reserved_name(alloc: Global, tokens: &[Token], number: usize) -> Wording {
-    let word = Shown(text_at(tokens, number));
-    let summary = format!(in alloc; "a name is missing before the reserved word `{word}`");
-    let mut wording = Wording::new(alloc, summary);
-    wording.note(format!(in alloc;
-        "hint: write a name here; `{word}` cannot be one, as it is a word of the language"
-    ));
-    wording
-}
-
-fn missing_begin(alloc: Global, tokens: &[Token], name: usize) -> Wording {
-    let name = Shown(text_at(tokens, name));
-    let summary = format!(in alloc; "`begin` is missing behind process {name}");
-    let mut wording = Wording::new(alloc, summary);
-    wording.note(format!(in alloc; "hint: a process is written process {name} begin .. end"));
-    wording
-}
-
-/// Returns whether an operator is at a token with which other languages change an integer.
-fn is_change(tokens: &[Token], number: usize) -> bool {
-    let next = mark_at(tokens, number.saturating_add(1));
-    match mark_at(tokens, number) {
-        Some(Mark::Plus) => next == Some(Mark::Plus) || next == Some(Mark::Equal),
-        Some(Mark::Minus) => next == Some(Mark::Minus) || next == Some(Mark::Equal),
-        Some(Mark::Star) => next == Some(Mark::Equal),
-        _ => false,
-    }
-}
-
-fn changed_in_place(alloc: Global, tokens: &[Token], name: usize) -> Wording {
-    let operator = name.saturating_add(1);
-    let sign = Shown(text_at(tokens, operator));
-    let next = Shown(text_at(tokens, operator.saturating_add(1)));
-    let summary = format!(in alloc; "there is no `{sign}{next}`");
-    let mut wording = Wording::new(alloc, summary);
-    let name = Shown(text_at(tokens, name));
-    let value = if is_number(tokens, operator.saturating_add(2)) {
-        Shown(text_at(tokens, operator.saturating_add(2)))
-    } else {
-        Shown(b"1")
-    };
-    wording.note(format!(in alloc; "hint: write {name} := {name} {sign} {value}"));
-    wording
-}
-
-/// Returns a mistake of the amounts of a hold.
-fn hold_mistake(alloc: Global, tokens: &[Token], number: usize) -> Option<Wording> {
-    let before = number.checked_sub(1)?;
-    let name = Shown(text_at(tokens, number));
-    if let Some(next) = next_amount(tokens, number) {
-        return Some(missing_comma(alloc, tokens, before, next));
-    }
-    if is_number(tokens, before) && is_name(tokens, number) {
-        let amount = Shown(text_at(tokens, before));
-        let mut wording = Wording::of(alloc, "`of` is missing");
-        wording.note(format!(in alloc; "hint: write hold {amount} of {name} do .. od"));
-        return Some(wording);
-    }
-    if !is_at(tokens, before, Mark::Hold) && !is_at(tokens, before, Mark::Comma) {
-        return None;
-    }
-    let mut wording = Wording::of(alloc, "a hold begins with an amount, a number");
-    if is_name(tokens, number) && !is_at(tokens, number.saturating_add(1), Mark::Of) {
-        wording.note(format!(in alloc;
-            "hint: say how much of it is held: hold 1 of {name} do .. od"
-        ));
-    } else {
-        wording.note_text(
-            alloc,
-            "hint: write the number itself, as in hold 1 of tape: what a process may claim is read off its text",
-        );
-    }
-    Some(wording)
-}
-
-/// Returns the number of the amount that follows a resource of a hold with something other than a comma
-/// between them, at this token.
-fn next_amount(tokens: &[Token], number: usize) -> Option<usize> {
-    if !is_at(tokens, number.checked_sub(2)?, Mark::Of) || is_at(tokens, number, Mark::Comma) {
-        return None;
-    }
-    let next = if is_number(tokens, number) {
-        number
-    } else {
-        number.saturating_add(1)
-    };
-    if is_number(tokens, next) && is_at(tokens, next.saturating_add(1), Mark::Of) {
-        Some(next)
-    } else {
-        None
-    }
-}
-
-/// Returns the wording of a hold with no comma between a resource, at this token, and the next amount.
-fn missing_comma(alloc: Global, tokens: &[Token], resource: usize, next: usize) -> Wording {
-    let mut wording = Wording::of(alloc, "a comma separates the parts of a hold");
-    wording.note(format!(in alloc;
-        "hint: write hold {} of {}, {} of {} do .. od",
-        Shown(text_at(tokens, resource.saturating_sub(2))),
-        Shown(text_at(tokens, resource)),
-        Shown(text_at(tokens, next)),
-        Shown(text_at(tokens, next.saturating_add(2)))
-    ));
-    wording
 }

@@ -1,15 +1,16 @@
 //! The wording of a fault of names.
 
 use crate::foreign::input_hint;
+use crate::misspelt::meant_name;
 use crate::tokens::{
     closes, is_at, is_name, opens, process_before, process_name, text_at, token_at,
 };
-use crate::wording::{Shown, Wording};
+use crate::wording::{Told, Wording, told};
 use pb_base::NoMemory;
 use pb_base::limits::{MAX_FORK, MAX_INTEGERS, MAX_PROCESSES, MAX_RESOURCES};
 use pb_lexer::{Mark, Token};
 use pb_names::{Kind as Limited, NameFault};
-use std::alloc::{AllocError, Global};
+use std::alloc::Global;
 
 /// Returns the wording of a fault of names of a text with these tokens.
 pub fn names_wording(
@@ -19,10 +20,10 @@ pub fn names_wording(
 ) -> Result<Wording, NoMemory> {
     match fault {
         NameFault::TooMany(kind) => too_many(alloc, tokens, kind),
-        NameFault::Twice(at) => Ok(twice(alloc, tokens, at_or_first(tokens, at))),
-        NameFault::Unknown(at) => unknown(alloc, tokens, at_or_first(tokens, at)),
-        NameFault::Amount(at) => Ok(amount(alloc, tokens, at_or_first(tokens, at))),
-        NameFault::Repeated(at) => Ok(repeated(alloc, tokens, at_or_first(tokens, at))),
+        NameFault::Twice(at) => Ok(twice(tokens, at_or_first(tokens, at)).wording(alloc)),
+        NameFault::Unknown(at) => Ok(unknown(alloc, tokens, at_or_first(tokens, at))?.wording(alloc)),
+        NameFault::Amount(at) => Ok(amount(tokens, at_or_first(tokens, at)).wording(alloc)),
+        NameFault::Repeated(at) => Ok(repeated(tokens, at_or_first(tokens, at)).wording(alloc)),
         NameFault::NoMemory => Err(NoMemory),
     }
 }
@@ -49,14 +50,6 @@ fn declared_kind(tokens: &[Token], number: usize) -> Named {
         Named::Process
     } else {
         Named::Integer
-    }
-}
-
-fn kind_name(named: Named) -> &'static str {
-    match named {
-        Named::Resource => "resource",
-        Named::Process => "process",
-        Named::Integer => "integer",
     }
 }
 
@@ -192,39 +185,22 @@ fn next_arm(open: &mut Vec<Option<usize>>) -> usize {
     }
 }
 
-fn twice(alloc: Global, tokens: &[Token], number: usize) -> Wording {
+fn twice<'t>(tokens: &[Token<'t>], number: usize) -> Told<'t> {
     let named = declared_kind(tokens, number);
-    let mut wording = Wording::new(alloc, twice_in_words(alloc, tokens, number, named));
-    if let Some(first) = first_declaration(tokens, number, named) {
-        wording.spot_token(alloc, "first declared at ", tokens.get(first));
+    let summary = match named {
+        Named::Resource => "resource @1 is declared twice",
+        Named::Process => "process @1 is declared twice",
+        Named::Integer => "integer @1 is declared twice in process @2",
+    };
+    let told = told(
+        summary,
+        "choose another name; a resource, a process and an integer may share a name",
+    )
+    .with_words(text_at(tokens, number), process_name(tokens, number), b"");
+    match first_declaration(tokens, number, named) {
+        Some(first) => told.placed("first declared at ", tokens.get(first)),
+        None => told,
     }
-    wording.note_text(
-        alloc,
-        "hint: choose another name; a resource, a process and an integer may share a name",
-    );
-    wording
-}
-
-/// Returns in words that a name is declared twice.
-fn twice_in_words(
-    alloc: Global,
-    tokens: &[Token],
-    number: usize,
-    named: Named,
-) -> Result<String, AllocError> {
-    let name = Shown(text_at(tokens, number));
-    match named {
-        Named::Integer => twice_in_process(alloc, name, Shown(process_name(tokens, number))),
-        _ => format!(in alloc; "{} {name} is declared twice", kind_name(named)),
-    }
-}
-
-fn twice_in_process(
-    alloc: Global,
-    name: Shown<'_>,
-    process: Shown<'_>,
-) -> Result<String, AllocError> {
-    format!(in alloc; "integer {name} is declared twice in process {process}")
 }
 
 /// Returns the number of the token at which a name is declared that is declared again at this one.
@@ -242,26 +218,90 @@ fn first_declaration(tokens: &[Token], number: usize, named: Named) -> Option<us
     None
 }
 
-fn unknown(alloc: Global, tokens: &[Token], number: usize) -> Result<Wording, NoMemory> {
-    if is_at(tokens, number.saturating_sub(1), Mark::Of) {
-        Ok(unknown_resource(alloc, tokens, text_at(tokens, number)))
-    } else {
-        unknown_integer(alloc, tokens, number)
+fn unknown<'t>(
+    alloc: Global,
+    tokens: &[Token<'t>],
+    number: usize,
+) -> Result<Told<'t>, NoMemory> {
+    let meant = meant_name(alloc, tokens, number)?;
+    let is_resource = is_at(tokens, number.saturating_sub(1), Mark::Of);
+    if let Some(told) = known_word(tokens, number, is_resource) {
+        return Ok(told);
     }
+    Ok(match meant {
+        Some(meant) => undeclared(tokens, number, is_resource, "did you mean `@3`?")
+            .with_words(
+                text_at(tokens, number),
+                process_name(tokens, number),
+                text_at(tokens, meant),
+            )
+            .placed("`@3` is declared at ", tokens.get(meant)),
+        None if is_resource => undeclared(
+            tokens,
+            number,
+            is_resource,
+            "declare it before the first process, with the amount of it: resource @1 = 1;",
+        ),
+        None => unknown_integer(tokens, number),
+    })
 }
 
-fn unknown_resource(alloc: Global, tokens: &[Token], name: &[u8]) -> Wording {
-    let resource = Shown(name);
-    let summary = format!(in alloc; "resource {resource} is not declared");
-    let mut wording = Wording::new(alloc, summary);
-    if let Some(other) = resource_in_other_letters(tokens, name) {
-        wording.note(letters_hint(alloc, "resource", Shown(other)));
+/// Returns that a name is not declared, with a hint.
+fn undeclared<'t>(
+    tokens: &[Token<'t>],
+    number: usize,
+    is_resource: bool,
+    hint: &'static str,
+) -> Told<'t> {
+    let summary = if is_resource {
+        "resource @1 is not declared"
     } else {
-        wording.note(format!(in alloc;
-            "hint: declare it before the first process, with the amount of it: resource {resource} = 1;"
+        "integer @1 is not declared in process @2"
+    };
+    told(summary, hint).with_words(text_at(tokens, number), process_name(tokens, number), b"")
+}
+
+/// Returns what is told of a name that is known otherwise: in other letters, as a resource, or in other languages.
+fn known_word<'t>(tokens: &[Token<'t>], number: usize, is_resource: bool) -> Option<Told<'t>> {
+    let name = text_at(tokens, number);
+    let resource = resource_in_other_letters(tokens, name);
+    if is_resource {
+        return Some(in_other_letters(tokens, number, is_resource, resource?));
+    }
+    if let Some(hint) = value_hint(tokens, number) {
+        return Some(undeclared(tokens, number, is_resource, hint));
+    }
+    if let Some(other) = integer_in_other_letters(tokens, number) {
+        return Some(in_other_letters(tokens, number, is_resource, other));
+    }
+    if resource? == name {
+        return Some(undeclared(
+            tokens,
+            number,
+            is_resource,
+            "@1 is a resource, and only integers have values; a process gets it by hold 1 of @1 do .. od",
         ));
     }
-    wording
+    None
+}
+
+/// Returns that a name is declared in other letters.
+fn in_other_letters<'t>(
+    tokens: &[Token<'t>],
+    number: usize,
+    is_resource: bool,
+    other: &'t [u8],
+) -> Told<'t> {
+    let hint = if is_resource {
+        "the resource @3 is declared, and capital and small letters are different"
+    } else {
+        "the integer @3 is declared, and capital and small letters are different"
+    };
+    undeclared(tokens, number, is_resource, hint).with_words(
+        text_at(tokens, number),
+        process_name(tokens, number),
+        other,
+    )
 }
 
 /// Returns the name of a resource that differs from this one only in capital and small letters.
@@ -275,51 +315,35 @@ fn resource_in_other_letters<'t>(tokens: &[Token<'t>], name: &[u8]) -> Option<&'
     None
 }
 
-fn letters_hint(alloc: Global, kind: &str, name: Shown<'_>) -> Result<String, AllocError> {
-    format!(in alloc;
-        "hint: the {kind} {name} is declared, and capital and small letters are different"
-    )
-}
-
-fn unknown_integer(alloc: Global, tokens: &[Token], number: usize) -> Result<Wording, NoMemory> {
-    let name = text_at(tokens, number);
-    let process = process_name(tokens, number);
-    let mut wording = Wording::new(
-        alloc,
-        undeclared_in_words(alloc, Shown(name), Shown(process)),
-    );
-    if let Some(hint) = value_hint(alloc, tokens, number)? {
-        wording.hint(alloc, hint);
-        return Ok(wording);
+/// Returns what is told of an integer that is not declared and that no other name is near.
+fn unknown_integer<'t>(tokens: &[Token<'t>], number: usize) -> Told<'t> {
+    let hint = if declares_integers(tokens, number) {
+        "add it to the integers that the process declares"
+    } else {
+        "declare it after the first begin of the process: integer @1;"
+    };
+    let told = undeclared(tokens, number, false, hint);
+    match other_owner(tokens, text_at(tokens, number)) {
+        Some(owner) => told
+            .with_words(
+                text_at(tokens, number),
+                process_name(tokens, number),
+                owner,
+            )
+            .with_second("the integer @1 of process @3 cannot be used in another process"),
+        None => told,
     }
-    if let Some(other) = integer_in_other_letters(tokens, number) {
-        wording.note(letters_hint(alloc, "integer", Shown(other)));
-        return Ok(wording);
-    }
-    if resource_in_other_letters(tokens, name) == Some(name) {
-        wording.note(resource_hint(alloc, Shown(name)));
-        return Ok(wording);
-    }
-    wording.note(integer_hint(alloc, tokens, number));
-    if let Some(other) = other_owner(tokens, name) {
-        wording.note(owner_hint(alloc, Shown(name), Shown(other)));
-    }
-    Ok(wording)
 }
 
 /// Returns what is written in the place of a value of other languages: a truth value, or one that is read.
-fn value_hint(
-    alloc: Global,
-    tokens: &[Token],
-    number: usize,
-) -> Result<Option<&'static str>, NoMemory> {
+fn value_hint(tokens: &[Token], number: usize) -> Option<&'static str> {
     let name = text_at(tokens, number);
     let truth = truth_hint(name);
     let assigned = is_at(tokens, number.saturating_add(1), Mark::Assign);
     if truth.is_some() || assigned || other_owner(tokens, name).is_some() {
-        return Ok(truth);
+        return truth;
     }
-    input_hint(alloc, name)
+    input_hint(name)
 }
 
 /// Returns the name of an integer of the same process that differs from this one only in capital letters.
@@ -336,12 +360,6 @@ fn integer_in_other_letters<'t>(tokens: &[Token<'t>], number: usize) -> Option<&
     None
 }
 
-fn resource_hint(alloc: Global, name: Shown<'_>) -> Result<String, AllocError> {
-    format!(in alloc;
-        "hint: {name} is a resource, and only integers have values; a process gets it by hold 1 of {name} do .. od"
-    )
-}
-
 /// Returns what is written in the place of a truth value of other languages.
 fn truth_hint(name: &[u8]) -> Option<&'static str> {
     if name.eq_ignore_ascii_case(b"true") {
@@ -351,32 +369,6 @@ fn truth_hint(name: &[u8]) -> Option<&'static str> {
     } else {
         None
     }
-}
-
-fn undeclared_in_words(
-    alloc: Global,
-    name: Shown<'_>,
-    process: Shown<'_>,
-) -> Result<String, AllocError> {
-    format!(in alloc; "integer {name} is not declared in process {process}")
-}
-
-/// Returns how an integer is declared in the process in which a token is.
-fn integer_hint(alloc: Global, tokens: &[Token], number: usize) -> Result<String, AllocError> {
-    if declares_integers(tokens, number) {
-        return String::from_str(
-            alloc,
-            "hint: add it to the integers that the process declares",
-        );
-    }
-    let name = Shown(text_at(tokens, number));
-    format!(in alloc; "hint: declare it after the first begin of the process: integer {name};")
-}
-
-fn owner_hint(alloc: Global, name: Shown<'_>, owner: Shown<'_>) -> Result<String, AllocError> {
-    format!(in alloc;
-        "hint: the integer {name} of process {owner} cannot be used in another process"
-    )
 }
 
 /// Returns whether the process in which a token is declares any integer.
@@ -399,47 +391,34 @@ fn other_owner<'t>(tokens: &[Token<'t>], name: &[u8]) -> Option<&'t [u8]> {
     None
 }
 
-fn amount(alloc: Global, tokens: &[Token], number: usize) -> Wording {
-    let value = Shown(text_at(tokens, number));
-    let summary = if is_at(tokens, number.saturating_sub(1), Mark::Equal) {
-        capital_in_words(
-            alloc,
-            value,
-            Shown(text_at(tokens, number.saturating_sub(2))),
-        )
+fn amount<'t>(tokens: &[Token<'t>], number: usize) -> Told<'t> {
+    let value = text_at(tokens, number);
+    let hint = if value.iter().all(|byte| *byte == b'0') {
+        "leave the hold out, or hold at least 1"
     } else {
-        hold_in_words(
-            alloc,
-            value,
-            Shown(text_at(tokens, number.saturating_add(2))),
-        )
+        ""
     };
-    let mut wording = Wording::new(alloc, summary);
-    if text_at(tokens, number).iter().all(|byte| *byte == b'0') {
-        wording.hint(alloc, "leave the hold out, or hold at least 1");
+    if is_at(tokens, number.saturating_sub(1), Mark::Equal) {
+        let name = text_at(tokens, number.saturating_sub(2));
+        told(
+            "resource @2 cannot have the capital @1: at most 1000000 is allowed",
+            hint,
+        )
+        .with_words(value, name, b"")
+    } else {
+        let name = text_at(tokens, number.saturating_add(2));
+        told(
+            "a hold cannot be @1 of @2: an amount is 1 to 1000000",
+            hint,
+        )
+        .with_words(value, name, b"")
     }
-    wording
 }
 
-fn capital_in_words(
-    alloc: Global,
-    value: Shown<'_>,
-    name: Shown<'_>,
-) -> Result<String, AllocError> {
-    format!(in alloc; "resource {name} cannot have the capital {value}: at most 1000000 is allowed")
-}
-
-fn hold_in_words(alloc: Global, value: Shown<'_>, name: Shown<'_>) -> Result<String, AllocError> {
-    format!(in alloc; "a hold cannot be {value} of {name}: an amount is 1 to 1000000")
-}
-
-fn repeated(alloc: Global, tokens: &[Token], number: usize) -> Wording {
-    let name = Shown(text_at(tokens, number));
-    let summary = format!(in alloc; "the hold names resource {name} twice");
-    let mut wording = Wording::new(alloc, summary);
-    wording.note_text(
-        alloc,
-        "hint: a hold has one amount of each resource: add the two amounts, or put one hold inside the other",
-    );
-    wording
+fn repeated<'t>(tokens: &[Token<'t>], number: usize) -> Told<'t> {
+    told(
+        "the hold names resource @1 twice",
+        "a hold has one amount of each resource: add the two amounts, or put one hold inside the other",
+    )
+    .naming(text_at(tokens, number))
 }

@@ -2,27 +2,27 @@
 
 use crate::open::{Open, spelled};
 use crate::tokens::{begins_statement, ends_expression, ends_list, is_at, line_at, mark_at};
-use crate::wording::Wording;
+use crate::wording::{Told, told};
 use pb_lexer::{Mark, Token};
-use std::alloc::Global;
 
-/// Returns the wording of a `then` or a `do` that is missing before the token with a number, if one is.
-pub fn part_mistake(
-    alloc: Global,
-    tokens: &[Token],
+/// Returns the `then` or the `do` that is missing before the token with a number, if one is.
+pub fn part_mistake<'t>(
+    tokens: &[Token<'t>],
     number: usize,
     open: Option<&Open>,
-) -> Option<Wording> {
+) -> Option<Told<'t>> {
     let open = open?;
     let before = number.checked_sub(1)?;
     if open.part.is_some() || !ends_expression(tokens, before) || !ends_test(tokens, number) {
         return None;
     }
     match open.word {
-        Mark::If => Some(missing(alloc, tokens, open, "then", "if x = 1 then print 1 fi")),
-        Mark::While => Some(missing(alloc, tokens, open, "do", "while x < 9 do x := x + 1 od")),
+        Mark::If => Some(missing(tokens, open, b"then", "write if x = 1 then print 1 fi")),
+        Mark::While => {
+            Some(missing(tokens, open, b"do", "write while x < 9 do x := x + 1 od"))
+        }
         Mark::Hold if is_pair(tokens, before) => {
-            Some(missing(alloc, tokens, open, "do", "hold 1 of tape do print 1 od"))
+            Some(missing(tokens, open, b"do", "write hold 1 of tape do print 1 od"))
         }
         _ => None,
     }
@@ -47,13 +47,13 @@ fn is_pair(tokens: &[Token], number: usize) -> bool {
     }
 }
 
-fn missing(alloc: Global, tokens: &[Token], open: &Open, word: &str, example: &str) -> Wording {
-    let summary = format!(in alloc;
-        "`{word}` is missing: the `{}` of line {} has none",
-        spelled(open.word),
-        line_at(tokens, open.number)
-    );
-    let mut wording = Wording::new(alloc, summary);
-    wording.note(format!(in alloc; "hint: write {example}"));
-    wording
+fn missing<'t>(
+    tokens: &[Token<'t>],
+    open: &Open,
+    word: &'static [u8],
+    hint: &'static str,
+) -> Told<'t> {
+    told("`@1` is missing: the `@2` of line @n has none", hint)
+        .with_words(word, spelled(open.word).as_bytes(), b"")
+        .on_line(line_at(tokens, open.number))
 }

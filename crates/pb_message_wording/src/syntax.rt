@@ -169,11 +169,22 @@ fn syntax_wording(alloc: Global, text: &[u8], at: usize) -> Result<Wording, NoMe
         return Err(NoMemory);
     };
     let number = token_at(&tokens, at).unwrap_or(tokens.len());
-    if let Some(wording) = likely_mistake(alloc, &tokens, number)? {
-        return Ok(wording);
+    match likely_mistake(alloc, text, &tokens, number)? {
+        Some(told) => Ok(told.wording(alloc)),
+        None => unexpected(alloc, &text[..at.min(text.len())], &tokens, number),
     }
-    let mut wording = Wording::new(alloc, unexpected_in_words(alloc, &tokens, number));
-    if let Some(expected) = expected(alloc, &text[..at.min(text.len())])? {
+}
+
+/// Returns the wording that says what may come behind the first part of a text, in the place of the token with a number.
+fn unexpected(
+    alloc: Global,
+    text: &[u8],
+    tokens: &[Token],
+    number: usize,
+) -> Result<Wording, NoMemory> {
+    let expected = expected(alloc, text)?;
+    let mut wording = Wording::new(alloc, unexpected_in_words(alloc, tokens, number));
+    if let Some(expected) = expected {
         wording.note(Ok(expected));
     }
     Ok(wording)

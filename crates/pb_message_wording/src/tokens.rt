@@ -2,6 +2,12 @@
 
 use pb_lexer::{Kind, Mark, Token};
 
+/// The reserved words.
+pub const RESERVED: [&str; 23] = [
+    "and", "begin", "div", "do", "else", "end", "fi", "hold", "if", "integer", "mod", "not", "od",
+    "of", "or", "parbegin", "parend", "print", "process", "resource", "skip", "then", "while",
+];
+
 /// Returns whether a token is this symbol or reserved word.
 pub fn is(token: &Token, mark: Mark) -> bool {
     token.kind() == Kind::Mark(mark)
@@ -138,12 +144,63 @@ pub fn ends_statement(tokens: &[Token], number: usize) -> bool {
     ends_expression(tokens, number) || is_at(tokens, number, Mark::Skip) || closes(tokens, number)
 }
 
+/// Returns whether a statement may end just before a token.
+pub fn ends_before(tokens: &[Token], number: usize) -> bool {
+    match number.checked_sub(1) {
+        Some(before) => ends_statement(tokens, before),
+        None => false,
+    }
+}
+
 /// Returns whether a statement, or a part of a program, begins at this token if any does.
 pub fn is_statement_start(tokens: &[Token], number: usize) -> bool {
     match number.checked_sub(1) {
         Some(before) => { begins_list(tokens, before) || is_at(tokens, before, Mark::Semicolon) }
         None => true,
     }
+}
+
+/// Returns the number of the token with which the statement before a token begins.
+pub fn statement_before(tokens: &[Token], number: usize) -> Option<usize> {
+    let mut found = None;
+    for i in 0..number.min(tokens.len()) {
+        if is_statement_start(tokens, i) {
+            found = Some(i);
+        }
+    }
+    found
+}
+
+/// Returns whether no byte is between a token and the one before it.
+pub fn is_joined(tokens: &[Token], number: usize) -> bool {
+    match (number.checked_sub(1), tokens.get(number)) {
+        (Some(before), Some(token)) => match tokens.get(before) {
+            Some(before) => before.end() == token.start(),
+            None => false,
+        },
+        _ => false,
+    }
+}
+
+/// Returns whether the name that the token with this number is stands somewhere in a declaration of an integer, a
+/// resource or a process.
+pub fn is_declared(tokens: &[Token], number: usize) -> bool {
+    let name = text_at(tokens, number);
+    let mut is_in = false;
+    for i in 0..tokens.len() {
+        let before = i.saturating_sub(1);
+        if is_at(tokens, i, Mark::Integer) {
+            is_in = true;
+        } else if !is_name(tokens, i) && !is_at(tokens, i, Mark::Comma) {
+            is_in = false;
+        }
+        let is_declaration =
+            is_in || is_at(tokens, before, Mark::Process) || is_at(tokens, before, Mark::Resource);
+        if is_declaration && i != number && text_at(tokens, i) == name {
+            return true;
+        }
+    }
+    false
 }
 
 /// Returns whether this token is behind the word `integer` of a declaration that has not ended.

@@ -3,7 +3,7 @@
 use pb_lexer::Token;
 use pb_message_excerpts::printable_byte;
 use std::alloc::{AllocError, Global};
-use std::fmt;
+use std::fmt::{self, Write};
 
 /// Bytes of an input, as a message shows them: a carriage return as a space, and a question mark for each
 /// other byte that is neither printable nor a tab.
@@ -98,4 +98,172 @@ impl Wording {
             self.spot(String::from_str(alloc, label), token.start());
         }
     }
+}
+
+/// A mistake in words. In its texts `@1` to `@4` stand for words of the input, and `@n` for the number of a
+/// line. Nothing is allocated before it becomes a wording.
+#[derive(Clone, Copy)]
+pub struct Told<'t> {
+    /// What is wrong.
+    pub summary: &'static str,
+    /// What is usually meant; nothing if it is empty.
+    pub hint: &'static str,
+    /// A second hint; none if it is empty.
+    pub second: &'static str,
+    /// The words of the input.
+    pub words: [&'t [u8]; 4],
+    /// The number of the line.
+    pub line: u32,
+    /// What is before the number of the line of another place.
+    pub label: &'static str,
+    /// The offset of that place, if there is one.
+    pub place: Option<usize>,
+}
+
+/// Returns a mistake in these words.
+pub fn told<'t>(summary: &'static str, hint: &'static str) -> Told<'t> {
+    Told {
+        summary,
+        hint,
+        second: "",
+        words: [b"", b"", b"", b""],
+        line: 0,
+        label: "",
+        place: None,
+    }
+}
+
+/// Returns a mistake in these words, which is there.
+pub fn usual<'t>(summary: &'static str, hint: &'static str) -> Option<Told<'t>> {
+    Some(told(summary, hint))
+}
+
+impl<'t> Told<'t> {
+    /// Returns the same with a word of the input.
+    pub fn naming(self, first: &'t [u8]) -> Told<'t> {
+        self.with_words(first, b"", b"")
+    }
+
+    /// Returns the same with three words of the input.
+    pub fn with_words(self, first: &'t [u8], second: &'t [u8], third: &'t [u8]) -> Told<'t> {
+        Told {
+            words: [first, second, third, b""],
+            ..self
+        }
+    }
+
+    /// Returns the same with a fourth word of the input.
+    pub fn with_fourth(self, fourth: &'t [u8]) -> Told<'t> {
+        let [first, second, third, _] = self.words;
+        Told {
+            words: [first, second, third, fourth],
+            ..self
+        }
+    }
+
+    /// Returns the same with a second hint.
+    pub fn with_second(self, second: &'static str) -> Told<'t> {
+        Told { second, ..self }
+    }
+
+    /// Returns the same with the number of a line.
+    pub fn on_line(self, line: u32) -> Told<'t> {
+        Told { line, ..self }
+    }
+
+    /// Returns the same with the place of a token, if there is one.
+    pub fn placed(self, label: &'static str, token: Option<&Token<'_>>) -> Told<'t> {
+        let place = match token {
+            Some(token) => Some(token.start()),
+            None => None,
+        };
+        Told {
+            label,
+            place,
+            ..self
+        }
+    }
+
+    /// Returns the wording of the mistake.
+    pub fn wording(&self, alloc: Global) -> Wording {
+        let mut wording = Wording::new(alloc, self.filled(alloc, "", self.summary));
+        self.put_place(alloc, &mut wording);
+        self.put_hint(alloc, &mut wording, self.hint);
+        self.put_hint(alloc, &mut wording, self.second);
+        wording
+    }
+
+    /// Adds the mistake to the wording of another one that it may have caused.
+    pub fn put_cause(&self, alloc: Global, wording: &mut Wording) {
+        self.put_place(alloc, wording);
+        match self.filled(alloc, "hint: ", self.summary) {
+            Ok(summary) => {
+                let hint = self.filled(alloc, "", self.hint);
+                wording.note(joined(summary, hint));
+            }
+            Err(_) => wording.is_whole = false,
+        }
+    }
+
+    /// Adds the other place, if there is one.
+    fn put_place(&self, alloc: Global, wording: &mut Wording) {
+        if let Some(at) = self.place {
+            wording.spot(self.filled(alloc, "", self.label), at);
+        }
+    }
+
+    /// Adds a hint, if it is not empty.
+    fn put_hint(&self, alloc: Global, wording: &mut Wording, hint: &'static str) {
+        if !hint.is_empty() {
+            wording.note(self.filled(alloc, "hint: ", hint));
+        }
+    }
+
+    /// Returns a text with the words of the input in it, behind a beginning.
+    fn filled(&self, alloc: Global, begin: &str, text: &str) -> Result<String, AllocError> {
+        let mut out = String::from_str(alloc, begin)?;
+        let mut is_slot = false;
+        for letter in text.chars() {
+            if is_slot {
+                self.put_slot(&mut out, letter)?;
+                is_slot = false;
+            } else if letter == '@' {
+                is_slot = true;
+            } else {
+                out.push(letter)?;
+            }
+        }
+        Ok(out)
+    }
+
+    /// Appends to `out` what a letter behind `@` stands for.
+    fn put_slot(&self, out: &mut String, letter: char) -> Result<(), AllocError> {
+        match letter {
+            '1' => put_word(out, self.words[0]),
+            '2' => put_word(out, self.words[1]),
+            '3' => put_word(out, self.words[2]),
+            '4' => put_word(out, self.words[3]),
+            _ => write!(out, "{}", self.line).map_err(|_| AllocError),
+        }
+    }
+}
+
+/// Appends a word of the input to `out`.
+fn put_word(out: &mut String, word: &[u8]) -> Result<(), AllocError> {
+    for byte in word {
+        out.push(char::from(printable_byte(*byte)))?;
+    }
+    Ok(())
+}
+
+/// Returns two texts as one, with a colon between them.
+fn joined(
+    first: String,
+    second: Result<String, AllocError>,
+) -> Result<String, AllocError> {
+    let second = second?;
+    let mut text = first;
+    text.push_str(": ")?;
+    text.push_str(second.as_str())?;
+    Ok(text)
 }
