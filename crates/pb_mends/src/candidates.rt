@@ -49,14 +49,17 @@ pub fn add_missing(
     Ok(())
 }
 
-/// Appends to `out` the edit that writes what is meant in the place of a word that is probably misspelt, if one is.
+/// Appends to `out` the edit that writes what is meant in the place of a word that is probably misspelt, if one is, and
+/// returns whether one is.
 pub fn add_respelling(
     alloc: Global,
     out: &mut Vec<Mend>,
     text: &[u8],
     fault: &CompileFault,
-) -> Result<(), NoMemory> {
-    if let Some(meant) = respelling(alloc, text, fault)? {
+) -> Result<bool, NoMemory> {
+    let meant = respelling(alloc, text, fault)?;
+    let is_misspelt = meant.is_some();
+    if let Some(meant) = meant {
         let bytes = String::from_utf8_lossy(alloc, &meant.bytes)?;
         let title = format!(in alloc; "write `{}`", bytes)?;
         out.push(Mend {
@@ -66,7 +69,7 @@ pub fn add_respelling(
             bytes,
         })?;
     }
-    Ok(())
+    Ok(is_misspelt)
 }
 
 /// Returns whether a token is this symbol or reserved word.

@@ -62,9 +62,11 @@ fn candidates(
     fault: &CompileFault,
 ) -> Result<Vec<Mend>, NoMemory> {
     let mut out = Vec::new(alloc);
-    add_respelling(alloc, &mut out, text, fault)?;
+    let is_misspelt = add_respelling(alloc, &mut out, text, fault)?;
     match fault {
-        CompileFault::Parse(ParseFault::Syntax(at)) => add_missing(alloc, &mut out, tokens, *at)?,
+        CompileFault::Parse(ParseFault::Syntax(at)) if !is_misspelt => {
+            add_missing(alloc, &mut out, tokens, *at)?
+        }
         CompileFault::Names(NameFault::Unknown(at)) => {
             add_declaration(alloc, &mut out, tokens, *at)?
         }

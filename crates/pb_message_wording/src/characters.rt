@@ -54,7 +54,21 @@ fn word_before<'t>(
         return Ok(None);
     };
     let open = open_before(alloc, tokens, number)?;
-    word_mistake(alloc, text, tokens, number, open.as_slice())
+    let told = word_mistake(alloc, text, tokens, number, open.as_slice())?;
+    Ok(match told {
+        Some(told) => Some(told.placed("`@1`: ", tokens.get(named_token(tokens, number, &told)))),
+        None => None,
+    })
+}
+
+/// Returns the number of the token that a mistake names first: this one, or the one before it.
+fn named_token(tokens: &[Token], number: usize, told: &Told<'_>) -> usize {
+    let [name, _, _, _] = told.words;
+    if text_at(tokens, number) == name {
+        number
+    } else {
+        number.saturating_sub(1)
+    }
 }
 
 /// Returns the number of the token at an offset, if there is one; behind the last one, if that is a word with which no
@@ -194,7 +208,9 @@ fn meaning_of_line_end(tokens: &[Token], open: Option<&Open>) -> Option<&'static
         return Some("a process is written process p begin print 1 end, without a colon");
     }
     let open = open?;
-    if matches!(open.part, Some(Mark::Else)) || matches!(open.part, Some(Mark::Do)) && is_number(tokens, last) {
+    if matches!(open.part, Some(Mark::Else))
+        || matches!(open.part, Some(Mark::Do)) && is_number(tokens, last)
+    {
         return None;
     }
     match (open.word, open.part) {
@@ -202,7 +218,9 @@ fn meaning_of_line_end(tokens: &[Token], open: Option<&Open>) -> Option<&'static
         (Mark::While, None) => {
             Some("a while is written while x < 9 do x := x + 1 od, without a colon")
         }
-        (Mark::Hold, None) => Some("a hold is written hold 1 of tape do print 1 od, without a colon"),
+        (Mark::Hold, None) => Some(
+            "a hold is written hold 1 of tape do print 1 od, without a colon",
+        ),
         _ => None,
     }
 }

@@ -10,11 +10,7 @@ use pb_lexer::{Mark, Token};
 
 /// Returns the mistake of a statement that is not closed before the token with a number, or of that token, if it closes
 /// nothing.
-pub fn closing_mistake<'t>(
-    tokens: &[Token<'t>],
-    number: usize,
-    open: &[Open],
-) -> Option<Told<'t>> {
+pub fn closing_mistake<'t>(tokens: &[Token<'t>], number: usize, open: &[Open]) -> Option<Told<'t>> {
     let Some(last) = open.last() else {
         return outside_mistake(tokens, number);
     };
@@ -79,13 +75,11 @@ fn closed_behind<'t>(tokens: &[Token<'t>], number: usize, last: &Open) -> Told<'
 /// Returns the mistake of an `else` that cannot be here.
 fn else_mistake<'t>(tokens: &[Token<'t>], last: &Open, open: &[Open]) -> Option<Told<'t>> {
     if last.word == Mark::If && last.part == Some(Mark::Else) {
-        return Some(
-            told(
-                "the `if` of line @n has two `else`",
-                "an if has one else; another if behind it has a fi of its own",
-            )
-            .on_line(line_at(tokens, last.number)),
-        );
+        return Some(told(
+            "the `if` of line @n has two `else`",
+            "an if has one else; another if behind it has a fi of its own",
+        )
+        .on_line(line_at(tokens, last.number)));
     }
     if open.iter().any(|one| one.word == Mark::If) {
         return Some(not_closed(tokens, last));
@@ -164,13 +158,11 @@ fn outside_mistake<'t>(tokens: &[Token<'t>], number: usize) -> Option<Told<'t>> 
         return None;
     }
     if is_name(tokens, number) && !is_at(tokens, number.saturating_add(1), Mark::Assign) {
-        return Some(
-            told(
-                "neither a resource nor a process begins with `@1`",
-                "a program is made of these: resource r = 1; process p begin print 1 end",
-            )
-            .naming(text_at(tokens, number)),
-        );
+        return Some(told(
+            "neither a resource nor a process begins with `@1`",
+            "a program is made of these: resource r = 1; process p begin print 1 end",
+        )
+        .naming(text_at(tokens, number)));
     }
     if !begins_statement(tokens, number) {
         return None;
@@ -188,19 +180,15 @@ fn behind_mistake<'t>(tokens: &[Token<'t>], number: usize) -> Option<Told<'t>> {
     }
     let name = process_name(tokens, number);
     if closes(tokens, number) {
-        return Some(
-            told(
-                "this `@1` is one too many: process @2 has ended just before it",
-                "leave it out, or look for a begin that is missing above",
-            )
-            .with_words(spelled_at(tokens, number), name, b""),
-        );
-    }
-    Some(
-        told(
-            "process @1 has ended before this",
-            "behind the end of a process only another process follows: look for an end that is one too many above",
+        return Some(told(
+            "this `@1` is one too many: process @2 has ended just before it",
+            "leave it out, or look for a begin that is missing above",
         )
-        .naming(name),
+        .with_words(spelled_at(tokens, number), name, b""));
+    }
+    Some(told(
+        "process @1 has ended before this",
+        "behind the end of a process only another process follows: look for an end that is one too many above",
     )
+    .naming(name))
 }

@@ -154,8 +154,7 @@ pub fn foreign_word<'t>(
     }
     let before = number.checked_sub(1)?;
     if is_head(tokens, before) {
-        let found = word_at(tokens, before, None)?;
-        return Some(found.placed("`@1`: ", tokens.get(before)));
+        return word_at(tokens, before, None);
     }
     if is_at(tokens, number, Mark::Open) && is_name(tokens, before) {
         return Some(called(tokens, before));
@@ -168,9 +167,14 @@ fn called<'t>(tokens: &[Token<'t>], number: usize) -> Told<'t> {
     let word = text_at(tokens, number);
     match input_hint(word) {
         Some(hint) => told(NO_WORD, hint).naming(word),
+        None if is_declared(tokens, number) => told(
+            "an operator is missing behind @1",
+            "a product is written @1 * (2): there are no functions",
+        )
+        .naming(word),
         None => told(
             "`@1` is not a function",
-            "there are no functions: an expression has integers, numbers and operators; a product is written @1 * (2)",
+            "there are no functions: an expression has integers, numbers and operators",
         )
         .naming(word),
     }
@@ -180,7 +184,11 @@ const NO_WORD: &str = "`@1` is not a word of the language";
 
 /// Returns what is written in the place of a word, if other languages read their input with it.
 pub fn input_hint(text: &[u8]) -> Option<&'static str> {
-    if is_among(INPUT, text) { Some(INPUT_HINT) } else { None }
+    if is_among(INPUT, text) {
+        Some(INPUT_HINT)
+    } else {
+        None
+    }
 }
 
 /// Returns whether the token with a number is a name at which a statement begins, and behind which no operator is.

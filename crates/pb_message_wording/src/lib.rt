@@ -23,7 +23,7 @@ mod tokens;
 mod wording;
 
 pub use first_format::unsaid_wording;
-pub use respelling::{Respelling, respelling};
 pub use objects::{unread_wording, unsafe_wording};
+pub use respelling::{Respelling, respelling};
 pub use texts::text_wording;
 pub use wording::{Shown, Spot, Wording};

@@ -1,8 +1,6 @@
 //! Words that are probably misspelt: a reserved word, an integer or a resource is near, and fits there.
 
-use crate::tokens::{
-    RESERVED, is_at, is_declared, is_name, process_before, text_at,
-};
+use crate::tokens::{RESERVED, is_at, is_declared, is_name, process_before, text_at};
 use crate::wording::{Told, told};
 use pb_base::NoMemory;
 use pb_lexer::{LexFault, Mark, Token, lex};
@@ -31,7 +29,11 @@ impl<'t> Misspelt<'t> {
         } else {
             "did you mean `@2 @3`, with a blank between them?"
         };
-        let told = told(summary, hint).with_words(text_at(tokens, self.number), self.word, self.rest);
+        let told = told(summary, hint).with_words(
+            text_at(tokens, self.number),
+            self.word,
+            self.rest,
+        );
         if self.number == number {
             told
         } else {
@@ -209,7 +211,12 @@ fn fitting_words(
 }
 
 /// Returns whether a reserved word is near a name and fits.
-fn is_fitting(alloc: Global, trial: Trial<'_>, name: &String, word: &str) -> Result<bool, NoMemory> {
+fn is_fitting(
+    alloc: Global,
+    trial: Trial<'_>,
+    name: &String,
+    word: &str,
+) -> Result<bool, NoMemory> {
     if is_near(alloc, name.as_str(), word)? {
         fits(alloc, trial, word.as_bytes(), b"")
     } else {

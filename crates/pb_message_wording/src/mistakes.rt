@@ -80,11 +80,7 @@ fn other_mistake<'t>(tokens: &[Token<'t>], number: usize, open: &[Open]) -> Opti
 }
 
 /// Returns a mistake that is told in the same words wherever it is made.
-fn plain_mistake<'t>(
-    tokens: &[Token<'t>],
-    number: usize,
-    open: Option<&Open>,
-) -> Option<Told<'t>> {
+fn plain_mistake<'t>(tokens: &[Token<'t>], number: usize, open: Option<&Open>) -> Option<Told<'t>> {
     if let Some(told) = sign_mistake(tokens, number) {
         return Some(told);
     }
@@ -183,7 +179,10 @@ fn program_mistake<'t>(
         );
     }
     let before = number.checked_sub(1)?;
-    if is_at(tokens, number, Mark::Process) && open.is_some() && is_statement_start(tokens, number) {
+    if is_at(tokens, number, Mark::Process)
+        && open.is_some()
+        && is_statement_start(tokens, number)
+    {
         return usual(
             "a process stands in no other one",
             "a process begins behind the end of the one before: process p begin print 1 end process q begin print 2 end",
@@ -199,7 +198,8 @@ fn program_mistake<'t>(
             "a process ends with end, and no semicolon is behind it",
         );
     }
-    if is_at(tokens, before.saturating_sub(1), Mark::Process) && is_at(tokens, number, Mark::Semicolon)
+    if is_at(tokens, before.saturating_sub(1), Mark::Process)
+        && is_at(tokens, number, Mark::Semicolon)
     {
         return usual(
             "there is a semicolon behind the name of a process",

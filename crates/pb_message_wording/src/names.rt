@@ -21,7 +21,9 @@ pub fn names_wording(
     match fault {
         NameFault::TooMany(kind) => too_many(alloc, tokens, kind),
         NameFault::Twice(at) => Ok(twice(tokens, at_or_first(tokens, at)).wording(alloc)),
-        NameFault::Unknown(at) => Ok(unknown(alloc, tokens, at_or_first(tokens, at))?.wording(alloc)),
+        NameFault::Unknown(at) => Ok(unknown(alloc, tokens, at_or_first(tokens, at))?.wording(
+            alloc,
+        )),
         NameFault::Amount(at) => Ok(amount(tokens, at_or_first(tokens, at)).wording(alloc)),
         NameFault::Repeated(at) => Ok(repeated(tokens, at_or_first(tokens, at)).wording(alloc)),
         NameFault::NoMemory => Err(NoMemory),
@@ -218,11 +220,7 @@ fn first_declaration(tokens: &[Token], number: usize, named: Named) -> Option<us
     None
 }
 
-fn unknown<'t>(
-    alloc: Global,
-    tokens: &[Token<'t>],
-    number: usize,
-) -> Result<Told<'t>, NoMemory> {
+fn unknown<'t>(alloc: Global, tokens: &[Token<'t>], number: usize) -> Result<Told<'t>, NoMemory> {
     let meant = meant_name(alloc, tokens, number)?;
     let is_resource = is_at(tokens, number.saturating_sub(1), Mark::Of);
     if let Some(told) = known_word(tokens, number, is_resource) {
@@ -325,11 +323,7 @@ fn unknown_integer<'t>(tokens: &[Token<'t>], number: usize) -> Told<'t> {
     let told = undeclared(tokens, number, false, hint);
     match other_owner(tokens, text_at(tokens, number)) {
         Some(owner) => told
-            .with_words(
-                text_at(tokens, number),
-                process_name(tokens, number),
-                owner,
-            )
+            .with_words(text_at(tokens, number), process_name(tokens, number), owner)
             .with_second("the integer @1 of process @3 cannot be used in another process"),
         None => told,
     }
@@ -407,11 +401,9 @@ fn amount<'t>(tokens: &[Token<'t>], number: usize) -> Told<'t> {
         .with_words(value, name, b"")
     } else {
         let name = text_at(tokens, number.saturating_add(2));
-        told(
-            "a hold cannot be @1 of @2: an amount is 1 to 1000000",
-            hint,
+        told("a hold cannot be @1 of @2: an amount is 1 to 1000000", hint).with_words(
+            value, name, b"",
         )
-        .with_words(value, name, b"")
     }
 }
 

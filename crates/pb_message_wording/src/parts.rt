@@ -18,9 +18,7 @@ pub fn part_mistake<'t>(
     }
     match open.word {
         Mark::If => Some(missing(tokens, open, b"then", "write if x = 1 then print 1 fi")),
-        Mark::While => {
-            Some(missing(tokens, open, b"do", "write while x < 9 do x := x + 1 od"))
-        }
+        Mark::While => { Some(missing(tokens, open, b"do", "write while x < 9 do x := x + 1 od")) }
         Mark::Hold if is_pair(tokens, before) => {
             Some(missing(tokens, open, b"do", "write hold 1 of tape do print 1 od"))
         }

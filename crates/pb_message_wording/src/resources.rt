@@ -54,7 +54,9 @@ fn shared_integer<'t>() -> Told<'t> {
         "integers are not declared here",
         "each process declares its own integers, after its first begin: integer x, y;",
     )
-    .with_second("processes share no integers: only resources are declared before the first process")
+    .with_second(
+        "processes share no integers: only resources are declared before the first process",
+    )
 }
 
 /// Returns the mistake of a declaration that ends at a token, behind the name of its resource.
@@ -71,11 +73,7 @@ fn missing_capital<'t>(tokens: &[Token<'t>], number: usize) -> Told<'t> {
         "`=` is missing behind resource @1",
         "a resource is declared with its capital, how much there is of it: resource @1 = @2;",
     )
-    .with_words(
-        text_at(tokens, number.saturating_sub(1)),
-        capital,
-        b"",
-    )
+    .with_words(text_at(tokens, number.saturating_sub(1)), capital, b"")
 }
 
 fn two_resources<'t>() -> Told<'t> {

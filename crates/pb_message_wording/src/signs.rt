@@ -1,8 +1,8 @@
 //! What other languages write with signs: comments, numbers, assignments and comparisons.
 
 use crate::tokens::{
-    begins_list, closes, is_at, is_joined, is_name, is_number, is_statement_start, mark_at,
-    statement_before, text_at,
+    begins_list, closes, is_at, is_joined, is_name, is_number, is_reserved, is_statement_start,
+    mark_at, statement_before, text_at,
 };
 use crate::wording::{Told, told, usual};
 use pb_lexer::{Mark, Token};
@@ -75,7 +75,8 @@ fn number_mistake<'t>(tokens: &[Token<'t>], number: usize) -> Option<Told<'t>> {
     }
     let (digits, letters) = (text_at(tokens, before), text_at(tokens, number));
     let summary = "`@1@2` is not a number";
-    let is_base = digits == b"0".as_slice() && matches!(letters.first(), Some(b'x' | b'X' | b'b' | b'B' | b'o'));
+    let is_base = digits == b"0".as_slice()
+        && matches!(letters.first(), Some(b'x' | b'X' | b'b' | b'B' | b'o'));
     let hint = if is_base {
         "numbers have decimal digits alone: 255 is written 255, and not 0xFF"
     } else {
@@ -89,7 +90,10 @@ fn pair_mistake<'t>(tokens: &[Token<'t>], number: usize) -> Option<Told<'t>> {
     let before = number.checked_sub(1)?;
     let first = mark_at(tokens, before);
     match (first, mark_at(tokens, number)) {
-        (Some(Mark::Equal), Some(Mark::Less)) => usual("there is no `=<`", "at most is written a <= b"),
+        (Some(Mark::Equal), Some(Mark::Less)) => usual(
+            "there is no `=<`",
+            "at most is written a <= b",
+        ),
         (Some(Mark::Equal), Some(Mark::Greater)) => {
             usual("there is no `=>`", "at least is written a >= b")
         }
@@ -107,9 +111,15 @@ fn pair_mistake<'t>(tokens: &[Token<'t>], number: usize) -> Option<Told<'t>> {
         (_, Some(Mark::Less)) if is_arrow(tokens, number) => {
             usual("there is no `<-`", "an assignment is written x := 1")
         }
-        (Some(Mark::Less), Some(Mark::Equal)) => usual("there is no `< =`", "at most is written a <= b, with no blank"),
+        (Some(Mark::Less), Some(Mark::Equal)) => usual(
+            "there is no `< =`",
+            "at most is written a <= b, with no blank",
+        ),
         (Some(Mark::Greater), Some(Mark::Equal)) => {
-            usual("there is no `> =`", "at least is written a >= b, with no blank")
+            usual(
+                "there is no `> =`",
+                "at least is written a >= b, with no blank",
+            )
         }
         _ => None,
     }
@@ -135,13 +145,11 @@ fn targets_mistake<'t>(tokens: &[Token<'t>], number: usize) -> Option<Told<'t>> 
     }
     let (first, second) = (text_at(tokens, before), number.saturating_add(1));
     if is_at(tokens, number, Mark::Comma) && is_name(tokens, second) {
-        return Some(
-            told(
-                "one integer is assigned at a time",
-                "write an assignment for each: @1 := 1; @2 := 2",
-            )
-            .with_words(first, text_at(tokens, second), b""),
-        );
+        return Some(told(
+            "one integer is assigned at a time",
+            "write an assignment for each: @1 := 1; @2 := 2",
+        )
+        .with_words(first, text_at(tokens, second), b""));
     }
     None
 }
@@ -155,26 +163,24 @@ fn name_mistake<'t>(tokens: &[Token<'t>], number: usize) -> Option<Told<'t>> {
             Some(Mark::Process | Mark::Resource | Mark::Integer | Mark::Comma | Mark::Of)
         )
     {
-        return Some(
-            told(
-                "a name has no `-`",
-                "a name is made of letters, digits and _: @1_@2",
-            )
-            .with_words(
-                text_at(tokens, before),
-                text_at(tokens, number.saturating_add(1)),
-                b"",
-            ),
-        );
+        return Some(told(
+            "a name has no `-`",
+            "a name is made of letters, digits and _: @1_@2",
+        )
+        .with_words(
+            text_at(tokens, before),
+            text_at(tokens, number.saturating_add(1)),
+            b"",
+        ));
     }
     None
 }
 
-/// Returns whether a token is a `-` between two names, with no blank.
+/// Returns whether a token is a `-` between two words, with no blank.
 fn is_dashed(tokens: &[Token], number: usize) -> bool {
     let next = number.saturating_add(1);
     is_at(tokens, number, Mark::Minus)
         && is_joined(tokens, number)
-        && is_name(tokens, next)
+        && (is_name(tokens, next) || is_reserved(tokens, next))
         && is_joined(tokens, next)
 }

@@ -16,30 +16,24 @@ pub fn head_mistake<'t>(tokens: &[Token<'t>], number: usize) -> Option<Told<'t>>
     }
     let name = text_at(tokens, before);
     if is_process(tokens, name) {
-        return Some(
-            told(
-                "process @1 is not started by a statement",
-                "all processes run from the beginning, side by side",
-            )
-            .naming(name),
-        );
+        return Some(told(
+            "process @1 is not started by a statement",
+            "all processes run from the beginning, side by side",
+        )
+        .naming(name));
     }
     if is_at(tokens, number, Mark::Open) {
-        return Some(
-            told(
-                "`@1` is not a statement",
-                "there are no procedures: write the statements where they are to run",
-            )
-            .naming(name),
-        );
-    }
-    Some(
-        told(
-            "no statement begins with `@1`",
-            "a statement begins with if, while, hold, parbegin, begin, print or skip, or it assigns: @1 := 1",
+        return Some(told(
+            "`@1` is not a statement",
+            "there are no procedures: write the statements where they are to run",
         )
-        .naming(name),
+        .naming(name));
+    }
+    Some(told(
+        "no statement begins with `@1`",
+        "a statement begins with if, while, hold, parbegin, begin, print or skip, or it assigns: @1 := 1",
     )
+    .naming(name))
 }
 
 /// Returns whether the word `begin` is before a token.
@@ -124,7 +118,10 @@ fn is_change(tokens: &[Token], number: usize) -> bool {
 fn changed_in_place<'t>(tokens: &[Token<'t>], name: usize) -> Told<'t> {
     let operator = name.saturating_add(1);
     let value = operator.saturating_add(2);
-    let summary = match (mark_at(tokens, operator), mark_at(tokens, operator.saturating_add(1))) {
+    let summary = match (
+        mark_at(tokens, operator),
+        mark_at(tokens, operator.saturating_add(1)),
+    ) {
         (Some(Mark::Plus), Some(Mark::Plus)) => "there is no `++`",
         (Some(Mark::Minus), Some(Mark::Minus)) => "there is no `--`",
         _ => "there is no `@2=`",
@@ -148,15 +145,16 @@ fn hold_mistake<'t>(tokens: &[Token<'t>], number: usize) -> Option<Told<'t>> {
         return Some(missing_comma(tokens, before, next));
     }
     if is_number(tokens, before) && is_name(tokens, number) {
-        return Some(
-            told("`of` is missing", "write hold @1 of @2 do .. od").with_words(
-                text_at(tokens, before),
-                text_at(tokens, number),
-                b"",
-            ),
-        );
+        return Some(told("`of` is missing", "write hold @1 of @2 do .. od").with_words(
+            text_at(tokens, before),
+            text_at(tokens, number),
+            b"",
+        ));
     }
-    if is_number(tokens, before) && !is_at(tokens, number, Mark::Of) && !is_reserved(tokens, number) {
+    if is_number(tokens, before)
+        && !is_at(tokens, number, Mark::Of)
+        && !is_reserved(tokens, number)
+    {
         return Some(told("an amount is a number, and not computed", AMOUNT_HINT));
     }
     if !is_at(tokens, before, Mark::Hold) && !is_at(tokens, before, Mark::Comma) {

@@ -194,8 +194,9 @@ pub fn is_declared(tokens: &[Token], number: usize) -> bool {
         } else if !is_name(tokens, i) && !is_at(tokens, i, Mark::Comma) {
             is_in = false;
         }
-        let is_declaration =
-            is_in || is_at(tokens, before, Mark::Process) || is_at(tokens, before, Mark::Resource);
+        let is_declaration = is_in
+            || is_at(tokens, before, Mark::Process)
+            || is_at(tokens, before, Mark::Resource);
         if is_declaration && i != number && text_at(tokens, i) == name {
             return true;
         }

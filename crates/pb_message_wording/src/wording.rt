@@ -257,10 +257,7 @@ fn put_word(out: &mut String, word: &[u8]) -> Result<(), AllocError> {
 }
 
 /// Returns two texts as one, with a colon between them.
-fn joined(
-    first: String,
-    second: Result<String, AllocError>,
-) -> Result<String, AllocError> {
+fn joined(first: String, second: Result<String, AllocError>) -> Result<String, AllocError> {
     let second = second?;
     let mut text = first;
     text.push_str(": ")?;
