@@ -1,0 +1,1 @@
+resource door = 1; process p begin door.acquire(); print 1 end

@@ -1,0 +1,1 @@
+process p begin integer i; for i in range(3): print i end

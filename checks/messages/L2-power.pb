@@ -1,0 +1,1 @@
+process p begin integer x; x := 2^3; print x end

@@ -1,0 +1,1 @@
+process p begin System.out.println(1) end

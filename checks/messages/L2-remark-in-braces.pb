@@ -1,0 +1,1 @@
+process p begin print 1; { a remark here } print 2 end

@@ -1,0 +1,1 @@
+process p begin synchronized (x) { print 1 } end

@@ -1,0 +1,1 @@
+process p begin x : integer; x := 1 end

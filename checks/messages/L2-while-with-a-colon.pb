@@ -1,0 +1,1 @@
+process p begin integer c; while c: print 1 end

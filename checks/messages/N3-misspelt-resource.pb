@@ -1,0 +1,1 @@
+resource printer = 1; process p begin hold 1 of pritner do print 1 od end

@@ -1,0 +1,1 @@
+process p begin integer x, y; x := y := 1 end

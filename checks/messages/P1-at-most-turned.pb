@@ -1,0 +1,1 @@
+process p begin integer x; if x =< 1 then print 1 fi end

@@ -1,0 +1,1 @@
+(* it is *) process p begin print 1 end

@@ -1,0 +1,1 @@
+const n = 5; process p begin print n end

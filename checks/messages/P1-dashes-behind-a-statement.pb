@@ -1,0 +1,2 @@
+process p begin integer x; x := x + 1 -- add one
+end

@@ -1,0 +1,2 @@
+-- my program
+process p begin print 1 end

@@ -1,0 +1,1 @@
+process p begin integer x; x := max(1, 2); print x end

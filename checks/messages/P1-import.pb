@@ -1,0 +1,1 @@
+process p begin integer x; import foo; x := 1 end

@@ -1,0 +1,1 @@
+process p beign print 1 end

@@ -1,0 +1,1 @@
+process p begin skp end

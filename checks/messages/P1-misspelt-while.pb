@@ -1,0 +1,1 @@
+process p begin integer x; whlie x < 3 do x := x + 1 od end

@@ -1,0 +1,1 @@
+process my-process begin print 1 end

@@ -1,0 +1,1 @@
+process p begin integer x; x := 6 div2 end

@@ -1,0 +1,1 @@
+process p begin print1 end

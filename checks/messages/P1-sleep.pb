@@ -1,0 +1,1 @@
+process p begin sleep(1); print 1 end

@@ -1,0 +1,1 @@
+process p begin foo 1 end
