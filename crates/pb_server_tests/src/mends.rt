@@ -5,7 +5,11 @@ use pb_diagnostics::actions;
 use std::alloc::Global;
 
 /// Texts, and the actions that mend them.
-const CASES: [(&str, &str); 9] = [
+const CASES: [(&str, &str); 10] = [
+    (
+        "process a begin prnt 1 end\n",
+        "[{\"edit\":{\"changes\":{\"file:///a.pb\":[{\"newText\":\"print\",\"range\":{\"end\":{\"character\":20,\"line\":0},\"start\":{\"character\":16,\"line\":0}}}]}},\"kind\":\"quickfix\",\"title\":\"write `print`\"}]",
+    ),
     (
         "process a\nbegin\n  integer x;\n  x := y\nend\n",
         "[{\"edit\":{\"changes\":{\"file:///a.pb\":[{\"newText\":\", y\",\"range\":{\"end\":{\"character\":11,\"line\":2},\"start\":{\"character\":11,\"line\":2}}}]}},\"kind\":\"quickfix\",\"title\":\"declare integer y\"}]",
