@@ -4,7 +4,7 @@ use crate::mend::Mend;
 use pb_base::NoMemory;
 use pb_codegen::{ClaimsFault, CompileFault};
 use pb_lexer::{Kind, Mark, Token};
-use pb_message_wording::respelling;
+use pb_message_wording::respell;
 use std::alloc::Global;
 
 /// What may be missing behind a token.
@@ -57,7 +57,7 @@ pub fn add_respelling(
     text: &[u8],
     fault: &CompileFault,
 ) -> Result<bool, NoMemory> {
-    let meant = respelling(alloc, text, fault)?;
+    let meant = respell(alloc, text, fault)?;
     let is_misspelt = meant.is_some();
     if let Some(meant) = meant {
         let bytes = String::from_utf8_lossy(alloc, &meant.bytes)?;

@@ -5,7 +5,7 @@ use crate::tokens::{
     begins_statement, closes, ends_statement, is_at, is_name, line_at, mark_at, opens,
     process_before, process_name, text_at,
 };
-use crate::wording::{Told, told, usual};
+use crate::wording::{Told, telling, usual};
 use pb_lexer::{Mark, Token};
 
 /// Returns the mistake of a statement that is not closed before the token with a number, or of that token, if it closes
@@ -59,7 +59,7 @@ fn has_one_too_many(tokens: &[Token], number: usize) -> bool {
 
 /// Returns the mistake of a word that closes nothing, just before the one that closes what is open.
 fn closed_behind<'t>(tokens: &[Token<'t>], number: usize, last: &Open) -> Told<'t> {
-    told(
+    telling(
         "this `@1` is one too many: the `@2` behind it closes the `@3` of line @n",
         "leave it out, or look for a begin that is missing above",
     )
@@ -75,7 +75,7 @@ fn closed_behind<'t>(tokens: &[Token<'t>], number: usize, last: &Open) -> Told<'
 /// Returns the mistake of an `else` that cannot be here.
 fn else_mistake<'t>(tokens: &[Token<'t>], last: &Open, open: &[Open]) -> Option<Told<'t>> {
     if last.word == Mark::If && last.part == Some(Mark::Else) {
-        return Some(told(
+        return Some(telling(
             "the `if` of line @n has two `else`",
             "an if has one else; another if behind it has a fi of its own",
         )
@@ -97,7 +97,7 @@ fn not_closed<'t>(tokens: &[Token<'t>], open: &Open) -> Told<'t> {
     } else {
         "write @1 behind the last of its statements"
     };
-    told("`@1` is missing: the `@2` of line @n is not closed", hint)
+    telling("`@1` is missing: the `@2` of line @n is not closed", hint)
         .with_words(
             spelled(closer(open.word)).as_bytes(),
             spelled(open.word).as_bytes(),
@@ -122,7 +122,7 @@ fn is_else_if(tokens: &[Token], open: &Open) -> bool {
 
 /// Returns the mistake of a word that closes nothing, beside what is open.
 fn wrong_closer<'t>(tokens: &[Token<'t>], number: usize, last: &Open) -> Told<'t> {
-    told(
+    telling(
         "the `@1` of line @n is closed by `@2`",
         "write @2 in the place of @3, or leave @3 out if it is one too many",
     )
@@ -158,7 +158,7 @@ fn outside_mistake<'t>(tokens: &[Token<'t>], number: usize) -> Option<Told<'t>> 
         return None;
     }
     if is_name(tokens, number) && !is_at(tokens, number.saturating_add(1), Mark::Assign) {
-        return Some(told(
+        return Some(telling(
             "neither a resource nor a process begins with `@1`",
             "a program is made of these: resource r = 1; process p begin print 1 end",
         )
@@ -180,13 +180,13 @@ fn behind_mistake<'t>(tokens: &[Token<'t>], number: usize) -> Option<Told<'t>> {
     }
     let name = process_name(tokens, number);
     if closes(tokens, number) {
-        return Some(told(
+        return Some(telling(
             "this `@1` is one too many: process @2 has ended just before it",
             "leave it out, or look for a begin that is missing above",
         )
         .with_words(spelled_at(tokens, number), name, b""));
     }
-    Some(told(
+    Some(telling(
         "process @1 has ended before this",
         "behind the end of a process only another process follows: look for an end that is one too many above",
     )

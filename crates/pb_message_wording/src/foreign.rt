@@ -5,7 +5,7 @@ use crate::tokens::{
     RESERVED, is_at, is_declared, is_name, is_number, is_reserved, is_statement_start, mark_at,
     text_at,
 };
-use crate::wording::{Told, told};
+use crate::wording::{Told, telling};
 use pb_lexer::{Mark, Token};
 
 /// Words of other languages that mean one thing, and how that is written here.
@@ -166,13 +166,13 @@ pub fn foreign_word<'t>(
 fn called<'t>(tokens: &[Token<'t>], number: usize) -> Told<'t> {
     let word = text_at(tokens, number);
     match input_hint(word) {
-        Some(hint) => told(NO_WORD, hint).naming(word),
-        None if is_declared(tokens, number) => told(
+        Some(hint) => telling(NO_WORD, hint).naming(word),
+        None if is_declared(tokens, number) => telling(
             "an operator is missing behind @1",
             "a product is written @1 * (2): there are no functions",
         )
         .naming(word),
-        None => told(
+        None => telling(
             "`@1` is not a function",
             "there are no functions: an expression has integers, numbers and operators",
         )
@@ -223,9 +223,9 @@ fn word_at<'t>(tokens: &[Token<'t>], number: usize, open: Option<&Open>) -> Opti
         return None;
     }
     if text_at(tokens, behind) == b"main".as_slice() {
-        return Some(told(NO_WORD, hint_of(b"main")?).naming(text));
+        return Some(telling(NO_WORD, hint_of(b"main")?).naming(text));
     }
-    Some(told(NO_WORD, hint_of(text)?).naming(text))
+    Some(telling(NO_WORD, hint_of(text)?).naming(text))
 }
 
 /// Returns whether a hold is open whose `do` has not come.
@@ -254,7 +254,7 @@ pub fn hint_of(text: &[u8]) -> Option<&'static str> {
 }
 
 fn in_capitals<'t>(text: &'t [u8], word: &'t [u8]) -> Told<'t> {
-    told(
+    telling(
         "`@1` is not a reserved word",
         "reserved words are in small letters: @2",
     )

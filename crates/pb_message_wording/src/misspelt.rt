@@ -1,7 +1,7 @@
 //! Words that are probably misspelt: a reserved word, an integer or a resource is near, and fits there.
 
 use crate::tokens::{RESERVED, is_at, is_declared, is_name, process_before, text_at};
-use crate::wording::{Told, told};
+use crate::wording::{Told, telling};
 use pb_base::NoMemory;
 use pb_lexer::{LexFault, Mark, Token, lex};
 use pb_message_excerpts::{is_near, nearest};
@@ -29,7 +29,7 @@ impl<'t> Misspelt<'t> {
         } else {
             "did you mean `@2 @3`, with a blank between them?"
         };
-        let told = told(summary, hint).with_words(
+        let told = telling(summary, hint).with_words(
             text_at(tokens, self.number),
             self.word,
             self.rest,

@@ -5,7 +5,7 @@ use crate::misspelt::meant_name;
 use crate::tokens::{
     closes, is_at, is_name, opens, process_before, process_name, text_at, token_at,
 };
-use crate::wording::{Told, Wording, told};
+use crate::wording::{Told, Wording, telling};
 use pb_base::NoMemory;
 use pb_base::limits::{MAX_FORK, MAX_INTEGERS, MAX_PROCESSES, MAX_RESOURCES};
 use pb_lexer::{Mark, Token};
@@ -194,7 +194,7 @@ fn twice<'t>(tokens: &[Token<'t>], number: usize) -> Told<'t> {
         Named::Process => "process @1 is declared twice",
         Named::Integer => "integer @1 is declared twice in process @2",
     };
-    let told = told(
+    let told = telling(
         summary,
         "choose another name; a resource, a process and an integer may share a name",
     )
@@ -256,7 +256,7 @@ fn undeclared<'t>(
     } else {
         "integer @1 is not declared in process @2"
     };
-    told(summary, hint).with_words(text_at(tokens, number), process_name(tokens, number), b"")
+    telling(summary, hint).with_words(text_at(tokens, number), process_name(tokens, number), b"")
 }
 
 /// Returns what is told of a name that is known otherwise: in other letters, as a resource, or in other languages.
@@ -394,21 +394,21 @@ fn amount<'t>(tokens: &[Token<'t>], number: usize) -> Told<'t> {
     };
     if is_at(tokens, number.saturating_sub(1), Mark::Equal) {
         let name = text_at(tokens, number.saturating_sub(2));
-        told(
+        telling(
             "resource @2 cannot have the capital @1: at most 1000000 is allowed",
             hint,
         )
         .with_words(value, name, b"")
     } else {
         let name = text_at(tokens, number.saturating_add(2));
-        told("a hold cannot be @1 of @2: an amount is 1 to 1000000", hint).with_words(
+        telling("a hold cannot be @1 of @2: an amount is 1 to 1000000", hint).with_words(
             value, name, b"",
         )
     }
 }
 
 fn repeated<'t>(tokens: &[Token<'t>], number: usize) -> Told<'t> {
-    told(
+    telling(
         "the hold names resource @1 twice",
         "a hold has one amount of each resource: add the two amounts, or put one hold inside the other",
     )

@@ -2,7 +2,7 @@
 
 use crate::open::{Open, spelled};
 use crate::tokens::{begins_statement, ends_expression, ends_list, is_at, line_at, mark_at};
-use crate::wording::{Told, told};
+use crate::wording::{Told, telling};
 use pb_lexer::{Mark, Token};
 
 /// Returns the `then` or the `do` that is missing before the token with a number, if one is.
@@ -51,7 +51,7 @@ fn missing<'t>(
     word: &'static [u8],
     hint: &'static str,
 ) -> Told<'t> {
-    told("`@1` is missing: the `@2` of line @n has none", hint)
+    telling("`@1` is missing: the `@2` of line @n has none", hint)
         .with_words(word, spelled(open.word).as_bytes(), b"")
         .on_line(line_at(tokens, open.number))
 }

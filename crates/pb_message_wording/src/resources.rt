@@ -1,7 +1,7 @@
 //! Mistakes of the declarations before the first process.
 
 use crate::tokens::{is_at, is_name, is_number, mark_at, process_before, text_at};
-use crate::wording::{Told, told};
+use crate::wording::{Told, telling};
 use pb_lexer::{Mark, Token};
 
 /// Returns the mistake of the declarations before the first process, if the token with a number cannot come there.
@@ -50,7 +50,7 @@ fn is_operator(tokens: &[Token], number: usize) -> bool {
 }
 
 fn shared_integer<'t>() -> Told<'t> {
-    told(
+    telling(
         "integers are not declared here",
         "each process declares its own integers, after its first begin: integer x, y;",
     )
@@ -69,7 +69,7 @@ fn missing_capital<'t>(tokens: &[Token<'t>], number: usize) -> Told<'t> {
     } else {
         b"1"
     };
-    told(
+    telling(
         "`=` is missing behind resource @1",
         "a resource is declared with its capital, how much there is of it: resource @1 = @2;",
     )
@@ -77,7 +77,7 @@ fn missing_capital<'t>(tokens: &[Token<'t>], number: usize) -> Told<'t> {
 }
 
 fn two_resources<'t>() -> Told<'t> {
-    told(
+    telling(
         "a declaration is of one resource",
         "write a declaration for each: resource a = 1; resource b = 1;",
     )
@@ -85,7 +85,7 @@ fn two_resources<'t>() -> Told<'t> {
 
 /// Returns the mistake of a capital that is not a number; the word `resource` of its declaration is here.
 fn computed_capital<'t>(tokens: &[Token<'t>], resource: usize) -> Told<'t> {
-    told(
+    telling(
         "the capital of resource @1 is not a number",
         "write the number itself, 0 to 1000000, with no sign: resource @1 = 1;",
     )
@@ -97,7 +97,7 @@ fn missing_semicolon<'t>(tokens: &[Token<'t>], number: usize) -> Told<'t> {
     if is_at(tokens, number, Mark::Comma) && is_name(tokens, number.saturating_add(1)) {
         return two_resources();
     }
-    told(
+    telling(
         "a semicolon is missing",
         "a semicolon is behind the declaration before this: resource @1 = @2;",
     )

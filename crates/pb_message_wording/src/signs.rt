@@ -4,7 +4,7 @@ use crate::tokens::{
     begins_list, closes, is_at, is_joined, is_name, is_number, is_reserved, is_statement_start,
     mark_at, statement_before, text_at,
 };
-use crate::wording::{Told, told, usual};
+use crate::wording::{Told, telling, usual};
 use pb_lexer::{Mark, Token};
 
 const COMMENT_HINT: &str = "a comment begins with // and goes to the end of its line";
@@ -37,7 +37,7 @@ fn comment_mistake<'t>(tokens: &[Token<'t>], number: usize) -> Option<Told<'t>> 
         return usual("there is no `--`", COMMENT_HINT);
     }
     let dashes = dashes_before(tokens, number)?;
-    Some(told("there is no `--`", COMMENT_HINT).placed("a comment? ", tokens.get(dashes)))
+    Some(telling("there is no `--`", COMMENT_HINT).placed("a comment? ", tokens.get(dashes)))
 }
 
 /// Returns whether no expression goes on at a token.
@@ -82,7 +82,7 @@ fn number_mistake<'t>(tokens: &[Token<'t>], number: usize) -> Option<Told<'t>> {
     } else {
         "numbers have decimal digits alone; a name begins with a letter, and a product is written @1 * @2"
     };
-    Some(told(summary, hint).with_words(digits, letters, b""))
+    Some(telling(summary, hint).with_words(digits, letters, b""))
 }
 
 /// Returns the mistake of two signs that other languages write as one.
@@ -145,7 +145,7 @@ fn targets_mistake<'t>(tokens: &[Token<'t>], number: usize) -> Option<Told<'t>> 
     }
     let (first, second) = (text_at(tokens, before), number.saturating_add(1));
     if is_at(tokens, number, Mark::Comma) && is_name(tokens, second) {
-        return Some(told(
+        return Some(telling(
             "one integer is assigned at a time",
             "write an assignment for each: @1 := 1; @2 := 2",
         )
@@ -163,7 +163,7 @@ fn name_mistake<'t>(tokens: &[Token<'t>], number: usize) -> Option<Told<'t>> {
             Some(Mark::Process | Mark::Resource | Mark::Integer | Mark::Comma | Mark::Of)
         )
     {
-        return Some(told(
+        return Some(telling(
             "a name has no `-`",
             "a name is made of letters, digits and _: @1_@2",
         )

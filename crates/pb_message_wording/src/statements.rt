@@ -5,7 +5,7 @@ use crate::open::Open;
 use crate::tokens::{
     is_at, is_declaration, is_name, is_number, is_reserved, is_statement_start, mark_at, text_at,
 };
-use crate::wording::{Told, told};
+use crate::wording::{Told, telling};
 use pb_lexer::{Mark, Token};
 
 /// Returns the mistake of a name that begins a statement and does not assign.
@@ -16,20 +16,20 @@ pub fn head_mistake<'t>(tokens: &[Token<'t>], number: usize) -> Option<Told<'t>>
     }
     let name = text_at(tokens, before);
     if is_process(tokens, name) {
-        return Some(told(
+        return Some(telling(
             "process @1 is not started by a statement",
             "all processes run from the beginning, side by side",
         )
         .naming(name));
     }
     if is_at(tokens, number, Mark::Open) {
-        return Some(told(
+        return Some(telling(
             "`@1` is not a statement",
             "there are no procedures: write the statements where they are to run",
         )
         .naming(name));
     }
-    Some(told(
+    Some(telling(
         "no statement begins with `@1`",
         "a statement begins with if, while, hold, parbegin, begin, print or skip, or it assigns: @1 := 1",
     )
@@ -89,7 +89,7 @@ fn wants_name(tokens: &[Token], number: usize) -> bool {
 }
 
 fn reserved_name<'t>(tokens: &[Token<'t>], number: usize) -> Told<'t> {
-    told(
+    telling(
         "a name is missing before the reserved word `@1`",
         "write a name here; `@1` cannot be one, as it is a word of the language",
     )
@@ -97,7 +97,7 @@ fn reserved_name<'t>(tokens: &[Token<'t>], number: usize) -> Told<'t> {
 }
 
 fn missing_begin<'t>(tokens: &[Token<'t>], name: usize) -> Told<'t> {
-    told(
+    telling(
         "`begin` is missing behind process @1",
         "a process is written process @1 begin .. end",
     )
@@ -131,7 +131,7 @@ fn changed_in_place<'t>(tokens: &[Token<'t>], name: usize) -> Told<'t> {
     } else {
         b"1"
     };
-    told(summary, "write @1 := @1 @2 @3").with_words(
+    telling(summary, "write @1 := @1 @2 @3").with_words(
         text_at(tokens, name),
         text_at(tokens, operator),
         value,
@@ -145,7 +145,7 @@ fn hold_mistake<'t>(tokens: &[Token<'t>], number: usize) -> Option<Told<'t>> {
         return Some(missing_comma(tokens, before, next));
     }
     if is_number(tokens, before) && is_name(tokens, number) {
-        return Some(told("`of` is missing", "write hold @1 of @2 do .. od").with_words(
+        return Some(telling("`of` is missing", "write hold @1 of @2 do .. od").with_words(
             text_at(tokens, before),
             text_at(tokens, number),
             b"",
@@ -155,7 +155,7 @@ fn hold_mistake<'t>(tokens: &[Token<'t>], number: usize) -> Option<Told<'t>> {
         && !is_at(tokens, number, Mark::Of)
         && !is_reserved(tokens, number)
     {
-        return Some(told("an amount is a number, and not computed", AMOUNT_HINT));
+        return Some(telling("an amount is a number, and not computed", AMOUNT_HINT));
     }
     if !is_at(tokens, before, Mark::Hold) && !is_at(tokens, before, Mark::Comma) {
         return None;
@@ -167,7 +167,7 @@ fn hold_mistake<'t>(tokens: &[Token<'t>], number: usize) -> Option<Told<'t>> {
     } else {
         AMOUNT_HINT
     };
-    Some(told("a hold begins with an amount, a number", hint).naming(text_at(tokens, number)))
+    Some(telling("a hold begins with an amount, a number", hint).naming(text_at(tokens, number)))
 }
 
 const AMOUNT_HINT: &str =
@@ -193,7 +193,7 @@ fn next_amount(tokens: &[Token], number: usize) -> Option<usize> {
 
 /// Returns the mistake of a hold with no comma between a resource, at this token, and the next amount.
 fn missing_comma<'t>(tokens: &[Token<'t>], resource: usize, next: usize) -> Told<'t> {
-    told(
+    telling(
         "a comma separates the parts of a hold",
         "write hold @1 of @2, @3 of @4 do .. od",
     )

@@ -121,7 +121,7 @@ pub struct Told<'t> {
 }
 
 /// Returns a mistake in these words.
-pub fn told<'t>(summary: &'static str, hint: &'static str) -> Told<'t> {
+pub fn telling<'t>(summary: &'static str, hint: &'static str) -> Told<'t> {
     Told {
         summary,
         hint,
@@ -135,7 +135,7 @@ pub fn told<'t>(summary: &'static str, hint: &'static str) -> Told<'t> {
 
 /// Returns a mistake in these words, which is there.
 pub fn usual<'t>(summary: &'static str, hint: &'static str) -> Option<Told<'t>> {
-    Some(told(summary, hint))
+    Some(telling(summary, hint))
 }
 
 impl<'t> Told<'t> {

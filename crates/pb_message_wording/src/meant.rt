@@ -22,7 +22,7 @@ pub struct Respelling {
 
 /// Returns the word that is told to be misspelt in the message of a fault of a text, with the one that is meant; nothing if
 /// none is.
-pub fn respelling(
+pub fn respell(
     alloc: Global,
     text: &[u8],
     fault: &CompileFault,
@@ -32,14 +32,14 @@ pub fn respelling(
         Err(LexFault::NoMemory) => return Err(NoMemory),
         Err(_) => return Ok(None),
     };
-    match misspelt(alloc, text, &tokens, fault)? {
+    match misspelt_in(alloc, text, &tokens, fault)? {
         Some(misspelt) => written(alloc, &tokens, misspelt),
         None => Ok(None),
     }
 }
 
 /// Returns the word that is probably misspelt.
-fn misspelt<'t>(
+fn misspelt_in<'t>(
     alloc: Global,
     text: &'t [u8],
     tokens: &[Token<'t>],
