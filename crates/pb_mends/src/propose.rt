@@ -1,8 +1,11 @@
 //! The edits that mend a text.
 
 ghost use Rattle.std.specs.Prelude.{◌≡◌, All, IfOk, true};
+ghost use Rattle.std.specs.List.{list_any};
 ghost use Rattle.pb_codegen.specs.Compiled.{IsRefused};
-ghost use Rattle.pb_mends.specs.Mends.{HasCause, Mends, edit_of};
+ghost use Rattle.pb_lexer.specs.Cutting.{AreTokensOf};
+ghost use Rattle.pb_lexer.specs.Tokens.{tokens as tokens_view};
+ghost use Rattle.pb_mends.specs.Mends.{HasCause, Mends, edit_of, is_replaced};
 
 use crate::candidates::{add_capital, add_declaration, add_missing, add_respelling};
 use crate::further::gets_further;
@@ -11,13 +14,32 @@ use bumpalo::Bump;
 use pb_accept::text_cause;
 use pb_base::NoMemory;
 use pb_codegen::{CompileFault, compile};
-use pb_lexer::{LexFault, lex};
+use pb_lexer::{LexFault, Token, lex};
 use pb_names::NameFault;
 use pb_parser::ParseFault;
 use std::alloc::Global;
 
-/// Returns whether an edit is one of the text and the text gets further with it.
-fn mends_it(alloc: Global, text: &[u8], fault: &CompileFault, mend: &Mend) -> Result<bool, NoMemory>
+/// Returns whether one of some tokens is what an edit from one offset up to another replaces.
+fn is_token(tokens: &[Token<'_>], start: usize, end: usize) -> bool
+    ensures { result ≡ list_any (is_replaced start end) (tokens_view tokens.now) }
+{
+    for token in tokens {
+        if token.start() == start && token.end() == end {
+            return true;
+        }
+    }
+    false
+}
+
+/// Returns whether an edit is one of the text, whose other tokens it keeps, and the text gets further with it.
+fn mends_it(
+    alloc: Global,
+    text: &[u8],
+    tokens: &[Token<'_>],
+    fault: &CompileFault,
+    mend: &Mend,
+) -> Result<bool, NoMemory>
+    requires tokens { AreTokensOf text.now (tokens_view tokens.now) }
     requires refused { IsRefused text.now fault.now }
     requires told { HasCause fault.now }
     ensures { IfOk result (λ is. is ≡ true → Mends text.now (edit_of mend.now)) }
@@ -25,27 +47,30 @@ fn mends_it(alloc: Global, text: &[u8], fault: &CompileFault, mend: &Mend) -> Re
     if mend.end < mend.start || text.len() < mend.end {
         return Ok(false);
     }
+    if mend.start != mend.end && !is_token(tokens, mend.start, mend.end) {
+        return Ok(false);
+    }
     let after = edited(alloc, text, mend)?;
     gets_further(alloc, text, fault, &after)
 }
 
-/// Returns the edits that may mend a text with this fault.
-fn candidates(alloc: Global, text: &[u8], fault: &CompileFault) -> Result<Vec<Mend>, NoMemory> {
+/// Returns the edits that may mend a text with this fault and these tokens.
+fn candidates(
+    alloc: Global,
+    text: &[u8],
+    tokens: &[Token<'_>],
+    fault: &CompileFault,
+) -> Result<Vec<Mend>, NoMemory> {
     let mut out = Vec::new(alloc);
-    let tokens = match lex(alloc, text) {
-        Ok(tokens) => tokens,
-        Err(LexFault::NoMemory) => return Err(NoMemory),
-        Err(_) => return Ok(out),
-    };
     let is_misspelt = add_respelling(alloc, &mut out, text, fault)?;
     match fault {
         CompileFault::Parse(ParseFault::Syntax(at)) if !is_misspelt => {
-            add_missing(alloc, &mut out, &tokens, *at)?
+            add_missing(alloc, &mut out, tokens, *at)?
         }
         CompileFault::Names(NameFault::Unknown(at)) => {
-            add_declaration(alloc, &mut out, &tokens, *at)?
+            add_declaration(alloc, &mut out, tokens, *at)?
         }
-        CompileFault::Claims(over) => add_capital(alloc, &mut out, &tokens, over)?,
+        CompileFault::Claims(over) => add_capital(alloc, &mut out, tokens, over)?,
         _ => {}
     }
     Ok(out)
@@ -55,20 +80,38 @@ fn candidates(alloc: Global, text: &[u8], fault: &CompileFault) -> Result<Vec<Me
 fn tried(
     alloc: Global,
     text: &[u8],
+    tokens: &[Token<'_>],
     fault: &CompileFault,
     candidates: Vec<Mend>,
 ) -> Result<Vec<Mend>, NoMemory>
+    requires tokens { AreTokensOf text.now (tokens_view tokens.now) }
     requires refused { IsRefused text.now fault.now }
     requires told { HasCause fault.now }
     ensures { IfOk result (λ list. All (λ mend. Mends text.now (edit_of mend)) list.items) }
 {
     let mut out = Vec::new(alloc);
     for mend in candidates {
-        if mends_it(alloc, text, fault, &mend)? {
+        if mends_it(alloc, text, tokens, fault, &mend)? {
             out.push(mend)?;
         }
     }
     Ok(out)
+}
+
+/// Returns the edits with which a text with this fault gets further.
+fn mends_of(alloc: Global, text: &[u8], fault: &CompileFault) -> Result<Vec<Mend>, NoMemory>
+    requires refused { IsRefused text.now fault.now }
+    requires told { HasCause fault.now }
+    ensures { IfOk result (λ list. All (λ mend. Mends text.now (edit_of mend)) list.items) }
+{
+    match lex(alloc, text) {
+        Ok(tokens) => {
+            let candidates = candidates(alloc, text, &tokens, fault)?;
+            tried(alloc, text, &tokens, fault, candidates)
+        }
+        Err(LexFault::NoMemory) => Err(NoMemory),
+        Err(_) => Ok(Vec::new(alloc)),
+    }
 }
 
 /// Returns edits with which a text that is refused gets further; none if it is accepted, or if none is known. The error
@@ -80,10 +123,7 @@ pub fn propose_mends(alloc: Global, text: &[u8]) -> Result<Vec<Mend>, NoMemory>
     match compile(alloc, &arena, text) {
         Ok(_) => Ok(Vec::new(alloc)),
         Err(fault) => match text_cause(&fault) {
-            Some(_) => {
-                let candidates = candidates(alloc, text, &fault)?;
-                tried(alloc, text, &fault, candidates)
-            }
+            Some(_) => mends_of(alloc, text, &fault),
             None => Err(NoMemory),
         },
     }
