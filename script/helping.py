@@ -9,6 +9,7 @@ from contextlib import suppress
 from script.places import WORDS
 from script.program import is_built
 from script.standard import write
+from script.tools import tool_of
 
 FILES = """
 In place of standard input a FILE may be named: `parbegin run FILE`. So `parbegin COMMAND FILE` is
@@ -94,7 +95,7 @@ def show_help(start: list[str], words: list[str]) -> int:
 def more_help(start: list[str], command: str | None) -> str:
     """Returns what the script adds to the program's help."""
     if command == "debug":
-        told = ran_on(start, ["debug"], SESSION)[1].decode(errors="replace") if is_built("debug") else ""
+        told = ran_on(start, ["debug"], SESSION)[1].decode(errors="replace") if is_built(tool_of("debug")) else ""
         return DEBUG + told if told else ""
     return {"check": CHECK, "dap": EDITORS, "lsp": EDITORS, "run": RUN, None: FILES}.get(command, "")
 

@@ -85,7 +85,7 @@ def run_on_file(start: list[str], command: str, words: files.Words) -> int:
         return debug(start, words.others, name)
     if "--quiet" not in start:
         files.advise(command, words.others, name)
-    if name and command in ("run", "replay") and len(start) == 1 and os.isatty(2) and is_built("debug"):
+    if name and command in ("run", "replay") and len(start) == 1 and os.isatty(2) and is_built(tool_of("debug")):
         from script.afterwards import run_at_terminal
 
         return run_at_terminal(start, command, words.others, name)
