@@ -11,6 +11,7 @@ from script.helping import are_refused, ran_on
 from script.places import DEADLOCK, DEVICE, FAULT, LIMIT, WORDS, say, shown
 from script.program import is_built
 from script.standard import write
+from script.tools import tool_of
 
 # The options of `record` that `run` has by this, and the seed of a run by the cash alone, if none is given.
 OPTIONS, SEED = ("--seed", "--lend"), "1"
@@ -111,7 +112,7 @@ def tell(start: list[str], options: list[str], given: bytes, recorded: bytes, me
     if status == FAULT:
         words = " ".join(["record", *(word for word in options)])
         say(f"`parbegin {words} FILE > my.run` writes this run, and `parbegin debug my.run` goes along it")
-    if status in (FAULT, LIMIT) and os.isatty(2) and "--json" not in start and is_built("debug"):
+    if status in (FAULT, LIMIT) and os.isatty(2) and "--json" not in start and is_built(tool_of("debug")):
         from script.afterwards import say_of_picks
 
         say_of_picks(start, recorded, lending(options), status)
