@@ -50,11 +50,18 @@ def shell(line, folder, error=subprocess.PIPE):
     return ran.returncode, ran.stdout, (ran.stderr or b"").decode(errors="replace")
 
 
+def wanted(name):
+    """Returns what a call is to say on standard error: nothing of a command of the bank, whose session goes on."""
+    if re.fullmatch(r"B\d+", name):
+        return ""
+    file = FOLDER / f"{name}.txt"
+    return file.read_text() if file.is_file() else None
+
+
 def compare(tally, name, line, folder, full):
     """Compares what a call says with its file, and tries it without a standard error."""
     status, told, message = shell(line, folder)
-    file = FOLDER / f"{name}.txt"
-    tally.expect(file.is_file() and file.read_text() == message, name, "says", message)
+    tally.expect(message == wanted(name), name, "says", message)
     refused = status == REFUSED and told.decode().split()[:2] == ["refused", name.split("-")[0]]
     tally.expect(refused or "-" not in name, name, "is told as", told)
     quiet = re.sub(r"\bparbegin ", "parbegin --quiet ", line)
@@ -70,7 +77,7 @@ def main():
     with tempfile.TemporaryDirectory() as folder, open("/dev/full", "wb") as full:
         (pathlib.Path(folder) / "parbegin").symlink_to(program())
         for code, line in examples():
-            if writes:
+            if writes and wanted(code) != "":
                 (FOLDER / f"{code}.txt").write_text(shell(line, folder)[2])
             compare(tally, code, line, folder, full)
         for name, line in inputs():
