@@ -38,7 +38,6 @@ QUICK = (
     f"checks/server.py {PROGRAM}",
     "checks/rebuilds.py",
     "checks/library.py",
-    f"checks/python_bank.py {PROGRAM}",
     f"checks/pictures.py {PROGRAM}",
     "checks/example_tests.py",
     "checks/schedules.py",
@@ -58,6 +57,7 @@ SLOW = (
     f"checks/page.py {PROGRAM}",
     f"checks/clients.py {PROGRAM}",
     f"checks/adapter_sessions.py {PROGRAM}",
+    f"checks/python_bank.py {PROGRAM}",
     "checks/package.py",
 )
 SETS = {"quick": QUICK, "slow": SLOW}

@@ -244,7 +244,9 @@ class Interrupts(unittest.TestCase):
     def test_an_interrupted_call_was_made_or_was_not(self) -> None:
         bank, drawn, interrupts = self.bank, random.Random(7), 0
         self.assertEqual([bank.join([3, 3]), bank.join([3, 3]), bank.join([4, 4])], [0, 1, 2])
-        for _ in range(200):
+        for turn in range(5_000):
+            if turn >= 200 and interrupts > 20:
+                break
             bank.drop_all(0)
             bank.ask(0, [1, 2])
             calls = (lambda: bank.ask(0, [1, 1]), lambda: bank.give(0, [1, 0]), lambda: bank.drop_all(0), bank.order)
@@ -258,7 +260,9 @@ class Interrupts(unittest.TestCase):
 
     def test_an_interrupted_join_or_leave_has_its_slot(self) -> None:
         bank, drawn, interrupts = self.bank, random.Random(8), 0
-        for _ in range(100):
+        for turn in range(5_000):
+            if turn >= 100 and interrupts > 20:
+                break
             interrupts += self.interrupted(lambda: bank.join([1, 1]), drawn) is None
             for job in bank.order():
                 self.assertEqual(bank.claims(job), [1, 1])
@@ -271,7 +275,9 @@ class Interrupts(unittest.TestCase):
 
     def test_an_interrupted_queue_grants_each_wish_once(self) -> None:
         bank, drawn, interrupts = self.bank, random.Random(9), 0
-        for _ in range(100):
+        for turn in range(5_000):
+            if turn >= 100 and interrupts > 20:
+                break
             self.assertEqual([bank.join([4, 4]) for _ in range(4)], [0, 1, 2, 3])
             bank.ask(0, [4, 4])
             for job in (1, 2, 3):
