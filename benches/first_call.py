@@ -1,5 +1,5 @@
 #!/usr/bin/env python3
-"""Measures the first call of each tool from a fresh clone: the minutes by the clock, and those of processors.
+"""Measures the first call of a command from a fresh clone: the minutes by the clock, and those of processors.
 
     benches/first_call.py [bank|run|outcomes|all ..]     each by itself from nothing; `outcomes` behind `run`; all of
                                                          them if none is named

@@ -8,7 +8,7 @@ from typing import NoReturn
 
 from script.crates import Crates, chains
 from script.kit import kit, slots
-from script.places import TOP, say
+from script.places import TOP, say, stop
 from script.tools import COMMANDS_OF, crate_of
 
 # A crate with four jobs takes a third more minutes of processors than with one, so it gets only those that no other that
@@ -118,3 +118,14 @@ class Build:
         used = os.times()
         used_by_all = used.children_user + used.children_system
         say(f"built in {minutes(time.monotonic() - self.started)}, with {minutes(used_by_all)} of processors")
+
+
+def run_to_end(work: Build) -> None:
+    """Runs a build, and ends the script with the log of a crate that failed; an interrupt is told with how far it came."""
+    try:
+        work.run()
+    except Failed as failure:
+        stop(failure)
+    except KeyboardInterrupt:
+        say(f"interrupted after {len(work.done)} of {len(work.crates)} crates; the next call goes on from there")
+        raise

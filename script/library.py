@@ -8,7 +8,7 @@ import shutil
 import sys
 from types import ModuleType
 
-from script.building import Build, Failed
+from script.building import Build, run_to_end
 from script.crates import Crates, sources, with_those_below
 from script.helping import HELPFUL, write
 from script.kept import take_libraries
@@ -128,10 +128,4 @@ def prove(crates: Crates) -> None:
     take_libraries(TOP, ARCHIVES)
     work = Build(crates)
     say(f"building the library, which proves it first: up to {work.slots} jobs; an interrupt keeps what is built")
-    try:
-        work.run()
-    except Failed as failure:
-        stop(failure)
-    except KeyboardInterrupt:
-        say(f"interrupted after {len(work.done)} of {len(crates)} crates; the next call goes on from there")
-        raise
+    run_to_end(work)

@@ -5,7 +5,7 @@ import fcntl
 import os
 from typing import IO
 
-from script.building import Build, Failed
+from script.building import Build, run_to_end
 from script.crates import Crates, crates_below, sources
 from script.kept import is_taken, take_libraries
 from script.places import TOP, is_installed, say, stop
@@ -48,13 +48,7 @@ def prove(tools: list[str], commands: tuple[str, ...]) -> None:
     every = len(crates_below(COMMANDS_OF))
     say(f"building {named(tools, commands)}, which proves it first: {len(crates)} of {every} crates, up to {work.slots} jobs; an interrupt keeps what is built")
     say("(./parbegin --unproved COMMAND FILE needs no such build: it compiles the sources with no proof, and runs them once)")
-    try:
-        work.run()
-    except Failed as failure:
-        stop(failure)
-    except KeyboardInterrupt:
-        say(f"interrupted after {len(work.done)} of {len(crates)} crates; the next call goes on from there")
-        raise
+    run_to_end(work)
 
 
 def wait_for_others(lock: IO[bytes]) -> None:
