@@ -1,12 +1,12 @@
 #!/bin/sh
-# Puts the program and its script under a prefix, so that `parbegin` is on the path.
+# Puts the tools and their script under a prefix, so that `parbegin` is on the path.
 #
 #     ./install.sh [PREFIX]             PREFIX is /usr/local if none is given
 #     ./install.sh PREFIX library       the library for C too, built first: libparbegin.a and libparbegin.so, parbegin.h,
 #                                       parbegin.pc, and the Python package
 #
-# The program is built first if it has to be. PREFIX/bin/parbegin is the script, PREFIX/libexec/parbegin/pb_cli the
-# program, PREFIX/libexec/parbegin/script what the script does, PREFIX/share/parbegin/page the template of `page`; the
+# All tools are built first if they have to be. PREFIX/bin/parbegin is the script, PREFIX/libexec/parbegin/parbegin-TOOL
+# each tool, PREFIX/libexec/parbegin/script what the script does, PREFIX/share/parbegin/page the template of `page`; the
 # manual page and the completions for bash and fish go to PREFIX/share. The script needs python3.
 set -eu
 top=$(CDPATH= cd -- "$(dirname -- "$0")" && pwd)
@@ -25,11 +25,14 @@ put() {
     echo "$3/$4"
 }
 
-put 755 "$top/crates/pb_cli/out/pb_cli" "$prefix/libexec/parbegin" pb_cli
+for tool in bank run search debug edit; do
+    put 755 "$top/crates/parbegin_$tool/out/parbegin_$tool" "$prefix/libexec/parbegin" "parbegin-$tool"
+done
 put 755 "$top/parbegin" "$prefix/bin" parbegin
 for module in "$top"/script/*.py; do
     put 644 "$module" "$prefix/libexec/parbegin/script" "${module##*/}"
 done
+put 755 "$top/script/tools.sh" "$prefix/libexec/parbegin/script" tools.sh
 for file in "$top"/extras/page/*.js "$top"/extras/page/page.css "$top"/extras/page/page.html "$top"/extras/page/make_page.py; do
     put 644 "$file" "$prefix/share/parbegin/page" "${file##*/}"
 done

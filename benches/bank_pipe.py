@@ -85,7 +85,7 @@ def least(call: Callable[[], float]) -> float:
 
 
 def main() -> None:
-    program = sys.argv[1] if len(sys.argv) > 1 else str(TOP / "crates/pb_cli/out/pb_cli")
+    program = sys.argv[1] if len(sys.argv) > 1 else str(TOP / "script/tools.sh")
     empty = least(lambda: at_once(program, b""))
     print("| commands | how | a second |\n| --- | --- | --- |")
     for name, kind, count in KINDS:

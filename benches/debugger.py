@@ -15,7 +15,7 @@ import sys
 
 from scratch import TOP, print_table, scratch_folder
 
-PROGRAM = pathlib.Path(sys.argv[1]) if len(sys.argv) > 1 else TOP / "crates" / "pb_cli" / "out" / "pb_cli"
+PROGRAM = pathlib.Path(sys.argv[1]) if len(sys.argv) > 1 else TOP / "script" / "tools.sh"
 TURNS = int(sys.argv[2]) if len(sys.argv) > 2 else 9
 PICKS, MOVES = 10_000_000, 20
 

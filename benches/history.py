@@ -28,7 +28,7 @@ from scratch import MACHINE_NEEDS, TOP, build_proved, instructions, instructions
 
 COUNTS = sys.argv[1:2] == ["instructions"]
 WORDS = sys.argv[1 + COUNTS:]
-PROGRAM = pathlib.Path(WORDS[0]) if WORDS else TOP / "crates" / "pb_cli" / "out" / "pb_cli"
+PROGRAM = pathlib.Path(WORDS[0]) if WORDS else TOP / "script" / "tools.sh"
 TURNS = int(WORDS[1]) if len(WORDS) > 1 else 9
 STEPS = 10_000_000
 # The greatest, at which `run` takes hardly more than the machine alone.

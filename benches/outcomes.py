@@ -27,7 +27,7 @@ from scratch import print_table
 
 TURNS = int(sys.argv[1]) if len(sys.argv) > 1 else 5
 TOP = pathlib.Path(__file__).resolve().parent.parent
-PROGRAM = TOP / "crates/pb_cli/out/pb_cli"
+PROGRAM = TOP / "script/tools.sh"
 MODELS = TOP / "benches/outcomes"
 NAMES = ("counters", "adders", "peterson", "philosophers", "buffer", "readers", "updates", "ten")
 MOST_STATES = 4_000_000

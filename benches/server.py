@@ -18,7 +18,7 @@ from typing import Any
 
 from scratch import TOP, print_table
 
-PROGRAM = pathlib.Path(sys.argv[1]) if len(sys.argv) > 1 else TOP / "crates" / "pb_cli" / "out" / "pb_cli"
+PROGRAM = pathlib.Path(sys.argv[1]) if len(sys.argv) > 1 else TOP / "script" / "tools.sh"
 TURNS = int(sys.argv[2]) if len(sys.argv) > 2 else 20
 LENGTH = 65_536
 URI = "file:///text.pb"

@@ -493,7 +493,7 @@ def main():
         if kind == "machine":
             machine_tables(turns, folder)
         else:
-            program = words[1] if len(words) > 1 else TOP / "crates" / "pb_cli" / "out" / "pb_cli"
+            program = words[1] if len(words) > 1 else TOP / "script" / "tools.sh"
             whole_tables(turns, folder, pathlib.Path(program).resolve())
         print("load", os.getloadavg())
 

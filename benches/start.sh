@@ -2,7 +2,7 @@
 # Times a call of the program on a tiny text, from its start to its end, beside /bin/true, in microseconds a call.
 set -eu
 top=$(CDPATH= cd -- "$(dirname -- "$0")/.." && pwd)
-program=$top/crates/pb_cli/out/pb_cli
+program=$top/script/tools.sh
 text=$top/examples/hello.pb
 calls=500
 

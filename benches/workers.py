@@ -104,7 +104,7 @@ def middle(rows, of):
 
 def main():
     turns = int(sys.argv[1]) if len(sys.argv) > 1 else 15
-    program = sys.argv[2] if len(sys.argv) > 2 else str(TOP / "crates/pb_cli/out/pb_cli")
+    program = sys.argv[2] if len(sys.argv) > 2 else str(TOP / "script/tools.sh")
     print("| text | quantum | one worker, ms | two by one | three by one | four by one | processors, ms, one | four |")
     print("|---|---|---|---|---|---|---|---|")
     for name, text in PROGRAMS.items():

@@ -17,7 +17,7 @@ import time
 from pathlib import Path
 
 TOP = Path(__file__).resolve().parent.parent
-PROGRAM = "crates/pb_cli/out/pb_cli"
+PROGRAM = "script/tools.sh"
 # The first one builds the program.
 QUICK = (
     "./parbegin build",
@@ -36,6 +36,7 @@ QUICK = (
     f"checks/terminal.py {PROGRAM}",
     f"checks/adapter.py {PROGRAM}",
     f"checks/server.py {PROGRAM}",
+    "checks/tools.py",
     "checks/rebuilds.py",
     "checks/library.py",
     f"checks/pictures.py {PROGRAM}",

@@ -10,7 +10,7 @@ import tempfile
 TOP = pathlib.Path(__file__).resolve().parent.parent
 sys.path.insert(1, str(TOP))
 
-from script.tools import COMMANDS_OF, FRONT, command_of, crate_of, path_of, tool_of  # noqa: E402
+from script.tools import COMMANDS_OF, FRONT, command_of, path_of, tool_of  # noqa: E402
 
 EXAMPLES = sorted((TOP / "examples").glob("*.pb"))
 BANKS = sorted((TOP / "examples").rglob("*.bank"))
@@ -45,7 +45,7 @@ def installed(folder):
     shutil.copytree(TOP / "script", folder / "libexec/parbegin/script", ignore=ignored)
     shutil.copytree(TOP / "extras/page", folder / "share/parbegin/page", ignore=ignored)
     for tool in COMMANDS_OF:
-        shutil.copy(path_of(tool), folder / f"libexec/parbegin/{crate_of(tool)}")
+        shutil.copy(path_of(tool), folder / f"libexec/parbegin/parbegin-{tool}")
     (folder / "bin").mkdir(parents=True)
     return str(shutil.copy(TOP / "parbegin", folder / "bin/parbegin"))
 

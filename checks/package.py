@@ -22,7 +22,9 @@ from calls import DONE, REFUSED, TOP, Tally
 EMPTY = {"PATH": "/usr/bin:/bin", "HOME": "/", "LANG": "C.UTF-8"}
 # Where the parts are below /usr, or below the folder of the tar.gz.
 PARTS = (
-    "bin/parbegin", "libexec/parbegin/pb_cli", "libexec/parbegin/script/main.py", "share/man/man1/parbegin.1",
+    "bin/parbegin", "libexec/parbegin/parbegin-run", "libexec/parbegin/parbegin-bank", "libexec/parbegin/parbegin-search",
+    "libexec/parbegin/parbegin-debug", "libexec/parbegin/parbegin-edit", "libexec/parbegin/script/tools.sh",
+    "libexec/parbegin/script/main.py", "share/man/man1/parbegin.1",
     "share/bash-completion/completions/parbegin", "share/fish/vendor_completions.d/parbegin.fish",
     "share/vim/vimfiles/syntax/parbegin.vim", "share/parbegin/vscode/package.json", "share/doc/parbegin/README.md",
     "share/doc/parbegin/docs/LANGUAGE.md", "share/doc/parbegin/examples/devices.pb",

@@ -33,7 +33,7 @@ run)
 esac
 """
 CRATES = {"pb_base": "", **{crate_of(tool): "pb_base" for tool in COMMANDS_OF}}
-RUN = crate_of("cli")
+RUN = crate_of("run")
 # What `run` needs: its tool, and the crate below.
 OF_RUN = 2
 SOURCE = "crates/pb_base/src/lib.rt"
@@ -106,7 +106,7 @@ def try_changes(tally: Tally, it: Checkout) -> None:
     program.write_bytes(program.read_bytes() + b"# by hand\n")
     tally.expect(it.builds(), "a program that was changed is taken")
     built = it.run("build")[2]
-    tally.expect(built == 0, "what is built already is built once more")
+    tally.expect(built == len(CRATES) - OF_RUN + 1, "all tools are built of", built, "crates")
     tally.expect(it.run("build")[2] == 0, "all tools are built once more")
     tally.expect(not it.builds(), "the tool of `run` is built once more")
 
@@ -114,7 +114,7 @@ def try_changes(tally: Tally, it: Checkout) -> None:
 def try_copies(tally: Tally, it: Checkout, folder: pathlib.Path) -> None:
     """Tries a copy of what is built, and one by hard links."""
     shutil.copytree(it.top, folder / "copy", copy_function=shutil.copyfile)
-    for file in ("parbegin", *(f"crates/{crate_of(it)}/out/{crate_of(it)}" for it in COMMANDS_OF)):
+    for file in ("parbegin", "script/tools.sh", *(f"crates/{crate_of(it)}/out/{crate_of(it)}" for it in COMMANDS_OF)):
         (folder / "copy" / file).chmod(0o755)
     tally.expect(not Checkout(folder / "copy", folder).builds(), "a copy is built")
     shutil.copytree(it.top, folder / "links", copy_function=os.link)

@@ -12,7 +12,7 @@ import sys
 
 from calls import TOP, call, constant
 
-PROGRAM = TOP / "crates/pb_cli/out/pb_cli"
+PROGRAM = TOP / "script/tools.sh"
 FILE = TOP / "crates/pb_runtime_tests/src/recorded.rt"
 MOST = 400
 # The most parts of a table, of which each byte of a text is one. A constant may have 10,000.

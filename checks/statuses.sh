@@ -6,7 +6,7 @@
 # It is run by hand; its own status is 0 if all of them are as wanted, and 1 if not.
 set -u
 top=$(CDPATH= cd -- "$(dirname -- "$0")/.." && pwd) || exit 1
-program=${1:-$top/crates/pb_cli/out/pb_cli}
+program=${1:-$top/script/tools.sh}
 failed=0
 
 # expect WANTED OUTPUT WORD..: calls the program with the words and the standard input of this call

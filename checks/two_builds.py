@@ -1,21 +1,21 @@
 #!/usr/bin/env python3
-"""Compares two builds of the program, as the two compilers of the kit make them.
+"""Compares two builds of each tool, as the two compilers of the kit make them.
 
-    checks/two_builds.py PROGRAM OTHER
+    checks/two_builds.py
 
 Both are called by every command on every example, by each call of examples/expected/calls.txt, on each forged object of
 checks/forged_objects.py, on a text at each limit of the language and one beyond it, and on texts that are refused; each
-call must end with the same status and write the same bytes. `rt ci` leaves both builds in crates/pb_cli/out: pb_cli,
-which LLVM compiled, and pb_cli.by-rattle, which Rattle's own compiler did. `rt run --backend rattle` in crates/pb_cli
-makes the second alone, as out/pb_cli. It is run by hand; its status is 0 if all is as wanted, and 1 if not.
+call must end with the same status and write the same bytes. `rt ci` leaves both builds in the out/ of a tool's crate:
+parbegin_run, which LLVM compiled, and parbegin_run.by-rattle, which Rattle's own compiler did, and so of each. It is run
+by hand; its status is 0 if all is as wanted, and 1 if not.
 """
 import concurrent.futures
 import os
-import sys
 
 import texts
 from calls import EXAMPLES, TOP, Tally, call, inputs
 from forgeries import LIMITS, forgeries, objects
+from script.tools import any_tool, command_of, path_of, tool_of
 
 STEPS = ["--steps", "10000"]
 
@@ -52,11 +52,12 @@ def cases():
 
 
 def main():
-    tally, other = Tally(), os.path.realpath(sys.argv[2])
+    tally = Tally()
 
     def compare(case):
         _, words, given = case
-        return case, call(words, given) == call(words, given, of=other)
+        tool = path_of(tool_of(command_of(words)) or any_tool())
+        return case, call(words, given, of=tool) == call(words, given, of=f"{tool}.by-rattle")
 
     with concurrent.futures.ThreadPoolExecutor(os.cpu_count()) as pool:
         for (name, words, given), is_same in pool.map(compare, cases()):

@@ -95,5 +95,5 @@ def is_taken(tool: str) -> bool:
         os.replace(new, path)
     except OSError:
         return False
-    say(f"taking {crate_of(tool)} as the gate has proved and built it of these files on this machine")
+    say(f"taking parbegin-{tool} as the gate has proved and built it of these files on this machine")
     return True

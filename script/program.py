@@ -37,7 +37,7 @@ def is_built(tool: str) -> bool:
 
 def named(tools: list[str], commands: tuple[str, ...]) -> str:
     """Returns in words what is built: what `run` needs, or the tools by their names."""
-    return f"what `{commands[0]}` needs" if len(commands) == 1 else ", ".join(f"{crate_of(tool)}" for tool in tools)
+    return f"what `{commands[0]}` needs" if len(commands) == 1 else ", ".join(f"parbegin-{tool}" for tool in tools)
 
 
 def prove(tools: list[str], commands: tuple[str, ...]) -> None:
@@ -108,13 +108,13 @@ def record_of_gate(words: list[str]) -> int:
 def record_built(tool: str, began: float | None) -> None:
     """Records a tool that the gate has built, after this moment if one is given."""
     if not os.path.exists(path_of(tool)):
-        stop(f"there is no {crate_of(tool)} that the gate has built")
+        stop(f"there is no parbegin-{tool} that the gate has built")
     made = os.stat(path_of(tool)).st_mtime
     since = made if began is None else began
     if made < since:
-        stop(f"{crate_of(tool)} is older than the gate's run: it is built anew when it is needed")
+        stop(f"parbegin-{tool} is older than the gate's run: it is built anew when it is needed")
     files = sources(crates_below([tool]))
     newer = changed_since(files, since)
     if newer:
-        stop(f"{newer} is newer than what the gate has proved: {crate_of(tool)} is built anew when it is needed")
+        stop(f"{newer} is newer than what the gate has proved: parbegin-{tool} is built anew when it is needed")
     write_record(tool, marks_of(with_tool(tool, files)))

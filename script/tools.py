@@ -1,16 +1,17 @@
-"""The tools: the programs that together answer all commands, each built of what its own commands need. There is one."""
+"""The tools: the programs that together answer all commands, each built of what its own commands need."""
 from __future__ import annotations
 
 import os
 
 from script.places import TOP, is_installed
 
-# The commands of each tool.
+# The commands of each tool. tools.sh has the same table, and checks/tools.py compares both with what the tools answer.
 COMMANDS_OF = {
-    "cli": (
-        "bank", "check", "claims", "dap", "debug", "draw", "emit", "exec", "explain", "lsp", "migrate", "outcomes", "plan", "record",
-        "replay", "run", "states",
-    ),
+    "bank": ("bank",),
+    "run": ("check", "claims", "emit", "exec", "explain", "migrate", "record", "replay", "run"),
+    "search": ("outcomes", "plan", "states"),
+    "debug": ("dap", "debug", "draw"),
+    "edit": ("lsp",),
 }
 # All commands, as `--help` lists them by name.
 COMMANDS = tuple(sorted(command for commands in COMMANDS_OF.values() for command in commands))
@@ -19,20 +20,18 @@ CALLS = {
     "page": ("emit", "states"), "grade": ("outcomes", "states"), "sample": ("record", "replay"), "package": COMMANDS, "build": COMMANDS,
     "library": (),
 }
+# Becomes the tool that has the command of its words.
+FRONT = f"{TOP}/script/tools.sh"
 
 
 def crate_of(tool: str) -> str:
     """Returns the crate of a tool."""
-    return f"pb_{tool}"
+    return f"parbegin_{tool}"
 
 
 def path_of(tool: str) -> str:
     """Returns the path of a tool."""
-    return f"{TOP}/{crate_of(tool)}" if is_installed() else f"{TOP}/crates/{crate_of(tool)}/out/{crate_of(tool)}"
-
-
-# What is called with any words.
-FRONT = path_of("cli")
+    return f"{TOP}/parbegin-{tool}" if is_installed() else f"{TOP}/crates/{crate_of(tool)}/out/{crate_of(tool)}"
 
 
 def tool_of(command: str | None) -> str | None:
@@ -41,8 +40,8 @@ def tool_of(command: str | None) -> str | None:
 
 
 def any_tool() -> str:
-    """Returns a tool that is there, since each says the same of words without a command; or the first."""
-    return next((tool for tool in COMMANDS_OF if os.path.exists(path_of(tool))), "cli")
+    """Returns a tool that is there, since each says the same of words without a command; or the one that is built soonest."""
+    return next((tool for tool in COMMANDS_OF if os.path.exists(path_of(tool))), "bank")
 
 
 def tools_of(commands: tuple[str, ...]) -> list[str]:

@@ -51,7 +51,7 @@ def run_unproved(words: list[str]) -> int:
         stop("--unproved is for a checkout, with its sources")
     rt_path()
     tool = tool_of(command_of(words)) or any_tool()
-    say(UNPROVED.format(f"{crate_of(tool)}"))
+    say(UNPROVED.format(f"parbegin-{tool}"))
     told = tried(tool, words)
     ended = re.search(r"^run=ended status=(\d+) .*proved=no\n\Z", told, re.M)
     if not ended:
