@@ -1,5 +1,4 @@
-//! The whole program, over any words, input and output: it reads the words of a call, and calls the engine of
-//! their command.
+//! All tools as one: each call has one answer, by the tool that has its command.
 #![tactic(auto)]
 
 pub mod answer;

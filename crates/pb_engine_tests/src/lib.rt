@@ -34,4 +34,6 @@ mod places;
 #[cfg(test)]
 mod plan;
 #[cfg(test)]
+mod tools;
+#[cfg(test)]
 mod words;

@@ -1,7 +1,8 @@
 //! What is said of refused inputs, by how they are read.
 
 use pb_base::{FaultyInput, Input, Lending};
-use pb_messages::{KeptInput, Reading, live_message, message_of};
+use pb_call::KeptInput;
+use pb_messages::{Reading, live_message, message_of};
 use std::alloc::Global;
 
 /// Returns whether this is said of an input.

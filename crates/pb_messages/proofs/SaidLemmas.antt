@@ -7,27 +7,20 @@ use Rattle.pb_code.specs.Whole.{Code, ProcessLabels}
 use Rattle.pb_codegen.specs.Compiled.{IsCompiled}
 use Rattle.pb_accept.specs.Causes.{picks_cause}
 use Rattle.pb_accept.specs.Loading.{IsLoadFault, load_cause}
-use Rattle.pb_command_io.specs.Parts.{AreParts, AreTwoParts, IsCutAt, IsMark}
+use Rattle.pb_command_io.specs.Parts.{AreTwoParts, IsCutAt, IsMark}
 use Rattle.pb_accept.specs.declared.load.LoadFault.{LoadFault}
 use Rattle.pb_history.specs.Replays.{IsStoppedBy, spread}
 use Rattle.pb_history.specs.declared.counted.CountedPick.{CountedPick}
 use Rattle.pb_history.specs.declared.fault.ReplayFault.TheVariants.{NotEnabled}
-use Rattle.pb_joint.specs.Texts.{AreReadAs}
-use Rattle.pb_base.specs.Steppers.{Table}
-use Rattle.pb_names.specs.Program.{Program}
-use Rattle.pb_tree.specs.Syntax.{ProgramSyntax}
 use Rattle.pb_picks.specs.PickLines.{IsFaulty, SpellsPicks}
 use Rattle.pb_picks.specs.declared.fault.PickFault.{PickFault}
 use Rattle.pb_message_stops.specs.Stops.{HoldsPick}
 use Rattle.pb_messages.specs.Messages.{IsMessage, IsMessageAt}
 use Rattle.pb_messages.specs.Said.{AreSaid, HasNoMark, IsLastLabel, SaysMore, SaysByReading, SaysOfFirstFormat, SaysWhetherFirst}
 use Rattle.pb_messages.specs.Said.{SaysOfPickLines, SaysOfPickedObject, SaysOfPickedSource, SaysOfPickedText, SaysOfTexts, TellsObject}
-use Rattle.pb_messages.specs.Said.{SaysOfExpectedText, SaysOfPrintLines, SaysOfTogether, TellsFirstFault, all, stopped, unread, unsaid}
-use Rattle.pb_messages.specs.Said.SaysOfTogether.{refused, read}
-use Rattle.pb_search_engine.specs.PrintLines.{IsBadPrint}
-use Rattle.pb_search_engine.specs.declared.print_lines.PrintFault.TheVariants.{NotPrint}
+use Rattle.pb_messages.specs.Said.{all, stopped, unread}
 use Rattle.pb_accept.specs.declared.cause.Cause.{Cause}
-use Rattle.pb_messages.specs.declared.message.Reading.TheVariants.{Debugged, Expected, Replayed, Shown}
+use Rattle.pb_messages.specs.declared.message.Reading.TheVariants.{Debugged, Replayed, Shown}
 use Rattle.pb_sources.specs.Sources.{IsObjectPart}
 
 module _ {W E : Type 0} (seen : W → List ℕ) where
@@ -52,12 +45,6 @@ module _ {W E : Type 0} (seen : W → List ℕ) where
   stop_told lending code lines picks number at (Ok told) spelled is holds message = stopped picks number (seen told) spelled is at holds message
   stop_told lending code lines picks number at (Err e) spelled is holds message = message
 
-  -- the message of a line that says no print
-  pub print_told : (code : Code) (lines : List ℕ) (at : ℕ) (made : Result W E) → IsBadPrint code lines (NotPrint at)
-      → IfOk made (λ told. IsMessageAt (codes "print ") lines (codes "K1") (Some at) (seen told)) → IfOk made (λ told. SaysOfPrintLines code lines (seen told))
-  print_told code lines at (Ok told) bad message = unsaid at (seen told) bad message
-  print_told code lines at (Err e) bad message = message
-
   -- what is said of an accepted text, of which the first format can say the code or not
   pub format_told : (text : List ℕ) (code : Code) (labels : List ProcessLabels) (shown : Code) (made : Result W E)
       → IsCompiled text code labels → shown ≡ code → IfOk made (λ told. SaysWhetherFirst text shown (seen told))
@@ -72,25 +59,6 @@ module _ {W E : Type 0} (seen : W → List ℕ) where
       → IfOk made (λ told. SaysByReading (Replayed lending) bytes (seen told))
   text_replayed lending bytes text lines (Ok told) parts says = (text, lines, parts, says)
   text_replayed lending bytes text lines (Err e) parts says = says
-
-  -- what is said of a text and print lines
-  pub text_expected : (bytes text lines : List ℕ) (made : Result W E) → AreTwoParts bytes text lines
-      → IfOk made (λ told. SaysOfExpectedText text lines (seen told))
-      → IfOk made (λ told. SaysByReading Expected bytes (seen told))
-  text_expected bytes text lines (Ok told) parts says = (text, lines, parts, says)
-  text_expected bytes text lines (Err e) parts says = says
-
-  -- what is said of texts that are read as one program, and of the first of them that cannot be
-  pub texts_together : (bytes : List ℕ) (texts : List (List ℕ)) (trees : List ProgramSyntax) (program : Program) (claims : Table)
-      (made : Result W E) → AreParts bytes texts → AreReadAs texts trees program claims
-      → IfOk made (λ told. SaysOfTexts bytes (seen told)) → IfOk made (λ told. SaysOfTogether bytes (seen told))
-  texts_together bytes texts trees program claims (Ok told) parts joint says = read texts trees program claims (seen told) parts joint says
-  texts_together bytes texts trees program claims (Err e) parts joint says = says
-
-  pub fault_together : (bytes : List ℕ) (texts : List (List ℕ)) (made : Result W E) → AreParts bytes texts
-      → IfOk made (λ told. TellsFirstFault texts (seen told)) → IfOk made (λ told. SaysOfTogether bytes (seen told))
-  fault_together bytes texts (Ok told) parts tells = refused texts (seen told) parts tells
-  fault_together bytes texts (Err e) parts tells = tells
 
   -- what is said of an object and pick lines, and of a text and pick lines
   pub object_picked : (lending : Lending) (source lines : List ℕ) (made : Result W E) → IsObjectPart source

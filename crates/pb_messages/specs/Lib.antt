@@ -1,4 +1,3 @@
-pub mod Kept
 pub mod LiveInputs
 pub mod Messages
 pub mod Said

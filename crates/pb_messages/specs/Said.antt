@@ -1,5 +1,5 @@
 -- What is said to a person of an input that was refused.
-use Rattle.std.specs.Prelude.{◌≡◌, ◌≢◌, ◌<◌, ◌≤◌, ◌⊎◌, ◌+◌, ◌++◌, ◌∷◌, ℕ, Bool, List, [], None, Some, codes, cond, length, slice_get}
+use Rattle.std.specs.Prelude.{◌≡◌, ◌≢◌, ◌<◌, ◌≤◌, ◌⊎◌, ◌+◌, ◌++◌, ◌∷◌, ℕ, List, [], None, Some, codes, length}
 use Rattle.std.specs.Fmt.{decimal}
 use Rattle.pb_base.specs.declared.lending.Lending.{Lending}
 use Rattle.pb_base.specs.declared.limits.TheConstants.{MAX_INPUT}
@@ -11,29 +11,24 @@ use Rattle.pb_codegen.specs.Numbered.{IsReadAs}
 use Rattle.pb_accept.specs.Causes.{picks_cause, text_cause}
 use Rattle.pb_accept.specs.Loading.{IsLoadFault, IsLoaded, load_cause}
 use Rattle.pb_codegen.specs.declared.fault.CompileFault.{CompileFault}
-use Rattle.pb_command_io.specs.Parts.{AreParts, AreTwoParts, IsCutAt, IsMarkAt}
+use Rattle.pb_command_io.specs.Parts.{AreTwoParts, IsCutAt, IsMarkAt}
 use Rattle.pb_accept.specs.Refusals.{IsAcceptedText}
 use Rattle.pb_accept.specs.declared.load.LoadFault.{LoadFault}
 use Rattle.pb_history.specs.Entries.{Entry}
 use Rattle.pb_history.specs.Replays.{IsReplayBy, IsStoppedBy, spread}
 use Rattle.pb_history.specs.declared.counted.CountedPick.{CountedPick}
 use Rattle.pb_history.specs.declared.fault.ReplayFault.TheVariants.{NotEnabled}
-use Rattle.pb_joint.specs.Texts.{AreReadAs, IsFirstFault, are_several}
 use Rattle.pb_messages.specs.Messages.{IsMessage, IsMessageAt, TellsRefusal}
 use Rattle.pb_accept.specs.declared.cause.Cause.{Cause}
 use Rattle.pb_messages.specs.declared.message.Reading.{Reading}
-use Rattle.pb_messages.specs.declared.message.Reading.TheVariants.{Text, Claims, Recorded, FirstFormat, Texts, Together, Object}
-use Rattle.pb_messages.specs.declared.message.Reading.TheVariants.{Replayed, Expected, Shown, Debugged}
+use Rattle.pb_messages.specs.declared.message.Reading.TheVariants.{Text, Claims, Recorded, FirstFormat, Texts, Object}
+use Rattle.pb_messages.specs.declared.message.Reading.TheVariants.{Replayed, Shown, Debugged}
 use Rattle.pb_names.specs.Program.{Program}
 use Rattle.pb_object.specs.Formats.{FitsFirst}
 use Rattle.pb_picks.specs.PickLines.{IsFaulty, SpellsPicks}
 use Rattle.pb_picks.specs.declared.fault.PickFault.{PickFault}
 use Rattle.pb_message_stops.specs.Stops.{HoldsPick}
-use Rattle.pb_search_engine.specs.PrintLines.{IsBadPrint, SpellsPrints}
-use Rattle.pb_search_engine.specs.declared.print_lines.PrintFault.TheVariants.{NotPrint}
 use Rattle.pb_sources.specs.Sources.{IsObjectPart}
-use Rattle.pb_tree.specs.Syntax.{ProgramSyntax}
-use Rattle.pb_search_stages.specs.declared.print.Print.{Print}
 
 -- of an input that is too long
 abbrev pub long_input : List ℕ
@@ -79,11 +74,7 @@ behind (b ∷ bs) more = b ∷ bs ++ 10 ∷ more
 abbrev pub text_label : (number : ℕ) → List ℕ
 text_label number = codes "text " ++ decimal number ++ codes ", "
 
--- that, if there are several texts; else nothing
-abbrev pub IsLabelOf : (several : Bool) → (number : ℕ) → (label : List ℕ) → Type 0
-IsLabelOf several number label = label ≡ cond several (text_label number) []
-
--- the same of the last text, which is the only one if it is the first
+-- what is named before that of the last text, which is the only one if it is the first
 abbrev pub IsLastLabel : (number : ℕ) → (label : List ℕ) → Type 0
 IsLastLabel number label = ((number ≡ 1) × (label ≡ [])) ⊎ ((number ≢ 1) × (label ≡ text_label number))
 
@@ -109,26 +100,6 @@ pub data SaysOfTexts (bytes : List ℕ) : List ℕ → Type 0 where
       → SaysOfTexts bytes told
   first : (number : ℕ) (rest told : List ℕ) → AreSaid bytes number rest told → 4096 < length told → SaysOfTexts bytes told
 
--- the message of the first fault of texts that are read as one program, at its place in its text
-pub record TellsFirstFault (texts : List (List ℕ)) (told : List ℕ) : Type 0 where
-  pub index : ℕ
-  pub fault : CompileFault
-  pub first : IsFirstFault texts index fault
-  pub cause : Cause
-  pub has : text_cause fault ≡ Some cause
-  pub label : List ℕ
-  pub named : IsLabelOf (are_several texts) (index + 1) label
-  pub text : List ℕ
-  pub at : slice_get texts index ≡ Some text
-  pub message : IsMessage label text cause told
-
--- of texts that are read as one program: the message of the first fault; or there is none, and what is said of the
--- texts one by one, whose capital may be too little
-pub data SaysOfTogether (bytes : List ℕ) : List ℕ → Type 0 where
-  refused : (texts : List (List ℕ)) (told : List ℕ) → AreParts bytes texts → TellsFirstFault texts told → SaysOfTogether bytes told
-  read : (texts : List (List ℕ)) (trees : List ProgramSyntax) (program : Program) (claims : Table) (told : List ℕ)
-      → AreParts bytes texts → AreReadAs texts trees program claims → SaysOfTexts bytes told → SaysOfTogether bytes told
-
 -- the message of an object that is not read, or is not safe
 abbrev pub TellsObject : (bytes told : List ℕ) → Type 0
 TellsObject bytes told =
@@ -152,18 +123,6 @@ pub data SaysOfPickLines (lending : Lending) (code : Code) (lines : List ℕ) : 
       → SpellsPicks code lines picks → IsStoppedBy lending code (spread picks) (NotEnabled number)
       → (at : ℕ) → HoldsPick code lines picks number at
       → IsMessageAt (codes "pick ") lines (codes "H1") (Some at) told → SaysOfPickLines lending code lines told
-
--- of print lines over some code: nothing if all say prints; else which line says none
-pub data SaysOfPrintLines (code : Code) (lines : List ℕ) : List ℕ → Type 0 where
-  said : (prints : List Print) → SpellsPrints code lines prints → SaysOfPrintLines code lines []
-  unsaid : (at : ℕ) (told : List ℕ) → IsBadPrint code lines (NotPrint at)
-      → IsMessageAt (codes "print ") lines (codes "K1") (Some at) told → SaysOfPrintLines code lines told
-
--- of a text and print lines
-abbrev pub SaysOfExpectedText : (text lines told : List ℕ) → Type 0
-SaysOfExpectedText text lines told =
-    ((code : Code) × (labels : List ProcessLabels) × IsCompiled text code labels × SaysOfPrintLines code lines told)
-    ⊎ TellsRefusal [] text told
 
 -- of a text and pick lines, made under this lending
 abbrev pub SaysOfPickedText : Lending → (text lines told : List ℕ) → Type 0
@@ -190,19 +149,20 @@ SaysByReading Claims bytes told = SaysOfProgram bytes told
 SaysByReading Recorded bytes told = SaysOfText bytes long_output told
 SaysByReading FirstFormat bytes told = SaysOfFirstFormat bytes told
 SaysByReading Texts bytes told = SaysOfTexts bytes told
-SaysByReading Together bytes told = SaysOfTogether bytes told
 SaysByReading Object bytes told = SaysOfObjectText bytes told
 SaysByReading (Replayed lending) bytes told =
     (text : List ℕ) × (lines : List ℕ) × AreTwoParts bytes text lines × SaysOfPickedText lending text lines told
-SaysByReading Expected bytes told =
-    (text : List ℕ) × (lines : List ℕ) × AreTwoParts bytes text lines × SaysOfExpectedText text lines told
 SaysByReading (Shown lending) bytes told =
     (source : List ℕ) × (lines : List ℕ) × AreTwoParts bytes source lines × SaysOfPickedSource lending source lines told
 SaysByReading (Debugged lending) bytes told =
     (source : List ℕ) × (rest : List ℕ) × (lines : List ℕ) × (commands : List ℕ)
     × AreTwoParts bytes source rest × AreTwoParts rest lines commands × SaysOfPickedSource lending source lines told
 
--- of any input
+-- of any input, by what is said of one that is not too long
+abbrev pub SaysWithin : (Says : (bytes told : List ℕ) → Type 0) → (bytes told : List ℕ) → Type 0
+SaysWithin Says bytes told =
+    ((MAX_INPUT < length bytes) × (told ≡ long_input)) ⊎ ((length bytes ≤ MAX_INPUT) × Says bytes told)
+
+-- of any input, by how the command reads it
 abbrev pub SaysToPerson : Reading → (bytes told : List ℕ) → Type 0
-SaysToPerson reading bytes told =
-    ((MAX_INPUT < length bytes) × (told ≡ long_input)) ⊎ ((length bytes ≤ MAX_INPUT) × SaysByReading reading bytes told)
+SaysToPerson reading = SaysWithin (SaysByReading reading)

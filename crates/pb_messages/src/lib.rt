@@ -2,19 +2,13 @@
 #![tactic(auto)]
 
 mod first_format;
-mod kept;
 mod live;
 mod message;
 mod objects;
 mod picks;
-mod prints;
-mod standard_error;
 mod texts;
-mod together;
-mod worded;
+pub mod worded;
 
-pub use kept::KeptInput;
 pub use live::live_message;
-pub use message::{Reading, message_of};
-pub use standard_error::StandardError;
+pub use message::{Reading, long_message, message_of};
 pub use texts::text_message;

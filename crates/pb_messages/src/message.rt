@@ -3,23 +3,19 @@
 ghost use Rattle.std.specs.Prelude.{◌≡◌, ◌≤◌, [], IfNone, IfOk, IfSome, IsTrue, false, OnOk, length, string_bytes};
 ghost use Rattle.pb_accept.specs.Refusals.{IsAcceptedText};
 ghost use Rattle.pb_messages.specs.Messages.{TellsRefusal};
-ghost use Rattle.pb_messages.specs.Said.{SaysByReading, SaysOfExpectedText, SaysOfObjectText, SaysOfPickedObject, SaysOfPickedSource, SaysOfPickedText, SaysOfProgram, SaysOfText, SaysOfTexts, SaysOfTogether};
-ghost use Rattle.pb_messages.specs.Said.{IsLastLabel, SaysMore, SaysToPerson, behind, long_output, text_label};
-ghost use Rattle.pb_messages.specs.declared.message.Reading.TheVariants.{Debugged, Expected, Replayed, Shown};
+ghost use Rattle.pb_messages.specs.Said.{SaysByReading, SaysOfObjectText, SaysOfPickedObject, SaysOfPickedSource, SaysOfPickedText, SaysOfProgram, SaysOfText, SaysOfTexts};
+ghost use Rattle.pb_messages.specs.Said.{IsLastLabel, SaysMore, SaysToPerson, behind, long_input, long_output, text_label};
+ghost use Rattle.pb_messages.specs.declared.message.Reading.TheVariants.{Debugged, Replayed, Shown};
 
 use crate::first_format::first_format_message;
 use crate::objects::object_message;
 use crate::picks::lines_message;
-use crate::prints::prints_message;
 use crate::texts::{early_message, text_message};
-use crate::together::refused_message;
 use pb_base::limits::MAX_INPUT;
 use pb_base::{Lending, NoMemory};
 use pb_command_io::{first_part, two_parts};
-use pb_joint::read_texts;
 use pb_message_excerpts::place_of;
 use pb_message_stops::Lines;
-use pb_plan_engine::texts_of;
 use pb_sources::is_object;
 use std::alloc::{AllocError, Global};
 
@@ -46,14 +42,10 @@ pub enum Reading {
     FirstFormat,
     /// Texts, which lines `%%` part.
     Texts,
-    /// Texts, which lines `%%` part, as one program.
-    Together,
     /// An object.
     Object,
     /// A text, and pick lines behind the first line `%%`, made under this lending.
     Replayed(Lending),
-    /// A text, and print lines behind the first line `%%`.
-    Expected,
     /// A text or an object, and pick lines behind the first line `%%`, made under this lending.
     Shown(Lending),
     /// A text or an object, and pick lines between the first two lines `%%`. What follows is not looked at.
@@ -66,9 +58,16 @@ pub fn message_of(alloc: Global, reading: Reading, bytes: &[u8]) -> Result<Vec<u
     ensures { IfOk result (λ message. SaysToPerson reading bytes.now message.items) }
 {
     if bytes.len() > MAX_INPUT {
-        return Ok(Vec::from_slice(alloc, LONG_INPUT)?);
+        return long_message(alloc);
     }
     whole_message(alloc, reading, bytes)
+}
+
+/// Returns the message of an input that is too long.
+pub fn long_message(alloc: Global) -> Result<Vec<u8>, NoMemory>
+    ensures { IfOk result (λ message. message.items ≡ long_input) }
+{
+    Ok(Vec::from_slice(alloc, LONG_INPUT)?)
 }
 
 /// Returns the messages of an input that is not too long.
@@ -82,10 +81,8 @@ fn whole_message(alloc: Global, reading: Reading, bytes: &[u8]) -> Result<Vec<u8
         Reading::Claims => claims_message(alloc, bytes),
         Reading::FirstFormat => first_format_message(alloc, bytes),
         Reading::Texts => texts_messages(alloc, bytes),
-        Reading::Together => together_message(alloc, bytes),
         Reading::Object => whole_object_message(alloc, bytes),
         Reading::Replayed(lending) => replayed_message(alloc, lending, bytes),
-        Reading::Expected => expected_message(alloc, bytes),
         Reading::Shown(lending) => shown_message(alloc, lending, bytes),
         Reading::Debugged(lending) => debugged_message(alloc, lending, bytes),
     }
@@ -165,19 +162,6 @@ fn texts_messages(alloc: Global, bytes: &[u8]) -> Result<Vec<u8>, NoMemory>
     }
 }
 
-/// Returns the message of the first fault of texts that are read as one program, or those of the texts whose capital is
-/// too little for a claim.
-fn together_message(alloc: Global, bytes: &[u8]) -> Result<Vec<u8>, NoMemory>
-    requires { length bytes.now ≤ MAX_INPUT }
-    ensures { IfOk result (λ message. SaysOfTogether bytes.now message.items) }
-{
-    let texts = texts_of(alloc, bytes)?;
-    match read_texts(alloc, &texts) {
-        Ok(_) => texts_messages(alloc, bytes),
-        Err(refused) => refused_message(alloc, &texts, &refused),
-    }
-}
-
 /// Appends the message of a text to `out`, if the text is refused.
 fn tell_text(alloc: Global, out: &mut Vec<u8>, label: &str, text: &[u8]) -> Result<(), NoMemory>
     ensures { OnOk result (SaysMore label.now text.now out.old.items out.new.items) }
@@ -219,22 +203,6 @@ fn replayed_message(alloc: Global, lending: Lending, bytes: &[u8]) -> Result<Vec
     picked_text_message(
         alloc,
         lending,
-        text,
-        Lines {
-            text: lines,
-            before,
-        },
-    )
-}
-
-/// Returns the message of a text and the print lines behind it.
-fn expected_message(alloc: Global, bytes: &[u8]) -> Result<Vec<u8>, NoMemory>
-    ensures { IfOk result (λ message. SaysByReading Expected bytes.now message.items) }
-{
-    let (text, lines) = two_parts(bytes);
-    let before = line_of(bytes, text.len());
-    expected_text_message(
-        alloc,
         text,
         Lines {
             text: lines,
@@ -298,16 +266,6 @@ fn picked_text_message(
 {
     match text_message(alloc, "", text)? {
         Ok(compiled) => lines_message(alloc, lending, compiled.verified(), lines),
-        Err(message) => Ok(message),
-    }
-}
-
-/// Returns the message of a text, or of print lines over its code.
-fn expected_text_message(alloc: Global, text: &[u8], lines: Lines<'_>) -> Result<Vec<u8>, NoMemory>
-    ensures { IfOk result (λ message. SaysOfExpectedText text.now lines.entry.text.now message.items) }
-{
-    match text_message(alloc, "", text)? {
-        Ok(compiled) => prints_message(alloc, compiled.verified(), lines),
         Err(message) => Ok(message),
     }
 }

@@ -1,8 +1,11 @@
-//! Reads the words of a call of the program: the command and its options, as clap takes them.
+//! Reads the words of a call of the program: the command and its options, as clap takes them; and says which tool
+//! answers the command.
 #![tactic(auto)]
 
 mod read;
+mod tool;
 mod words;
 
 pub use read::options;
+pub use tool::{Tool, tool_of};
 pub use words::{Options, WordsFault};

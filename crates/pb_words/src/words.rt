@@ -6,7 +6,7 @@ use pb_options::{
 };
 
 /// A command with its options.
-// To add one: pb_engines, pb_options, pb_command_line, read.rt, pb_answer, pb_cli, pb_tests, docs/; docs/CHANGING.md.
+// To add one: docs/CHANGING.md, "A command".
 #[derive(Clone, Copy, Debug, PartialEq, Eq)]
 pub enum Options {
     Bank,

@@ -1,0 +1,15 @@
+//! The tool `parbegin-search`.
+#![tactic(auto)]
+
+use pb_base::{StandardInput, StandardOutput};
+use pb_call::StandardError;
+use pb_call::start::start;
+use pb_search_tool::SearchTool;
+use std::process::ExitCode;
+
+fn main(rt: HostRuntime) -> ExitCode {
+    let input = StandardInput::new(rt.stdin());
+    let output = StandardOutput::new(rt.stdout());
+    let error = StandardError::new(rt.stderr());
+    start(&SearchTool, &rt, input, output, error)
+}

@@ -1,0 +1,48 @@
+//! What the tool does with its command.
+
+ghost use Rattle.pb_bank_tool.specs.Bank.{leaves, says};
+ghost use Rattle.pb_words.specs.declared.tool.Tool.TheVariants.{Bank};
+
+use pb_bank_engine::bank_engine;
+use pb_base::{Input, NoMemory, Output};
+use pb_call::Commands;
+use pb_command_io::Status;
+use pb_words::Options;
+use std::alloc::Global;
+
+/// The tool of the command `bank`. It starts no threads, whatever its handle.
+#[derive(Clone, Copy, Debug)]
+pub struct BankTool;
+
+impl<R> Commands<R> for BankTool {
+    ghost tool = { Bank };
+
+    ghost MaySay = { says };
+
+    ghost Leaves = { leaves };
+
+    ghost TellsRefused = { λ o bytes told. ⊥ };
+
+    fn answer<I: Input, O: Output>(
+        &self,
+        _rt: &R,
+        alloc: Global,
+        options: Options,
+        input: &mut I,
+        output: &mut O,
+    ) -> Option<Status> {
+        match options {
+            Options::Bank => Some(bank_engine(alloc, input, output)),
+            _ => None,
+        }
+    }
+
+    fn message(
+        &self,
+        _alloc: Global,
+        _options: &Options,
+        _bytes: &[u8],
+    ) -> Option<Result<Vec<u8>, NoMemory>> {
+        None
+    }
+}

@@ -1,0 +1,81 @@
+-- What a call of a tool writes, with its words and its input.
+use Rattle.std.specs.Prelude.{◌≡◌, ◌≢◌, ◌⊎◌, ◌++◌, ℕ, List, [], IfSome, Option, Some, codes}
+use Rattle.std.specs.Borrow.{Bor}
+use Rattle.clap.specs.Words.{Text}
+use Rattle.pb_base.specs.Lines.{line}
+use Rattle.pb_command_io.specs.Answers.{Says, Tells, memory_line}
+use Rattle.pb_command_io.specs.Faults.{Devices, TellsAnyFault, TellsFaults}
+use Rattle.pb_command_io.specs.declared.status.Status.{Status}
+use Rattle.pb_command_io.specs.declared.status.Status.TheVariants.{Words, Memory}
+use Rattle.pb_words.specs.Read.{WordsSay}
+use Rattle.pb_words.specs.Tools.{tool_for, tool_name}
+use Rattle.pb_words.specs.declared.tool.Tool.{Tool}
+use Rattle.pb_words.specs.declared.words.Options.{Options}
+use Rattle.pb_words.specs.declared.words.Options.TheVariants as option
+use Rattle.pb_words.specs.declared.words.WordsFault.{WordsFault}
+use Rattle.pb_words.specs.declared.words.WordsFault.TheVariants as fault
+
+-- what a command may write, with its status, of the bytes of its input
+abbrev pub Saying : Type 1
+Saying = Options → List ℕ → List ℕ → Status → Type 0
+
+-- what is written by a command of which a read fails, by the bytes that were to come before the command and after it
+abbrev pub AfterRead : Type 1
+AfterRead = Options → (rest left : Option (List ℕ)) → (old new : Option (List ℕ)) → Type 0
+
+-- ---- words that are not read
+
+-- the text and the status if words were not read
+abbrev pub words_fault_text : WordsFault → List ℕ
+words_fault_text (fault.Words text) = text.bytes.items
+words_fault_text fault.Memory = memory_line
+
+abbrev pub fault_status : WordsFault → Status
+fault_status (fault.Words text) = Words
+fault_status fault.Memory = Memory
+
+-- the text if another tool answers the command
+abbrev pub elsewhere : Tool → List ℕ
+elsewhere tool = codes "error: this command is answered by " ++ line (tool_name tool)
+
+-- ---- what is written
+
+-- the bytes that a command says something of, if they are known: those of its input, and none for `explain`
+abbrev pub bytes_for : Options → Option (List ℕ) → Option (List ℕ)
+bytes_for (option.Explain code) rest = Some []
+bytes_for _ rest = rest
+
+-- the words say a command of the tool, which tells of these bytes what it may
+abbrev pub CommandWrites : Tool → Saying → List (Bor Text) → (rest old new : Option (List ℕ)) → Status → Type 0
+CommandWrites tool MaySay words rest old new status =
+    (o : Options) × WordsSay words o × (tool_for o ≡ tool) × IfSome (bytes_for o rest) (λ bytes. Tells (MaySay o bytes) old new status)
+
+-- the words say a command of another tool, which is named
+abbrev pub NamesTool : Tool → List (Bor Text) → (old new : Option (List ℕ)) → Status → Type 0
+NamesTool tool words old new status =
+    (o : Options) × WordsSay words o × (tool_for o ≢ tool) × Says old new (elsewhere (tool_for o)) Words status
+
+-- the words say nothing, and some text of theirs is written
+abbrev pub RefusesWords : List (Bor Text) → (old new : Option (List ℕ)) → Status → Type 0
+RefusesWords words old new status =
+    ((o : Options) → WordsSay words o → ⊥) × ((text : List ℕ) × Says old new text Words status)
+
+-- one of these, or the tool is out of memory before it knows what the words say
+abbrev pub CallWrites : Tool → Saying → List (Bor Text) → (rest old new : Option (List ℕ)) → Status → Type 0
+CallWrites tool MaySay words rest old new status =
+    CommandWrites tool MaySay words rest old new status
+    ⊎ (NamesTool tool words old new status
+    ⊎ (RefusesWords words old new status ⊎ Says old new memory_line Memory status))
+
+-- ---- devices that fail
+
+-- a device that fails is told; and if it is a read, the output is as the command leaves it then
+abbrev pub CommandTellsFaults : AfterRead → Options → (rest left : Option (List ℕ)) → Devices → Devices → Status → Type 0
+CommandTellsFaults Leaves o rest left old new status =
+    TellsAnyFault old new status × (new.reads ≢ old.reads → Leaves o rest left old.written new.written)
+
+-- a device that fails is told; and if it is a read, nothing is written, or what the command of the words leaves then
+abbrev pub CallTellsFaults : Tool → AfterRead → List (Bor Text) → (rest left : Option (List ℕ)) → Devices → Devices → Status → Type 0
+CallTellsFaults tool Leaves words rest left old new status =
+    TellsFaults old new status
+    ⊎ ((o : Options) × WordsSay words o × (tool_for o ≡ tool) × CommandTellsFaults Leaves o rest left old new status)

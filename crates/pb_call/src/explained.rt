@@ -1,0 +1,104 @@
+//! The answer of a call, and what a person is told of it.
+
+ghost use Rattle.std.specs.Prelude.{◌≡◌, ◌↔◌, IsTrue, codes};
+ghost use Rattle.pb_call.specs.Explained.{Answers, AnswersAndExplains, IsFirst, IsWithout};
+
+use crate::answer::answer;
+use crate::commands::Commands;
+use crate::explain_fault::explain_fault;
+use crate::explain_limit::explain_limit;
+use crate::explain_refusal::explain_refusal;
+use crate::in_json::answer_in_json;
+use crate::kept::KeptInput;
+use pb_base::{Input, Output};
+use pb_command_io::Status;
+use pb_json_lines::LiveOutput;
+use std::alloc::Global;
+
+/// Does what the words of a call say, of which the first is the program's own name, and explains a refusal, how a
+/// limit is raised, or how it is seen where a process faulted, on standard error, unless the next word is `--quiet`. If
+/// `--json` is the next word, or the one behind `--quiet`, the answer is JSON lines, those of `debug` and `bank` as they
+/// come. Returns the status of the call.
+pub fn answer_and_explain<R, C: Commands<R>, I: Input, O: Output, E: Output>(
+    commands: &C,
+    rt: &R,
+    alloc: Global,
+    words: &[&str],
+    input: &mut KeptInput<I>,
+    output: &mut LiveOutput<O>,
+    error: &mut E,
+) -> Status
+    ensures { AnswersAndExplains C.tool C.MaySay C.Leaves C.TellsRefused words.now input.old.rest input.new.rest input.new.kept
+        input.old.failures input.new.failures output.old output.new
+        (record { reads = input.old.failures; writes = E.failures error.old; written = E.written error.old })
+        (record { reads = input.new.failures; writes = E.failures error.new; written = E.written error.new })
+        result }
+{
+    let heard = without(words, "--quiet");
+    let said = without(heard, "--json");
+    let status = answer_as(
+        commands,
+        rt,
+        alloc,
+        is_first(heard, "--json"),
+        said,
+        input,
+        output,
+    );
+    if is_first(words, "--quiet") {
+        return status;
+    }
+    if status == Status::Limit {
+        explain_limit(alloc, said, error);
+        return status;
+    }
+    if status == Status::Fault {
+        explain_fault(alloc, said, error);
+        return status;
+    }
+    if let (Status::Refused, Some(bytes)) = (status, input.kept()) {
+        explain_refusal(commands, alloc, said, bytes, error);
+    }
+    status
+}
+
+/// Answers a call, as it is or in JSON lines.
+fn answer_as<R, C: Commands<R>, I: Input, O: Output>(
+    commands: &C,
+    rt: &R,
+    alloc: Global,
+    json: bool,
+    words: &[&str],
+    input: &mut KeptInput<I>,
+    output: &mut LiveOutput<O>,
+) -> Status
+    ensures { Answers C.tool C.MaySay C.Leaves json words.now input.old.rest input.new.rest input.old.failures input.new.failures
+        output.old output.new result }
+{
+    if json {
+        answer_in_json(commands, rt, alloc, words, input, output)
+    } else {
+        answer(commands, rt, alloc, words, input, output)
+    }
+}
+
+/// Returns whether a word is the first behind the program's name.
+fn is_first(words: &[&str], word: &str) -> bool
+    ensures { IsTrue result ↔ IsFirst word.now words.now }
+{
+    match words {
+        [_, first, ..] => *first == word,
+        _ => false,
+    }
+}
+
+/// Returns the words without this one, if it is the first. It is then in the place of the program's name, which is
+/// not looked at.
+fn without<'w, 't>(words: &'w [&'t str], word: &str) -> &'w [&'t str]
+    ensures { IsWithout word.now words.now result.now }
+{
+    match words {
+        [_, rest @ ..] if is_first(words, word) => rest,
+        _ => words,
+    }
+}

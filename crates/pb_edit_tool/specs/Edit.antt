@@ -1,0 +1,15 @@
+-- What the tool that answers `lsp` says.
+use Rattle.std.specs.Prelude.{ℕ, List, Option, ⊤}
+use Rattle.pb_command_io.specs.declared.status.Status.{Status}
+use Rattle.pb_server_engine.specs.Servers.{SaysOfServer}
+use Rattle.pb_words.specs.declared.words.Options.{Options}
+use Rattle.pb_words.specs.declared.words.Options.TheVariants as option
+
+-- what its command may say of an input
+abbrev pub says : Options → List ℕ → List ℕ → Status → Type 0
+says option.Lsp = SaysOfServer
+says _ = λ bytes text status. ⊥
+
+-- what is written when a read fails: answers to the messages before it
+abbrev pub leaves : Options → (rest left : Option (List ℕ)) → (old new : Option (List ℕ)) → Type 0
+leaves o rest left old new = ⊤

@@ -1,0 +1,58 @@
+//! Calls of single tools: each answers its own commands, and names the tool of any other.
+
+use pb_bank_tool::BankTool;
+use pb_base::{MemoryInput, MemoryOutput};
+use pb_call::Commands;
+use pb_call::answer::answer;
+use pb_command_io::Status;
+use pb_debug_tool::DebugTool;
+use pb_edit_tool::EditTool;
+use pb_run_tool::RunTool;
+use pb_search_tool::SearchTool;
+use pb_words::Tool;
+
+/// Returns whether a tool writes this of a command, with an empty input, and ends with this status.
+fn says<R: AllocGlobal, C: Commands<R>>(
+    commands: &C,
+    rt: &R,
+    command: &str,
+    said: &[u8],
+    wanted: Status,
+) -> Option<bool> {
+    let mut output = MemoryOutput::new(rt.alloc(), 4_096).ok()?;
+    let mut input = MemoryInput::new(b"");
+    let words = ["parbegin", command];
+    let status = answer(
+        commands,
+        rt,
+        rt.alloc(),
+        words.as_slice(),
+        &mut input,
+        &mut output,
+    );
+    Some(status == wanted && output.as_slice() == said)
+}
+
+#[test]
+fn each_answers_its_own_commands(rt: HostRuntime) {
+    assert!(rt; says(&BankTool, &rt, "bank", b"", Status::Done) == Some(true));
+    assert!(rt; says(&DebugTool, &rt, "dap", b"", Status::Done) == Some(true));
+    assert!(rt; says(&EditTool, &rt, "lsp", b"", Status::Refused) == Some(true));
+    assert!(rt; says(&RunTool, &rt, "run", b"refused P1 at 0\n", Status::Refused) == Some(true));
+    let refused = b"refused P1 at 0\n";
+    assert!(rt; says(&SearchTool, &rt, "outcomes", refused, Status::Refused) == Some(true));
+}
+
+#[test]
+fn each_names_the_tool_of_another_command(rt: HostRuntime) {
+    let run = b"error: this command is answered by parbegin-run\n";
+    assert!(rt; says(&BankTool, &rt, "run", run, Status::Words) == Some(true));
+    assert!(rt; says(&DebugTool, &rt, "replay", run, Status::Words) == Some(true));
+    let search = b"error: this command is answered by parbegin-search\n";
+    assert!(rt; says(&RunTool, &rt, "plan", search, Status::Words) == Some(true));
+    let bank = b"error: this command is answered by parbegin-bank\n";
+    assert!(rt; says(&EditTool, &rt, "bank", bank, Status::Words) == Some(true));
+    let edit = b"error: this command is answered by parbegin-edit\n";
+    assert!(rt; says(&SearchTool, &rt, "lsp", edit, Status::Words) == Some(true));
+    assert!(rt; Tool::Debug.name() == "parbegin-debug");
+}

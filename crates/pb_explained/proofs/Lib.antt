@@ -1,2 +1,0 @@
-pub mod ExplainedLemmas
-pub mod JsonLemmas

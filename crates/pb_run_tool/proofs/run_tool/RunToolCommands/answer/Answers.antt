@@ -1,0 +1,49 @@
+use Rattle.pb_call.proofs.CallLemmas.{tells_as}
+use Rattle.pb_run_tool.specs.Run.{says}
+use Rattle.pb_words.specs.declared.words.Options.TheVariants as option
+use Rattle.pb_run_tool.proofs.run_tool.RunToolCommands.answer.Goals as goal
+
+pub returns-in-Check-clause-text : goal.returns-in-Check-clause-text
+returns-in-Check-clause-text g c =
+    tells_as (g.I.Input.rest c.args.input.now) (g.I.Input.rest c.args.input.now) (g.O.Output.written c.args.output.now)
+    (g.O.Output.written c.check_engine.new.output) c.check_engine.result c.args.options (option.Check c.in-Check.numbers) c.in-Check.is says c.check_engine.ensures.text
+
+pub returns-in-Claims-clause-text : goal.returns-in-Claims-clause-text
+returns-in-Claims-clause-text g c =
+    tells_as (g.I.Input.rest c.args.input.now) (g.I.Input.rest c.args.input.now) (g.O.Output.written c.args.output.now)
+    (g.O.Output.written c.claims_engine.new.output) c.claims_engine.result c.args.options option.Claims c.in-Claims.is says c.claims_engine.ensures.text
+
+pub returns-in-Emit-clause-text : goal.returns-in-Emit-clause-text
+returns-in-Emit-clause-text g c =
+    tells_as (g.I.Input.rest c.args.input.now) (g.I.Input.rest c.args.input.now) (g.O.Output.written c.args.output.now)
+    (g.O.Output.written c.emit_engine.new.output) c.emit_engine.result c.args.options (option.Emit c.in-Emit.numbers) c.in-Emit.is says c.emit_engine.ensures.text
+
+pub returns-in-Exec-clause-text : goal.returns-in-Exec-clause-text
+returns-in-Exec-clause-text g c =
+    tells_as (g.I.Input.rest c.args.input.now) (g.I.Input.rest c.args.input.now) (g.O.Output.written c.args.output.now)
+    (g.O.Output.written c.exec_engine.new.output) c.exec_engine.result c.args.options (option.Exec c.in-Exec.numbers) c.in-Exec.is says c.exec_engine.ensures.text
+
+pub returns-in-Explain-clause-text : goal.returns-in-Explain-clause-text
+returns-in-Explain-clause-text g c =
+    tells_as (g.I.Input.rest c.args.input.now) (g.I.Input.rest c.args.input.now) (g.O.Output.written c.args.output.now)
+    (g.O.Output.written c.explain_engine.new.output) c.explain_engine.result c.args.options (option.Explain c.in-Explain.code) c.in-Explain.is says c.explain_engine.ensures.text
+
+pub returns-in-Migrate-clause-text : goal.returns-in-Migrate-clause-text
+returns-in-Migrate-clause-text g c =
+    tells_as (g.I.Input.rest c.args.input.now) (g.I.Input.rest c.args.input.now) (g.O.Output.written c.args.output.now)
+    (g.O.Output.written c.migrate_engine.new.output) c.migrate_engine.result c.args.options option.Migrate c.in-Migrate.is says c.migrate_engine.ensures.text
+
+pub returns-in-Record-clause-text : goal.returns-in-Record-clause-text
+returns-in-Record-clause-text g c =
+    tells_as (g.I.Input.rest c.args.input.now) (g.I.Input.rest c.args.input.now) (g.O.Output.written c.args.output.now)
+    (g.O.Output.written c.record_engine.new.output) c.record_engine.result c.args.options (option.Record c.in-Record.numbers) c.in-Record.is says c.record_engine.ensures.text
+
+pub returns-in-Replay-clause-text : goal.returns-in-Replay-clause-text
+returns-in-Replay-clause-text g c =
+    tells_as (g.I.Input.rest c.args.input.now) (g.I.Input.rest c.args.input.now) (g.O.Output.written c.args.output.now)
+    (g.O.Output.written c.replay_engine.new.output) c.replay_engine.result c.args.options (option.Replay c.in-Replay.options) c.in-Replay.is says c.replay_engine.ensures.text
+
+pub returns-in-Run-clause-text : goal.returns-in-Run-clause-text
+returns-in-Run-clause-text g c =
+    tells_as (g.I.Input.rest c.args.input.now) (g.I.Input.rest c.args.input.now) (g.O.Output.written c.args.output.now)
+    (g.O.Output.written c.run_engine.new.output) c.run_engine.result c.args.options (option.Run c.in-Run.numbers) c.in-Run.is says c.run_engine.ensures.text

@@ -1,0 +1,86 @@
+//! What the tool does with its commands.
+
+ghost use Rattle.std.specs.Prelude.{◌≡◌};
+ghost use Rattle.pb_run_tool.specs.Run.{format_reading, leaves, says, tells_refused};
+ghost use Rattle.pb_words.specs.declared.tool.Tool.TheVariants.{Run};
+
+use pb_base::{Input, NoMemory, Output};
+use pb_call::Commands;
+use pb_code::Format;
+use pb_command_io::Status;
+use pb_engines::{
+    check_engine, claims_engine, emit_engine, exec_engine, migrate_engine, record_engine,
+    replay_engine, run_engine,
+};
+use pb_explain::explain_engine;
+use pb_messages::{Reading, message_of};
+use pb_words::Options;
+use std::alloc::Global;
+use std::sync::Wait;
+use std::thread::Threads;
+
+/// The tool of the commands that read a text or an object and run it. `exec`, `record` without a seed and `run` start
+/// threads.
+#[derive(Clone, Copy, Debug)]
+pub struct RunTool;
+
+impl<R: Threads + Wait + Sync> Commands<R> for RunTool {
+    ghost tool = { Run };
+
+    ghost MaySay = { says };
+
+    ghost Leaves = { leaves };
+
+    ghost TellsRefused = { tells_refused };
+
+    fn answer<I: Input, O: Output>(
+        &self,
+        rt: &R,
+        alloc: Global,
+        options: Options,
+        input: &mut I,
+        output: &mut O,
+    ) -> Option<Status> {
+        match options {
+            Options::Check(numbers) => Some(check_engine(alloc, numbers, input, output)),
+            Options::Claims => Some(claims_engine(alloc, input, output)),
+            Options::Emit(numbers) => Some(emit_engine(alloc, numbers, input, output)),
+            Options::Exec(numbers) => Some(exec_engine(rt, alloc, numbers, input, output)),
+            Options::Explain(code) => Some(explain_engine(alloc, code, output)),
+            Options::Migrate => Some(migrate_engine(alloc, input, output)),
+            Options::Record(numbers) => Some(record_engine(rt, alloc, numbers, input, output)),
+            Options::Replay(options) => Some(replay_engine(alloc, options, input, output)),
+            Options::Run(numbers) => Some(run_engine(rt, alloc, numbers, input, output)),
+            _ => None,
+        }
+    }
+
+    fn message(
+        &self,
+        alloc: Global,
+        options: &Options,
+        bytes: &[u8],
+    ) -> Option<Result<Vec<u8>, NoMemory>> {
+        let reading = match options {
+            Options::Check(_) => Reading::Texts,
+            Options::Claims => Reading::Claims,
+            Options::Emit(numbers) => reading_of(numbers.object),
+            Options::Exec(_) | Options::Migrate => Reading::Object,
+            Options::Record(_) => Reading::Recorded,
+            Options::Replay(options) => Reading::Replayed(options.lend.lending()),
+            Options::Run(_) => Reading::Text,
+            _ => return None,
+        };
+        Some(message_of(alloc, reading, bytes))
+    }
+}
+
+/// Returns how `emit` reads its input.
+fn reading_of(format: Format) -> Reading
+    ensures { result ≡ format_reading format }
+{
+    match format {
+        Format::One => Reading::FirstFormat,
+        Format::Two => Reading::Text,
+    }
+}

@@ -1,0 +1,58 @@
+-- What is said to a person of print lines, and of texts that are read as one program, that were refused.
+use Rattle.std.specs.Prelude.{◌≡◌, ◌⊎◌, ◌+◌, ℕ, Bool, List, [], Some, codes, cond, slice_get}
+use Rattle.pb_accept.specs.Causes.{text_cause}
+use Rattle.pb_accept.specs.declared.cause.Cause.{Cause}
+use Rattle.pb_base.specs.Steppers.{Table}
+use Rattle.pb_code.specs.Whole.{Code, ProcessLabels}
+use Rattle.pb_codegen.specs.Compiled.{IsCompiled}
+use Rattle.pb_codegen.specs.declared.fault.CompileFault.{CompileFault}
+use Rattle.pb_command_io.specs.Parts.{AreParts, AreTwoParts}
+use Rattle.pb_joint.specs.Texts.{AreReadAs, IsFirstFault, are_several}
+use Rattle.pb_messages.specs.Messages.{IsMessage, IsMessageAt, TellsRefusal}
+use Rattle.pb_messages.specs.Said.{SaysOfTexts, text_label}
+use Rattle.pb_names.specs.Program.{Program}
+use Rattle.pb_search_engine.specs.PrintLines.{IsBadPrint, SpellsPrints}
+use Rattle.pb_search_engine.specs.declared.print_lines.PrintFault.TheVariants.{NotPrint}
+use Rattle.pb_search_stages.specs.declared.print.Print.{Print}
+use Rattle.pb_tree.specs.Syntax.{ProgramSyntax}
+
+-- of print lines over some code: nothing if all say prints; else which line says none
+pub data SaysOfPrintLines (code : Code) (lines : List ℕ) : List ℕ → Type 0 where
+  said : (prints : List Print) → SpellsPrints code lines prints → SaysOfPrintLines code lines []
+  unsaid : (at : ℕ) (told : List ℕ) → IsBadPrint code lines (NotPrint at)
+      → IsMessageAt (codes "print ") lines (codes "K1") (Some at) told → SaysOfPrintLines code lines told
+
+-- of a text and print lines
+abbrev pub SaysOfExpectedText : (text lines told : List ℕ) → Type 0
+SaysOfExpectedText text lines told =
+    ((code : Code) × (labels : List ProcessLabels) × IsCompiled text code labels × SaysOfPrintLines code lines told)
+    ⊎ TellsRefusal [] text told
+
+-- of a text, and print lines behind the first line `%%`
+abbrev pub SaysOfExpected : (bytes told : List ℕ) → Type 0
+SaysOfExpected bytes told =
+    (text : List ℕ) × (lines : List ℕ) × AreTwoParts bytes text lines × SaysOfExpectedText text lines told
+
+-- what is named before the line of a place, if there are several texts; else nothing
+abbrev pub IsLabelOf : (several : Bool) → (number : ℕ) → (label : List ℕ) → Type 0
+IsLabelOf several number label = label ≡ cond several (text_label number) []
+
+-- the message of the first fault of texts that are read as one program, at its place in its text
+pub record TellsFirstFault (texts : List (List ℕ)) (told : List ℕ) : Type 0 where
+  pub index : ℕ
+  pub fault : CompileFault
+  pub first : IsFirstFault texts index fault
+  pub cause : Cause
+  pub has : text_cause fault ≡ Some cause
+  pub label : List ℕ
+  pub named : IsLabelOf (are_several texts) (index + 1) label
+  pub text : List ℕ
+  pub at : slice_get texts index ≡ Some text
+  pub message : IsMessage label text cause told
+
+-- of texts that are read as one program: the message of the first fault; or there is none, and what is said of the
+-- texts one by one, whose capital may be too little
+pub data SaysOfTogether (bytes : List ℕ) : List ℕ → Type 0 where
+  refused : (texts : List (List ℕ)) (told : List ℕ) → AreParts bytes texts → TellsFirstFault texts told → SaysOfTogether bytes told
+  read : (texts : List (List ℕ)) (trees : List ProgramSyntax) (program : Program) (claims : Table) (told : List ℕ)
+      → AreParts bytes texts → AreReadAs texts trees program claims → SaysOfTexts bytes told → SaysOfTogether bytes told

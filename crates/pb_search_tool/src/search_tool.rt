@@ -1,0 +1,64 @@
+//! What the tool does with its commands.
+
+ghost use Rattle.pb_search_tool.specs.Search.{leaves, says, tells_refused};
+ghost use Rattle.pb_words.specs.declared.tool.Tool.TheVariants.{Search};
+
+use crate::expected::outcomes_message;
+use crate::plan::plan;
+use crate::states::states;
+use crate::together::together_message;
+use pb_base::{Input, NoMemory, Output};
+use pb_call::Commands;
+use pb_command_io::Status;
+use pb_messages::{Reading, message_of};
+use pb_search_engine::outcomes_engine;
+use pb_words::Options;
+use std::alloc::Global;
+
+/// The tool of the commands about all runs of a program. It starts no threads, whatever its handle.
+#[derive(Clone, Copy, Debug)]
+pub struct SearchTool;
+
+impl<R> Commands<R> for SearchTool {
+    ghost tool = { Search };
+
+    ghost MaySay = { says };
+
+    ghost Leaves = { leaves };
+
+    ghost TellsRefused = { tells_refused };
+
+    fn answer<I: Input, O: Output>(
+        &self,
+        _rt: &R,
+        alloc: Global,
+        options: Options,
+        input: &mut I,
+        output: &mut O,
+    ) -> Option<Status> {
+        match options {
+            Options::Outcomes(options) => Some(outcomes_engine(alloc, options, input, output)),
+            Options::Plan(options) => Some(plan(alloc, options, input, output)),
+            Options::States(options) => Some(states(alloc, options, input, output)),
+            _ => None,
+        }
+    }
+
+    fn message(
+        &self,
+        alloc: Global,
+        options: &Options,
+        bytes: &[u8],
+    ) -> Option<Result<Vec<u8>, NoMemory>> {
+        match options {
+            Options::Outcomes(options) => Some(outcomes_message(alloc, options.expect, bytes)),
+            Options::Plan(_) => Some(together_message(alloc, bytes)),
+            Options::States(options) => Some(message_of(
+                alloc,
+                Reading::Shown(options.lend.lending()),
+                bytes,
+            )),
+            _ => None,
+        }
+    }
+}
