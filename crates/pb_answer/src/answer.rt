@@ -68,7 +68,7 @@ fn answer_command<I: Input, O: Output, R: Threads + Wait + Sync>(
 }
 
 /// Does what the options say, by the tool that has their command.
-fn by_tool<R, C: Commands<R>, I: Input, O: Output>(
+fn by_tool<R: Threads + Wait + Sync, C: Commands, I: Input, O: Output>(
     commands: &C,
     rt: &R,
     alloc: Global,

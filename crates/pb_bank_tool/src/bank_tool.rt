@@ -9,12 +9,14 @@ use pb_call::Commands;
 use pb_command_io::Status;
 use pb_words::Options;
 use std::alloc::Global;
+use std::sync::Wait;
+use std::thread::Threads;
 
 /// The tool of the command `bank`. It starts no threads, whatever its handle.
 #[derive(Clone, Copy, Debug)]
 pub struct BankTool;
 
-impl<R> Commands<R> for BankTool {
+impl Commands for BankTool {
     ghost tool = { Bank };
 
     ghost MaySay = { says };
@@ -23,7 +25,7 @@ impl<R> Commands<R> for BankTool {
 
     ghost TellsRefused = { λ o bytes told. ⊥ };
 
-    fn answer<I: Input, O: Output>(
+    fn answer<R: Threads + Wait + Sync, I: Input, O: Output>(
         &self,
         _rt: &R,
         alloc: Global,

@@ -10,10 +10,12 @@ use pb_base::{Input, Output};
 use pb_command_io::{Page, Status};
 use pb_words::{Tool, WordsFault, options, tool_of};
 use std::alloc::Global;
+use std::sync::Wait;
+use std::thread::Threads;
 
 /// Reads the words of a call, of which the first is the program's own name, and does what they say, if the tool
 /// answers their command; if another one does, that one is named, and the status is `Words`.
-pub fn answer<R, C: Commands<R>, I: Input, O: Output>(
+pub fn answer<R: Threads + Wait + Sync, C: Commands, I: Input, O: Output>(
     commands: &C,
     rt: &R,
     alloc: Global,

@@ -1,6 +1,7 @@
 //! What a tool does with its commands.
 
 ghost use Rattle.std.specs.Prelude.{◌≡◌, ◌≢◌, ℕ, List, Option as MaybeBytes, IfNone, IfOk, IfSome};
+ghost use Rattle.std.specs.Thread.{IsSync};
 ghost use Rattle.pb_command_io.specs.Answers.{Tells};
 ghost use Rattle.pb_command_io.specs.Faults.{TellsAnyFault};
 ghost use Rattle.pb_command_io.specs.declared.status.Status.{Status as AnyStatus};
@@ -13,10 +14,11 @@ use pb_base::{Input, NoMemory, Output};
 use pb_command_io::Status;
 use pb_words::Options;
 use std::alloc::Global;
+use std::sync::Wait;
+use std::thread::Threads;
 
-/// The commands of a tool. `R` is the handle that they are called with: commands that start threads or wait need one
-/// that allows it.
-pub trait Commands<R> {
+/// The commands of a tool.
+pub trait Commands {
     /// The tool.
     ghost tool: { AnyTool };
 
@@ -31,8 +33,8 @@ pub trait Commands<R> {
     ghost TellsRefused: { AnyOptions → (bytes told : List ℕ) → Type 0 };
 
     /// Does what the options say, and returns the status. If another tool answers the command, nothing is read or
-    /// written, and nothing is returned.
-    fn answer<I: Input, O: Output>(
+    /// written, and nothing is returned. Commands that start threads or wait do so by the handle.
+    fn answer<R: Threads + Wait + Sync, I: Input, O: Output>(
         &self,
         rt: &R,
         alloc: Global,
@@ -40,6 +42,7 @@ pub trait Commands<R> {
         input: &mut I,
         output: &mut O,
     ) -> Option<Status>
+        requires sync { IsSync R.row }
         ensures answered { IfSome result (λ _. tool_for options ≡ tool) }
         ensures text { IfSome result (λ status. IfSome (bytes_for options (I.rest input.old)) (λ bytes.
             Tells (MaySay options bytes) (O.written output.old) (O.written output.new) status)) }

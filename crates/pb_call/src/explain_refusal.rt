@@ -10,7 +10,7 @@ use std::alloc::Global;
 
 /// Writes what is wrong with the bytes that the command of these words refused, and where, if there is
 /// anything to be said of them and memory for it.
-pub fn explain_refusal<R, C: Commands<R>, E: Output>(
+pub fn explain_refusal<C: Commands, E: Output>(
     commands: &C,
     alloc: Global,
     words: &[&str],

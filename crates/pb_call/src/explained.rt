@@ -14,12 +14,14 @@ use pb_base::{Input, Output};
 use pb_command_io::Status;
 use pb_json_lines::LiveOutput;
 use std::alloc::Global;
+use std::sync::Wait;
+use std::thread::Threads;
 
 /// Does what the words of a call say, of which the first is the program's own name, and explains a refusal, how a
 /// limit is raised, or how it is seen where a process faulted, on standard error, unless the next word is `--quiet`. If
 /// `--json` is the next word, or the one behind `--quiet`, the answer is JSON lines, those of `debug` and `bank` as they
 /// come. Returns the status of the call.
-pub fn answer_and_explain<R, C: Commands<R>, I: Input, O: Output, E: Output>(
+pub fn answer_and_explain<R: Threads + Wait + Sync, C: Commands, I: Input, O: Output, E: Output>(
     commands: &C,
     rt: &R,
     alloc: Global,
@@ -63,7 +65,7 @@ pub fn answer_and_explain<R, C: Commands<R>, I: Input, O: Output, E: Output>(
 }
 
 /// Answers a call, as it is or in JSON lines.
-fn answer_as<R, C: Commands<R>, I: Input, O: Output>(
+fn answer_as<R: Threads + Wait + Sync, C: Commands, I: Input, O: Output>(
     commands: &C,
     rt: &R,
     alloc: Global,

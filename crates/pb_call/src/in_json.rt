@@ -11,10 +11,12 @@ use pb_base::{Input, Output};
 use pb_command_io::Status;
 use pb_json_lines::{Dialect, Gathered, LiveOutput, comes_live, dialect_of, tell_json};
 use std::alloc::Global;
+use std::sync::Wait;
+use std::thread::Threads;
 
 /// Does what the words of a call say, and writes the JSON lines of its answer in the forms of its command: those of
 /// `debug` and `bank` as they come, and those of any other command once it has come to its end.
-pub(crate) fn answer_in_json<R, C: Commands<R>, I: Input, O: Output>(
+pub(crate) fn answer_in_json<R: Threads + Wait + Sync, C: Commands, I: Input, O: Output>(
     commands: &C,
     rt: &R,
     alloc: Global,
@@ -34,7 +36,7 @@ pub(crate) fn answer_in_json<R, C: Commands<R>, I: Input, O: Output>(
 }
 
 /// Does what the words of a call say, and writes the JSON lines of its answer as they come.
-fn answer_live<R, C: Commands<R>, I: Input, O: Output>(
+fn answer_live<R: Threads + Wait + Sync, C: Commands, I: Input, O: Output>(
     commands: &C,
     rt: &R,
     alloc: Global,
@@ -52,7 +54,7 @@ fn answer_live<R, C: Commands<R>, I: Input, O: Output>(
 }
 
 /// Does what the words of a call say, and writes the JSON lines of its answer once it has come to its end.
-fn answer_at_the_end<R, C: Commands<R>, I: Input, O: Output>(
+fn answer_at_the_end<R: Threads + Wait + Sync, C: Commands, I: Input, O: Output>(
     commands: &C,
     rt: &R,
     alloc: Global,

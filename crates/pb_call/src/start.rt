@@ -11,9 +11,11 @@ use std::alloc::AllocError;
 use std::env;
 use std::io::ErrorKind;
 use std::process::ExitCode;
+use std::sync::Wait;
+use std::thread::Threads;
 
 /// Reads the words of the call, does what they say, and returns the number of the status.
-pub fn start<R: env::Env + AllocGlobal, C: Commands<R>>(
+pub fn start<R: env::Env + AllocGlobal + Threads + Wait + Sync, C: Commands>(
     commands: &C,
     rt: &R,
     input: StandardInput,
@@ -27,7 +29,7 @@ pub fn start<R: env::Env + AllocGlobal, C: Commands<R>>(
 }
 
 /// Reads the words of the call, and does what they say.
-fn answer_words<R: env::Env + AllocGlobal, C: Commands<R>>(
+fn answer_words<R: env::Env + AllocGlobal + Threads + Wait + Sync, C: Commands>(
     commands: &C,
     rt: &R,
     input: &mut KeptInput<StandardInput>,

@@ -15,12 +15,14 @@ use pb_messages::{Reading, live_message, message_of};
 use pb_options::DebugOptions;
 use pb_words::Options;
 use std::alloc::Global;
+use std::sync::Wait;
+use std::thread::Threads;
 
 /// The tool of the commands that go through a run that was recorded. It starts no threads, whatever its handle.
 #[derive(Clone, Copy, Debug)]
 pub struct DebugTool;
 
-impl<R> Commands<R> for DebugTool {
+impl Commands for DebugTool {
     ghost tool = { Debug };
 
     ghost MaySay = { says };
@@ -29,7 +31,7 @@ impl<R> Commands<R> for DebugTool {
 
     ghost TellsRefused = { tells_refused };
 
-    fn answer<I: Input, O: Output>(
+    fn answer<R: Threads + Wait + Sync, I: Input, O: Output>(
         &self,
         _rt: &R,
         alloc: Global,

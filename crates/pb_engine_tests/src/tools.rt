@@ -10,9 +10,11 @@ use pb_edit_tool::EditTool;
 use pb_run_tool::RunTool;
 use pb_search_tool::SearchTool;
 use pb_words::Tool;
+use std::sync::Wait;
+use std::thread::Threads;
 
 /// Returns whether a tool writes this of a command, with an empty input, and ends with this status.
-fn says<R: AllocGlobal, C: Commands<R>>(
+fn says<R: AllocGlobal + Threads + Wait + Sync, C: Commands>(
     commands: &C,
     rt: &R,
     command: &str,

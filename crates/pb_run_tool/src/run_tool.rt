@@ -24,7 +24,7 @@ use std::thread::Threads;
 #[derive(Clone, Copy, Debug)]
 pub struct RunTool;
 
-impl<R: Threads + Wait + Sync> Commands<R> for RunTool {
+impl Commands for RunTool {
     ghost tool = { Run };
 
     ghost MaySay = { says };
@@ -33,7 +33,7 @@ impl<R: Threads + Wait + Sync> Commands<R> for RunTool {
 
     ghost TellsRefused = { tells_refused };
 
-    fn answer<I: Input, O: Output>(
+    fn answer<R: Threads + Wait + Sync, I: Input, O: Output>(
         &self,
         rt: &R,
         alloc: Global,
@@ -61,17 +61,20 @@ impl<R: Threads + Wait + Sync> Commands<R> for RunTool {
         options: &Options,
         bytes: &[u8],
     ) -> Option<Result<Vec<u8>, NoMemory>> {
-        let reading = match options {
-            Options::Check(_) => Reading::Texts,
-            Options::Claims => Reading::Claims,
-            Options::Emit(numbers) => reading_of(numbers.object),
-            Options::Exec(_) | Options::Migrate => Reading::Object,
-            Options::Record(_) => Reading::Recorded,
-            Options::Replay(options) => Reading::Replayed(options.lend.lending()),
-            Options::Run(_) => Reading::Text,
-            _ => return None,
-        };
-        Some(message_of(alloc, reading, bytes))
+        match options {
+            Options::Check(_) => Some(message_of(alloc, Reading::Texts, bytes)),
+            Options::Claims => Some(message_of(alloc, Reading::Claims, bytes)),
+            Options::Emit(numbers) => Some(message_of(alloc, reading_of(numbers.object), bytes)),
+            Options::Exec(_) | Options::Migrate => Some(message_of(alloc, Reading::Object, bytes)),
+            Options::Record(_) => Some(message_of(alloc, Reading::Recorded, bytes)),
+            Options::Replay(options) => Some(message_of(
+                alloc,
+                Reading::Replayed(options.lend.lending()),
+                bytes,
+            )),
+            Options::Run(_) => Some(message_of(alloc, Reading::Text, bytes)),
+            _ => None,
+        }
     }
 }
 

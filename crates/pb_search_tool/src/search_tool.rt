@@ -14,12 +14,14 @@ use pb_messages::{Reading, message_of};
 use pb_search_engine::outcomes_engine;
 use pb_words::Options;
 use std::alloc::Global;
+use std::sync::Wait;
+use std::thread::Threads;
 
 /// The tool of the commands about all runs of a program. It starts no threads, whatever its handle.
 #[derive(Clone, Copy, Debug)]
 pub struct SearchTool;
 
-impl<R> Commands<R> for SearchTool {
+impl Commands for SearchTool {
     ghost tool = { Search };
 
     ghost MaySay = { says };
@@ -28,7 +30,7 @@ impl<R> Commands<R> for SearchTool {
 
     ghost TellsRefused = { tells_refused };
 
-    fn answer<I: Input, O: Output>(
+    fn answer<R: Threads + Wait + Sync, I: Input, O: Output>(
         &self,
         _rt: &R,
         alloc: Global,
