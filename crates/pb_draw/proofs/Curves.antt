@@ -3,7 +3,7 @@ use Rattle.std.proofs.Common.{◌≡◌, ◌⊎◌, ℕ, zero, suc, ◌+◌, ◌
 use Rattle.std.proofs.Common.{sym, ap, ◌∙◌, subst, inl, inr, arith, length, get_or}
 use Rattle.std.specs.Prelude.{nat_le}
 use Rattle.std.proofs.lemmas.Bool.{le-leb, lt-leb, leb-true, leb-false}
-use Rattle.pb_draw.specs.Curves.{IsCurveOf, NoneBehind, shown_at}
+use Rattle.pb_draw.specs.Curves.{AreChanges, AreRising, IsCurveOf, NoneBehind, shown_at}
 
 last_or_before : (i n : ℕ) → i ≤ n + 1 → (i ≤ n) ⊎ (i ≡ n + 1)
 last_or_before i n within = go (nat_le i n) refl
@@ -41,10 +41,27 @@ module _ {S V : Type 0} (at : S → ℕ) (value : S → V) where
   none_behind_more [] s n early le = (le, tt)
   none_behind_more (t ∷ steps) s n early le = (early.0, none_behind_more steps s n early.1 le)
 
+  -- a step behind all others
+  rising_more : (steps : List S) (s : S) (n : ℕ) → NoneBehind at n steps → n < at s → AreRising at steps → AreRising at (steps ++ s ∷ [])
+  rising_more [] s n early less rising = tt
+  rising_more (t ∷ []) s n early less rising = (let first : at t ≤ n = early.0 in omega (arith, first, less), tt)
+  rising_more (t ∷ u ∷ steps) s n early less rising = (rising.0, rising_more (u ∷ steps) s n early.1 less rising.1)
+
+  -- one that shows something else
+  changing_more : (AreAlike : V → V → Type 0) (v : V) (steps : List S) (s : S) (n : ℕ) → NoneBehind at n steps
+      → (AreAlike (shown_at at value v steps n) (value s) → ⊥) → AreChanges value AreAlike steps → AreChanges value AreAlike (steps ++ s ∷ [])
+  changing_more AreAlike v [] s n early other changes = tt
+  changing_more AreAlike v (t ∷ []) s n early other changes =
+      let first : at t ≤ n = early.0 in
+      let shown : cond (nat_le (at t) n) (value t) v ≡ value t = ap (λ (b : Bool). cond b (value t) v) (le-leb (at t) n first) in
+      (subst (λ (x : V). AreAlike x (value s) → ⊥) shown other, tt)
+  changing_more AreAlike v (t ∷ u ∷ steps) s n early other changes =
+      (changes.0, changing_more AreAlike (cond (nat_le (at t) n) (value t) v) (u ∷ steps) s n early.1 other changes.1)
+
   -- a position more, for which what is shown is right as well
-  pub curve_stays : (v : V) (IsSo : ℕ → V → Type 0) (n : ℕ) (steps : List S) → IsCurveOf at value v IsSo n steps
-      → IsSo (n + 1) (shown_at at value v steps n) → IsCurveOf at value v IsSo (n + 1) steps
-  curve_stays v IsSo n steps c same = record {
+  pub curve_stays : (v : V) (AreAlike : V → V → Type 0) (IsSo : ℕ → V → Type 0) (n : ℕ) (steps : List S) → IsCurveOf at value v AreAlike IsSo n steps
+      → IsSo (n + 1) (shown_at at value v steps n) → IsCurveOf at value v AreAlike IsSo (n + 1) steps
+  curve_stays v AreAlike IsSo n steps c same = record {
     shows = λ i within. elim (last_or_before i n within) [
       | inl before ↦ c.shows i before
       | inr last ↦
@@ -52,6 +69,8 @@ module _ {S V : Type 0} (at : S → ℕ) (value : S → V) where
           (subst (λ (x : V). IsSo (n + 1) x) (sym (shown_later v steps n (n + 1) c.early (omega arith))) same)
     ];
     early = none_behind_later steps n (n + 1) (omega arith) c.early;
+    rising = c.rising;
+    changes = c.changes;
   }
 
   -- one more step decides what is shown at its position
@@ -61,9 +80,9 @@ module _ {S V : Type 0} (at : S → ℕ) (value : S → V) where
       shown_more v steps s n ∙ ap (λ (b : Bool). cond b (value s) (shown_at at value v steps n)) (le-leb (at s) n le)
 
   -- and one at which it changes
-  pub curve_changes : (v : V) (IsSo : ℕ → V → Type 0) (n : ℕ) (steps : List S) (s : S) → IsCurveOf at value v IsSo n steps
-      → at s ≡ n + 1 → IsSo (n + 1) (value s) → IsCurveOf at value v IsSo (n + 1) (steps ++ s ∷ [])
-  curve_changes v IsSo n steps s c here is = record {
+  pub curve_changes : (v : V) (AreAlike : V → V → Type 0) (IsSo : ℕ → V → Type 0) (n : ℕ) (steps : List S) (s : S) → IsCurveOf at value v AreAlike IsSo n steps
+      → at s ≡ n + 1 → IsSo (n + 1) (value s) → (AreAlike (shown_at at value v steps n) (value s) → ⊥) → IsCurveOf at value v AreAlike IsSo (n + 1) (steps ++ s ∷ [])
+  curve_changes v AreAlike IsSo n steps s c here is other = record {
     shows = λ i within. elim (last_or_before i n within) [
       | inl before ↦
           let later : n < at s = omega (arith, here) in
@@ -76,22 +95,25 @@ module _ {S V : Type 0} (at : S → ℕ) (value : S → V) where
           (subst (λ (x : V). IsSo (n + 1) x) (sym (shown_last v steps s (n + 1) here)) is)
     ];
     early = none_behind_more steps s (n + 1) (none_behind_later steps n (n + 1) (omega arith) c.early) (omega (arith, here));
+    rising = rising_more steps s n c.early (omega (arith, here)) c.rising;
+    changes = changing_more AreAlike v steps s n c.early other c.changes;
   }
 
   -- the same, of a position that is counted from the one behind it
-  pub curve_stays_at : (v : V) (IsSo : ℕ → V → Type 0) (n : ℕ) (steps : List S) → 0 < n → IsCurveOf at value v IsSo (n - 1) steps
-      → IsSo n (shown_at at value v steps (n - 1)) → IsCurveOf at value v IsSo n steps
-  curve_stays_at v IsSo n steps some c same =
+  pub curve_stays_at : (v : V) (AreAlike : V → V → Type 0) (IsSo : ℕ → V → Type 0) (n : ℕ) (steps : List S) → 0 < n → IsCurveOf at value v AreAlike IsSo (n - 1) steps
+      → IsSo n (shown_at at value v steps (n - 1)) → IsCurveOf at value v AreAlike IsSo n steps
+  curve_stays_at v AreAlike IsSo n steps some c same =
       let e : n - 1 + 1 ≡ n = omega (arith, some) in
-      subst (λ (k : ℕ). IsCurveOf at value v IsSo k steps) e
-      (curve_stays v IsSo (n - 1) steps c (subst (λ (k : ℕ). IsSo k (shown_at at value v steps (n - 1))) (sym e) same))
+      subst (λ (k : ℕ). IsCurveOf at value v AreAlike IsSo k steps) e
+      (curve_stays v AreAlike IsSo (n - 1) steps c (subst (λ (k : ℕ). IsSo k (shown_at at value v steps (n - 1))) (sym e) same))
 
-  pub curve_changes_at : (v : V) (IsSo : ℕ → V → Type 0) (n : ℕ) (steps : List S) (s : S) → 0 < n
-      → IsCurveOf at value v IsSo (n - 1) steps → at s ≡ n → IsSo n (value s) → IsCurveOf at value v IsSo n (steps ++ s ∷ [])
-  curve_changes_at v IsSo n steps s some c here is =
+  pub curve_changes_at : (v : V) (AreAlike : V → V → Type 0) (IsSo : ℕ → V → Type 0) (n : ℕ) (steps : List S) (s : S) → 0 < n
+      → IsCurveOf at value v AreAlike IsSo (n - 1) steps → at s ≡ n → IsSo n (value s)
+      → (AreAlike (shown_at at value v steps (n - 1)) (value s) → ⊥) → IsCurveOf at value v AreAlike IsSo n (steps ++ s ∷ [])
+  curve_changes_at v AreAlike IsSo n steps s some c here is other =
       let e : n - 1 + 1 ≡ n = omega (arith, some) in
-      subst (λ (k : ℕ). IsCurveOf at value v IsSo k (steps ++ s ∷ [])) e
-      (curve_changes v IsSo (n - 1) steps s c (here ∙ sym e) (subst (λ (k : ℕ). IsSo k (value s)) (sym e) is))
+      subst (λ (k : ℕ). IsCurveOf at value v AreAlike IsSo k (steps ++ s ∷ [])) e
+      (curve_changes v AreAlike IsSo (n - 1) steps s c (here ∙ sym e) (subst (λ (k : ℕ). IsSo k (value s)) (sym e) is) other)
 
   -- behind all its steps a curve shows what the last of them says
   pub shown_at_end : (v : V) (steps : List S) (k : ℕ) (s : S) (n : ℕ) → k + 1 ≡ length steps → s ≡ get_or steps k s

@@ -6,7 +6,6 @@ use Rattle.pb_code.specs.Code.{CodeProcess, Instr, ProcessCode, Thread, Idle, Li
 use Rattle.pb_code.specs.Code.{Push, Load, Store, Compute1, Compute2, Jump, JumpIfZero, PrintTop, Take, Give, Fork, Join, End}
 use Rattle.pb_code.specs.Whole.{Code}
 use Rattle.pb_history.specs.Positions.{state_after}
-use Rattle.pb_draw.specs.declared.assignments.TheConstants.{MAX_ASSIGNMENTS}
 
 -- the integer to which an instruction assigns, if it does
 abbrev pub stored_by : Instr → Option ℕ
@@ -48,6 +47,6 @@ abbrev pub assignments : Code → List Pick → (n : ℕ) → ℕ
 assignments code picks zero = 0
 assignments code picks (suc n) = assignments code picks n + cond (is_some (stored_before code picks n)) 1 0
 
--- whether assignments are drawn, by how many there are
+-- whether assignments are drawn: if there are 100 at most
 abbrev pub are_drawn : ℕ → Bool
-are_drawn n = nat_le n MAX_ASSIGNMENTS
+are_drawn n = nat_le n 100

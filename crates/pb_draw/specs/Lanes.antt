@@ -38,9 +38,19 @@ IsStanding lending code s arm (KeptBack rest) =
 abbrev pub IsStandingAfter : Lending → Code → List Pick → (arm : Pick) → (i : ℕ) → Standing → Type 0
 IsStandingAfter lending code picks arm i = IsStanding lending code (state_after code picks i) arm
 
+-- both say the same of an arm
+abbrev pub AreAlike : Standing → Standing → Type 0
+AreAlike Away b = b ≡ Away
+AreAlike Going b = b ≡ Going
+AreAlike Short b = b ≡ Short
+AreAlike (KeptBack rest) Away = ⊥
+AreAlike (KeptBack rest) Going = ⊥
+AreAlike (KeptBack rest) Short = ⊥
+AreAlike (KeptBack rest) (KeptBack others) = rest.items ≡ others.items
+
 -- up to position n a lane shows such standings
 abbrev pub ShowsStandings : (ℕ → Standing → Type 0) → (n : ℕ) → List LaneStep → Type 0
-ShowsStandings Stands n steps = IsCurveOf (λ s. s.at) (λ s. s.standing) Away Stands n steps
+ShowsStandings Stands n steps = IsCurveOf (λ s. s.at) (λ s. s.standing) Away AreAlike Stands n steps
 
 -- a lane shows the state of its arm after each first part of the picks
 abbrev pub IsLane : Lending → Code → List Pick → Lane → Type 0
@@ -56,13 +66,3 @@ IsAsking lending s p bundle Going = IsLent lending s p bundle
 IsAsking lending s p bundle Short = IsWithinCash s bundle → ⊥
 IsAsking lending s p bundle (KeptBack rest) =
     IsWithinCash s bundle × (IsLent lending s p bundle → ⊥) × IsLargestStuck (with_loan s p bundle) rest.items
-
--- both say the same of an arm
-abbrev pub AreAlike : Standing → Standing → Type 0
-AreAlike Away b = b ≡ Away
-AreAlike Going b = b ≡ Going
-AreAlike Short b = b ≡ Short
-AreAlike (KeptBack rest) Away = ⊥
-AreAlike (KeptBack rest) Going = ⊥
-AreAlike (KeptBack rest) Short = ⊥
-AreAlike (KeptBack rest) (KeptBack others) = rest.items ≡ others.items
