@@ -11,7 +11,7 @@ use Rattle.pb_draw_picture.specs.declared.picture.Rect.{Rect}
 use Rattle.pb_draw_picture.specs.declared.picture.RectKind.TheVariants as line
 use Rattle.pb_draw_picture.specs.Places.{Places, end_of}
 use Rattle.pb_draw_picture.specs.Shapes.{Text, if_wide, rect_to}
-use Rattle.pb_draw_picture.specs.declared.sizes.TheConstants.{AGAIN, AGAIN_UP, MARGIN, TRACK}
+use Rattle.pb_draw_picture.specs.declared.sizes.TheConstants.{AGAIN_UP, MARGIN, TRACK}
 
 abbrev pub is_live : Standing → Bool
 is_live Away = false
@@ -23,11 +23,11 @@ is_live (KeptBack rest) = true
 abbrev pub is_ever_live : Lane → Bool
 is_ever_live lane = list_any (λ s. is_live s.standing) lane.steps.items
 
--- the line of an arm in a state: none unless it is live, and none here while the banker keeps something back (Waits.antt)
+-- the line of an arm in a state, 8 pixels high: none unless it is live, and none here while the banker keeps something back (Waits.antt)
 abbrev pub line_in : Standing → (x to y : ℕ) → List Rect
 line_in Away x to y = []
-line_in Going x to y = if_wide (rect_to line.Going x to y TRACK)
-line_in Short x to y = if_wide (rect_to line.Short x to y TRACK)
+line_in Going x to y = if_wide (rect_to line.Going x to y 8)
+line_in Short x to y = if_wide (rect_to line.Short x to y 8)
 line_in (KeptBack rest) x to y = []
 
 -- where the first of some steps is, if there is one
@@ -53,7 +53,7 @@ name_of_lane names places lane =
 -- its name once more, above it, at place k: the places are 800 pixels apart
 abbrev pub name_again : NameTable → Places → Lane → (k : ℕ) → Text
 name_again names places lane k =
-    record { kind = Again; x = k * AGAIN; y = places.line lane.pick - AGAIN_UP; text = pick_text names lane.pick }
+    record { kind = Again; x = k * 800; y = places.line lane.pick - AGAIN_UP; text = pick_text names lane.pick }
 
 -- the same at the first n places behind the start
 abbrev pub names_again : NameTable → Places → Lane → (n : ℕ) → List Text
@@ -64,7 +64,7 @@ names_again names places lane (suc n) = names_again names places lane n ++ name_
 -- of the run ends
 abbrev pub names_of_lane : NameTable → Places → Lane → List Text
 names_of_lane names places lane =
-    cond (is_ever_live lane) (name_of_lane names places lane ∷ names_again names places lane (places.right / AGAIN)) []
+    cond (is_ever_live lane) (name_of_lane names places lane ∷ names_again names places lane (places.right / 800)) []
 
 abbrev pub lane_names : NameTable → Places → List Lane → List Text
 lane_names names places lanes = flat_map (names_of_lane names places) lanes

@@ -12,13 +12,13 @@ use Rattle.pb_draw_picture.specs.Lanes.{next_of}
 use Rattle.pb_draw_picture.specs.Places.{Places, end_of}
 use Rattle.pb_draw_picture.specs.Shapes.{Stretch, rect_to}
 use Rattle.pb_draw_picture.specs.Texts.{kept_text, room_text}
-use Rattle.pb_draw_picture.specs.declared.sizes.TheConstants.{TRACK, WAIT_UP}
+use Rattle.pb_draw_picture.specs.declared.sizes.TheConstants.{WAIT_UP}
 
 -- the line of an arm that is kept back from one place to another, since these could not finish: there is room for
 -- their names up to a third place
 abbrev pub wait_at : NameTable → Pick → (x to free y : ℕ) → (rest : List ℕ) → Stretch
 wait_at names arm x to free y rest = record {
-  rect = rect_to line.KeptBack x to y TRACK;
+  rect = rect_to line.KeptBack x to y 8;
   title = kept_text names arm rest;
   label = room_text names (free - x) rest;
   label_x = x;

@@ -1,6 +1,8 @@
 //! Time, from left to right.
 
 ghost use Rattle.std.specs.Prelude.{◌≡◌, ◌≤◌, ◌<◌, ◌+◌, ◌-◌, ◌*◌, ◌^◌, IfOk};
+ghost use Rattle.pb_base.specs.Lines.{names_view};
+ghost use Rattle.pb_code.specs.View.{labels_view};
 ghost use Rattle.pb_draw_picture.specs.Axis as spec;
 
 use crate::captions::{caption_of, number_text};
@@ -55,6 +57,7 @@ impl Knot {
 
 /// Returns how wide the pick of an event is.
 fn width_of(alloc: Global, names: &Names, labels: &Labels, mark: &Mark) -> Result<u64, NoMemory>
+    ensures width { IfOk result (λ width. width ≡ spec.width_of (names_view names.now) (labels_view labels.now) mark.now) }
     ensures wide { IfOk result (λ width. SIDE ≤ width) }
     ensures narrow { IfOk result (λ width. width ≤ 900) }
 {
@@ -71,6 +74,7 @@ fn knot_to(start: Start, next: u64) -> Knot
     ensures position { result.position ≡ start.position }
     ensures x { result.x ≡ start.x }
     ensures width { result.width ≡ start.width }
+    ensures silent { result.silent ≡ next - start.position - 1 }
     ensures near { result.x + result.width + 90 ≤ 1000 + 1000 * next }
 {
     Knot {
@@ -89,6 +93,7 @@ fn start_at(knot: &Knot, position: u64, width: u64) -> Start
     requires narrow { width ≤ 900 }
     ensures position { result.position ≡ position }
     ensures x { result.x ≡ knot.now.x + knot.now.width + spec.squeezed knot.now.silent knot.now.silent }
+    ensures width { result.width ≡ width }
 {
     Start {
         position,
@@ -100,7 +105,9 @@ fn start_at(knot: &Knot, position: u64, width: u64) -> Start
 /// Returns the start of a run, at the left of its time.
 fn first_start(left: u64) -> Start
     requires { left ≤ 1000 }
-    ensures { result.position ≡ 0 }
+    ensures position { result.position ≡ 0 }
+    ensures x { result.x ≡ left }
+    ensures width { result.width ≡ 48 }
 {
     Start {
         position: 0,
@@ -120,6 +127,7 @@ pub(crate) fn axis_of(
     left: u64,
 ) -> Result<Vec<Knot>, NoMemory>
     requires { left ≤ 1000 }
+    ensures knots { IfOk result (λ knots. spec.AreKnots (names_view names.now) (labels_view labels.now) picks left marks.now knots.items) }
     ensures chain { IfOk result (λ knots. spec.IsChain knots.items) }
     ensures axis { IfOk result (λ knots. spec.IsAxis marks.now (spec.x_at knots.items)) }
 {

@@ -1,7 +1,10 @@
 //! Where things are in a picture.
 
 ghost use Rattle.std.specs.Prelude.{◌≡◌, ◌≤◌, ◌+◌, ◌^◌, IfOk, length, map};
-ghost use Rattle.pb_draw_picture.specs.Axis.{IsAxis, IsChain};
+ghost use Rattle.pb_base.specs.Lines.{names_view};
+ghost use Rattle.pb_code.specs.View.{labels_view};
+ghost use Rattle.pb_draw_picture.specs.Axis.{AreKnots, IsAxis, IsChain};
+ghost use Rattle.pb_draw_picture.specs.Axis as axis;
 ghost use Rattle.pb_draw_picture.specs.Places as spec;
 ghost use Rattle.pb_draw.specs.Arms.{AreDifferent};
 ghost use Rattle.pb_draw_picture.specs.Rows.{AreStacked, AreWithin};
@@ -85,7 +88,9 @@ impl Grid {
 }
 
 /// Returns how many characters the longest of some names has.
-fn longest(names: &[Vec<u8>]) -> u64 {
+fn longest(names: &[Vec<u8>]) -> u64
+    ensures { result ≡ axis.longest (map (λ name. name.items) names.now) }
+{
     let mut most: u64 = 0;
     for name in names {
         most = most.max(name.len() as u64);
@@ -95,7 +100,8 @@ fn longest(names: &[Vec<u8>]) -> u64 {
 
 /// Returns where time begins, to the right of all names.
 fn left_of(names: &Names) -> u64
-    ensures { result ≤ 1000 }
+    ensures x { result ≡ axis.left_of (names_view names.now) }
+    ensures near { result ≤ 1000 }
 {
     let characters = longest(&names.processes).max(longest(&names.resources));
     characters.min(MAX_NAME) * CHARACTER + NAME_SIDE
@@ -108,6 +114,8 @@ pub(crate) fn grid_of(
     labels: &Labels,
     drawing: &Drawing,
 ) -> Result<Grid, NoMemory>
+    ensures knots { IfOk result (λ grid. AreKnots (names_view names.now) (labels_view labels.now) drawing.now.picks
+        (axis.left_of (names_view names.now)) drawing.now.marks.items grid.knots.items) }
     ensures chain { IfOk result (λ grid. IsChain grid.knots.items) }
     ensures axis { IfOk result (λ grid. IsAxis drawing.now.marks.items (spec.places_of grid).x) }
     ensures end { IfOk result (λ grid. grid.end ≡ drawing.now.picks + 1) }

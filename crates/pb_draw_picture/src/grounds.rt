@@ -27,23 +27,31 @@ pub(crate) const MARK_NOTE: &[u8] =
 
 pub(crate) const DEADLOCK_NOTE: &[u8] = b"deadlock: no arm can go on";
 
+/// Adds the ground of the stretch behind an event, if it is shortened.
+fn add_gap(rects: &mut Vec<Rect>, knot: &Knot, bottom: u64) -> Result<(), NoMemory>
+    ensures { OnOk result (rects.new.items ≡ rects.old.items ++ spec.gap_if_shortened bottom knot.now) }
+{
+    if knot.silent > MAX_SILENT {
+        let height = bottom.saturating_sub(GAP_TOP);
+        rects.push(rect_to(RectKind::Gap, knot.silent_x(), knot.end(), GAP_TOP, height))?;
+    }
+    Ok(())
+}
+
 /// Returns the grounds of the stretches that are shortened.
 pub(crate) fn gaps_of(alloc: Global, knots: &[Knot], bottom: u64) -> Result<Vec<Rect>, NoMemory>
-    ensures { IfOk result (λ rects. spec.AreGaps rects.items) }
+    ensures { IfOk result (λ rects. rects.items ≡ spec.gaps bottom knots.now) }
 {
     let mut rects = Vec::new(alloc);
-    let height = bottom.saturating_sub(GAP_TOP);
-    for knot in knots {
-        if knot.silent > MAX_SILENT {
-            rects.push(rect_to(RectKind::Gap, knot.silent_x(), knot.end(), GAP_TOP, height))?;
-        }
+    for i in 0..knots.len() {
+        add_gap(&mut rects, &knots[i], bottom)?;
     }
     Ok(rects)
 }
 
 /// Returns how many silent picks a stretch has.
 fn silent_at(alloc: Global, knot: &Knot) -> Result<Label, NoMemory>
-    ensures { IfOk result (λ l. l.kind ≡ LabelKind.Silent) }
+    ensures { IfOk result (λ l. text_of l ≡ spec.silent_at knot.now) }
 {
     let text = number_text(alloc, knot.silent, b" silent")?;
     Ok(Label {
@@ -54,16 +62,24 @@ fn silent_at(alloc: Global, knot: &Knot) -> Result<Label, NoMemory>
     })
 }
 
+/// Adds how many silent picks the stretch behind an event has, if it is shortened.
+fn add_silent(alloc: Global, knot: &Knot, labels: &mut Vec<Label>) -> Result<(), NoMemory>
+    ensures { OnOk result (map text_of labels.new.items ≡ map text_of labels.old.items ++ spec.silent_if_shortened knot.now) }
+{
+    if knot.silent > MAX_SILENT {
+        let silent = silent_at(alloc, knot)?;
+        labels.push(silent)?;
+    }
+    Ok(())
+}
+
 /// Returns how many silent picks each of these stretches has.
 pub(crate) fn silents_of(alloc: Global, knots: &[Knot]) -> Result<Vec<Label>, NoMemory>
-    ensures { IfOk result (λ labels. spec.AreSilents (map text_of labels.items)) }
+    ensures { IfOk result (λ labels. map text_of labels.items ≡ spec.silents knots.now) }
 {
     let mut labels = Vec::new(alloc);
-    for knot in knots {
-        if knot.silent > MAX_SILENT {
-            let silent = silent_at(alloc, knot)?;
-            labels.push(silent)?;
-        }
+    for i in 0..knots.len() {
+        add_silent(alloc, &knots[i], &mut labels)?;
     }
     Ok(labels)
 }
@@ -78,6 +94,34 @@ fn note_at(alloc: Global, kind: LabelKind, y: u64, text: &[u8]) -> Result<Label,
         y,
         text: Vec::from_slice(alloc, text)?,
     })
+}
+
+/// Returns what is said of time.
+fn time_note() -> &'static [u8]
+    ensures { result.now ≡ spec.time_note }
+{
+    NOTE
+}
+
+/// Returns what is said of lines.
+fn line_note() -> &'static [u8]
+    ensures { result.now ≡ spec.line_note }
+{
+    LINE_NOTE
+}
+
+/// Returns what is said of bars and marks.
+fn mark_note() -> &'static [u8]
+    ensures { result.now ≡ spec.mark_note }
+{
+    MARK_NOTE
+}
+
+/// Returns what is said of a run that ends in a deadlock.
+fn deadlock_note() -> &'static [u8]
+    ensures { result.now ≡ spec.deadlock_note }
+{
+    DEADLOCK_NOTE
 }
 
 /// Adds that a run ends in a deadlock, if it does.
@@ -95,7 +139,7 @@ fn add_deadlock(
             alloc,
             LabelKind::Deadlock,
             foot + DEADLOCK_DOWN,
-            DEADLOCK_NOTE,
+            deadlock_note(),
         )?;
         labels.push(note)?;
     }
@@ -112,8 +156,8 @@ pub(crate) fn add_notes(
     requires { foot ≤ 2 ^ 63 }
     ensures { OnOk result (map text_of labels.new.items ≡ map text_of labels.old.items ++ spec.notes foot deadlock) }
 {
-    labels.push(note_at(alloc, LabelKind::Note, foot + NOTE_DOWN, NOTE)?)?;
-    labels.push(note_at(alloc, LabelKind::Note, foot + LINE_NOTE_DOWN, LINE_NOTE)?)?;
-    labels.push(note_at(alloc, LabelKind::Note, foot + MARK_NOTE_DOWN, MARK_NOTE)?)?;
+    labels.push(note_at(alloc, LabelKind::Note, foot + NOTE_DOWN, time_note())?)?;
+    labels.push(note_at(alloc, LabelKind::Note, foot + LINE_NOTE_DOWN, line_note())?)?;
+    labels.push(note_at(alloc, LabelKind::Note, foot + MARK_NOTE_DOWN, mark_note())?)?;
     add_deadlock(alloc, foot, deadlock, labels)
 }

@@ -44,7 +44,7 @@ fn rects_of(
     requires chain { IsChain grid.now.knots.items }
     requires bottom { grid.now.bottom ≤ LOWEST }
     requires curves { length drawing.now.curves.items ≡ length capital.now }
-    ensures { IfOk result (λ rects. spec.AreRects capital.now drawing.now (places_of grid.now) rects.items) }
+    ensures { IfOk result (λ rects. spec.AreRects capital.now drawing.now (places_of grid.now) grid.now.knots.items rects.items) }
 {
     let foot = foot_of_all(grid, capital, drawing);
     let mut rects = gaps_of(alloc, &grid.knots, foot)?;
@@ -67,7 +67,7 @@ fn labels_of(
     requires bottom { grid.now.bottom ≤ LOWEST }
     requires curves { length drawing.now.curves.items ≡ length capital.now }
     ensures { IfOk result (λ labels.
-        spec.AreTexts (names_view names.now) capital.now drawing.now deadlock (places_of grid.now) (map text_of labels.items)) }
+        spec.AreTexts (names_view names.now) capital.now drawing.now deadlock (places_of grid.now) grid.now.knots.items (map text_of labels.items)) }
 {
     let mut labels = silents_of(alloc, &grid.knots)?;
     add_numbers(alloc, grid, &drawing.marks, &mut labels)?;

@@ -1,5 +1,7 @@
+use Rattle.std.proofs.Common.{◌≡◌, take}
 use Rattle.pb_draw_picture.specs.Grounds as spec
 use Rattle.pb_draw_picture.proofs.grounds.gaps_of.Given as goal
 
-abbrev pub invariant-loop-knot : goal.invariant-loop-knot
-invariant-loop-knot l = spec.AreGaps l.rects.items
+-- the grounds of the stretches so far
+abbrev pub invariant-loop-i : goal.invariant-loop-i
+invariant-loop-i l = l.rects.items ≡ spec.gaps l.fn.bottom (take l.i l.knots)

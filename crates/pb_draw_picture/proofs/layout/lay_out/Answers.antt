@@ -1,4 +1,4 @@
-use Rattle.std.proofs.Common.{◌≡◌, map, ap, sym, ◌∙◌, subst, arith}
+use Rattle.std.proofs.Common.{◌≡◌, map, ap, refl, sym, ◌∙◌, subst, arith}
 use Rattle.std.proofs.lemmas.Grind.{common_steps}
 use Rattle.pb_base.specs.Lines.{names_view}
 use Rattle.pb_code.specs.View.{labels_view}
@@ -20,6 +20,9 @@ returns c =
     c.in_ok-ticks.ensures ∙ ap (signs names labels places) c.deref-2.ensures.value in
     record {
       places = places_of c.in_ok-grid.grid;
+      knots = c.in_ok-grid.grid.knots.items;
+      events = c.in_ok-grid.ensures.knots;
+      at = refl;
       axis = c.in_ok-grid.ensures.axis;
       right = ap (x_at c.in_ok-grid.grid.knots.items) c.in_ok-grid.ensures.end;
       rows = c.in_ok-grid.ensures.rows;
