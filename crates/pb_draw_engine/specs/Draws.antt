@@ -26,7 +26,6 @@ use Rattle.pb_command_io.specs.declared.status.Status.{Status}
 use Rattle.pb_command_io.specs.declared.status.Status.TheVariants.{Limit, Memory, Refused}
 use Rattle.pb_history.specs.Entries.{Entry, picks_of}
 use Rattle.pb_options.specs.declared.options.DrawOptions.{DrawOptions}
-use Rattle.pb_draw_engine.specs.declared.draw.TheConstants.{MAX_PICTURE}
 
 -- how large these options ask a picture to be
 abbrev pub size_of : DrawOptions → Size
@@ -63,11 +62,11 @@ pub record IsDrawn (lending : Lending) (size : Size) (code : Code) (labels : Lis
 abbrev pub limit_text : List ℕ
 limit_text = line (codes "limit 8388608")
 
--- what is written of a picture with a status: the picture, with that status; or if it is longer than the limit, a line
--- that says so
+-- what is written of a picture with a status: the picture, with that status; or if it is longer than 8,388,608 bytes, a
+-- line that says so
 pub data Fits (picture : List ℕ) (ended : Status) : List ℕ → Status → Type 0 where
-  whole : length picture ≤ MAX_PICTURE → Fits picture ended picture ended
-  too_large : MAX_PICTURE < length picture → Fits picture ended limit_text Limit
+  whole : length picture ≤ 8388608 → Fits picture ended picture ended
+  too_large : 8388608 < length picture → Fits picture ended limit_text Limit
 
 -- what is said of a run that made these entries and led to this state: its picture, if that is not too large
 pub record IsShown (lending : Lending) (size : Size) (code : Code) (labels : List ProcessLabels) (entries : List Entry) (end : State CodeProcess)
