@@ -1,5 +1,5 @@
 -- What `outcomes --expect` says of an input, and with which status.
-use Rattle.std.specs.Prelude.{◌≡◌, ◌+◌, ℕ, Bool, true, false, List, [], ◌++◌, Some, codes, slice_get, ⊤}
+use Rattle.std.specs.Prelude.{◌≡◌, ℕ, Bool, true, false, List, [], ◌++◌, Some, codes, slice_get, ⊤}
 use Rattle.std.specs.Fmt.{decimal}
 use Rattle.pb_base.specs.Lines.{NameTable, line}
 use Rattle.pb_base.specs.declared.lending.Lending.{Lending}

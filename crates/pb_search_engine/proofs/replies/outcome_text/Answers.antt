@@ -1,4 +1,4 @@
-use Rattle.std.proofs.Common.{◌+◌, ◌++◌, ◌≤◌, ◌∙◌, ℕ, List, length, map, sym, ap, subst}
+use Rattle.std.proofs.Common.{◌++◌, ◌≤◌, ◌∙◌, ℕ, List, length, map, sym, ap, subst}
 use Rattle.std.specs.Prelude.{All}
 use Rattle.pb_base.specs.declared.limits.TheConstants.{MAX_PICKS}
 use Rattle.pb_base.specs.declared.pick.Pick.{Pick}
