@@ -43,6 +43,7 @@ QUICK = (
     "checks/example_tests.py",
     "checks/schedules.py",
     "checks/rooms.py",
+    "checks/wrong_bodies_apply.py",
 )
 # What these need beside the program, checks/README.md says.
 SLOW = (
