@@ -44,6 +44,7 @@ QUICK = (
     "checks/schedules.py",
     "checks/rooms.py",
     "checks/wrong_bodies_apply.py",
+    "checks/bodies_chosen.py",
 )
 # What these need beside the program, checks/README.md says.
 SLOW = (
