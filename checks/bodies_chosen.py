@@ -10,7 +10,7 @@ from __future__ import annotations
 from bodies import fault_of
 from calls import Tally
 from drawn_bodies import CHANGED, DRAWN, GROUPS, NEVER, Left, choose, fits, group_of
-from wrong_bodies import BY_A_NAME, LET_THROUGH, REFUSED, UNTRIED, kind_of
+from wrong_bodies import BY_A_NAME, LET_THROUGH, REFUSED, UNFIT, UNTRIED, kind_of
 
 SUMS = {f"crate_{number}": f"{number:x}" for number in range(25)}
 AS_THEY_ARE = {crate: {total} for crate, total in SUMS.items()}
@@ -36,7 +36,7 @@ TOLD = (
     ("refused, as it must be (only because a proof file names what the edit took away): x", BY_A_NAME),
     ("NOT REFUSED: the crate is still proved with this edit", LET_THROUGH),
     ("NOT TRIED: its check was killed, most likely for memory", UNTRIED),
-    ("BAD EDIT: the prover cannot read the edited text", UNTRIED),
+    ("BAD EDIT: the prover cannot read the edited text", UNFIT),
 )
 
 

@@ -33,10 +33,11 @@ from script.kept import take_libraries
 
 # What rt says of an edit, and how it begins to say each of what an edit can come to.
 TOLD = re.compile(r"rt: must-fail (\w+)/([\w.-]+)\.edit: (.*)")
-REFUSED, BY_A_NAME, LET_THROUGH, UNTRIED = "refused", "refused by a name only", "let through", "not tried"
+REFUSED, BY_A_NAME, LET_THROUGH = "refused", "refused by a name only", "let through"
+UNFIT, UNTRIED = "cannot be tried", "not tried"
 AS_IT_MUST = "refused, as it must be"
 NAME_IS_GONE = f"{AS_IT_MUST} (only because a proof file names"
-PROVED = "NOT REFUSED"
+BEGINS = {NAME_IS_GONE: BY_A_NAME, AS_IT_MUST: REFUSED, "NOT REFUSED": LET_THROUGH, "BAD EDIT": UNFIT}
 # How many seconds pass between two looks at whether a try has to end.
 LOOKS = 1.0
 Edits = dict[str, Path]
@@ -44,11 +45,7 @@ Edits = dict[str, Path]
 
 def kind_of(told: str) -> str:
     """Returns what an edit came to, by what rt says of it."""
-    if told.startswith(NAME_IS_GONE):
-        return BY_A_NAME
-    if told.startswith(AS_IT_MUST):
-        return REFUSED
-    return LET_THROUGH if told.startswith(PROVED) else UNTRIED
+    return next((kind for begin, kind in BEGINS.items() if told.startswith(begin)), UNTRIED)
 
 
 def copy_crates(to: Path, edits: Callable[[str], Edits] = edits_of) -> None:
@@ -109,17 +106,17 @@ def try_crate(crate: str, copy: Path, edits: Edits, is_over: Callable[[int], boo
             left.discard(name)
             kind = kind_of(told)
             counts[kind] += 1
-            said = f"refused{told.removeprefix(AS_IT_MUST)}" if kind == REFUSED else f"NOT REFUSED: {told}"
+            said = f"{kind}{told.removeprefix(AS_IT_MUST)}" if kind == REFUSED else f"{kind.upper()}: {told}"
             print(f"{crate}/{name}: {said}", flush=True)
     for name in sorted(left):
         counts[UNTRIED] += 1
-        print(f"{crate}/{name}: NOT REFUSED: it was not tried", flush=True)
+        print(f"{crate}/{name}: {UNTRIED.upper()}", flush=True)
     return counts
 
 
 def told_counts(counts: Counter[str]) -> str:
     """Returns how many came to what, in words."""
-    others = [f"{counts[kind]} {kind}" for kind in (BY_A_NAME, LET_THROUGH, UNTRIED) if counts[kind]]
+    others = [f"{counts[kind]} {kind}" for kind in (BY_A_NAME, LET_THROUGH, UNFIT, UNTRIED) if counts[kind]]
     return ", ".join([f"{counts[REFUSED]} refused", *others])
 
 
