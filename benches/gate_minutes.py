@@ -5,7 +5,7 @@
 
 Each second it reads the processor time of every rattle that the command has running, and takes crate and phase from
 the command line and folder of the process. What a process uses in its last second is missed; the total is exact.
-Below the table are the edits that took longest, in seconds of a processor.
+Below the table are the edits of must-fail/ that took longest, in seconds of a processor.
 
 A minute of a processor does more or less work as others use its host. So each 20 seconds it times a loop of its own,
 which is always the same, and prints the least, the median and the most of these times: compare runs by their medians.
@@ -124,4 +124,5 @@ def main(words):
     return ran.returncode
 
 
-sys.exit(main(sys.argv[1:]))
+if __name__ == "__main__":
+    sys.exit(main(sys.argv[1:]))

@@ -43,6 +43,8 @@ QUICK = (
     "checks/example_tests.py",
     "checks/schedules.py",
     "checks/rooms.py",
+    "checks/wrong_bodies_apply.py",
+    "checks/bodies_chosen.py",
 )
 # What these need beside the program, checks/README.md says.
 SLOW = (

@@ -15,7 +15,7 @@ TOP = Path(__file__).resolve().parent.parent
 sys.path.insert(0, str(TOP))
 sys.dont_write_bytecode = True
 from script.kept import KEPT_LIBRARIES, kept  # noqa: E402
-from wrong_bodies import crates  # noqa: E402
+from bodies import crates  # noqa: E402
 
 
 def main(words: list[str]) -> int:

@@ -271,7 +271,7 @@ fn outcomes_of_text<'a>(alloc: Global) -> Result<Command<'a>, AllocError>
     let fair = "Say at the end whether some run never ends in which no arm is passed over for ever";
     let outcomes = with_flag(alloc, outcomes, "fair", fair);
     let expect =
-        "Compare the prints of every run with the lines after the program and a line %%; --prints, --fair and --first-deadlock then change nothing";
+        "Compare the prints of every run with the lines after the program and a line %%; with --fair only fair runs count; --prints and --first-deadlock then change nothing";
     let outcomes = with_flag(alloc, outcomes, "expect", expect);
     let any_order = "With --expect: those lines may be printed in any order";
     let outcomes = with_flag(alloc, outcomes, "any-order", any_order);

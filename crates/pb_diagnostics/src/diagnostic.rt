@@ -14,7 +14,8 @@ use bumpalo::Bump;
 use pb_accept::{Cause, text_cause};
 use pb_base::NoMemory;
 use pb_codegen::{CompileFault, compile};
-use pb_message_wording::{Wording, text_wording};
+use pb_message_wording::text_wording;
+use pb_mistakes::Wording;
 use serde_json::{Value, json};
 use std::alloc::{AllocError, Global};
 

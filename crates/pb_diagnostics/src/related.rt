@@ -6,7 +6,7 @@ ghost use Rattle.serde_json.specs.Written.{has_float};
 
 use crate::range::range_at;
 use pb_base::NoMemory;
-use pb_message_wording::Spot;
+use pb_mistakes::Spot;
 use serde_json::{Value, json};
 use std::alloc::{AllocError, Global};
 

@@ -6,7 +6,7 @@ ghost use Rattle.pb_code.specs.View.{code_view};
 use pb_base::NoMemory;
 use pb_code::Code;
 use pb_message_excerpts::{line_end, place_of};
-use pb_message_wording::{Shown, Wording};
+use pb_mistakes::{Shown, Wording};
 use pb_picks::{PickFault, read_picks};
 use std::alloc::{AllocError, Global};
 use std::fmt::Write;

@@ -11,7 +11,7 @@ use pb_code::{Code, Instr};
 use pb_history::CountedPick;
 use pb_history::replay::replay_counted_by;
 use pb_machine::{Machine, Thread, ThreadState};
-use pb_message_wording::{Shown, Wording};
+use pb_mistakes::{Shown, Wording};
 use pb_picks::read_picks;
 use pb_verifier::Verified;
 use std::alloc::{AllocError, Global};

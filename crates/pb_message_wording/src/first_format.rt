@@ -1,10 +1,10 @@
 //! The wording of what the first format of objects cannot say.
 
-use crate::tokens::is_at;
-use crate::wording::Wording;
 use pb_base::NoMemory;
 use pb_base::limits::MAX_FIRST_PROCESSES;
 use pb_lexer::{Mark, Token, lex};
+use pb_mistakes::Wording;
+use pb_mistakes::tokens::is_at;
 use std::alloc::Global;
 
 /// Returns the wording of what the first format can't say of a text: its first process that is too many, or

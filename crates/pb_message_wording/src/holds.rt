@@ -1,10 +1,10 @@
 //! The wording of a claim over its capital: the holds that add up to it.
 
-use crate::tokens::{closes, is_at, opens, text_at};
-use crate::wording::{Shown, Wording};
 use pb_base::NoMemory;
 use pb_codegen::ClaimsFault;
 use pb_lexer::{Kind, Mark, Token};
+use pb_mistakes::tokens::{closes, is_at, opens, text_at};
+use pb_mistakes::{Shown, Wording};
 use std::alloc::{AllocError, Global};
 
 /// The most holds that are shown.

@@ -1,10 +1,10 @@
 //! The word that is meant in the place of one that is probably misspelt, for an edit.
 
-use crate::misspelt::{Misspelt, meant_name, misspelt_word};
-use crate::tokens::{text_at, token_at};
 use pb_base::NoMemory;
 use pb_codegen::CompileFault;
 use pb_lexer::{LexFault, Token, lex};
+use pb_message_syntax::misspelt::{Misspelt, meant_name, misspelt_word};
+use pb_mistakes::tokens::{text_at, token_at};
 use pb_names::NameFault;
 use pb_parser::ParseFault;
 use std::alloc::Global;

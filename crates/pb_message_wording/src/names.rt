@@ -1,14 +1,14 @@
 //! The wording of a fault of names.
 
-use crate::foreign::input_hint;
-use crate::misspelt::meant_name;
-use crate::tokens::{
-    closes, is_at, is_name, opens, process_before, process_name, text_at, token_at,
-};
-use crate::wording::{Told, Wording, telling};
 use pb_base::NoMemory;
 use pb_base::limits::{MAX_FORK, MAX_INTEGERS, MAX_PROCESSES, MAX_RESOURCES};
 use pb_lexer::{Mark, Token};
+use pb_message_syntax::misspelt::meant_name;
+use pb_mistakes::foreign::input_hint;
+use pb_mistakes::tokens::{
+    closes, is_at, is_name, opens, process_before, process_name, text_at, token_at,
+};
+use pb_mistakes::{Told, Wording, telling};
 use pb_names::{Kind as Limited, NameFault};
 use std::alloc::Global;
 

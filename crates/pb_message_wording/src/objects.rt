@@ -1,10 +1,10 @@
 //! The wording of a fault of an object.
 
-use crate::wording::{Shown, Wording};
 use pb_base::NoMemory;
 use pb_base::limits::{MAX_PLACES, MAX_PROCESSES};
 use pb_code::{Code, Instr, ProcessCode};
 use pb_message_excerpts::line_end;
+use pb_mistakes::{Shown, Wording};
 use pb_object::{ObjectFault, read_any};
 use pb_verifier::{VerifyFault, verify};
 use std::alloc::Global;

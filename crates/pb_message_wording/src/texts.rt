@@ -1,13 +1,13 @@
 //! The wording of a fault of a text.
 
-use crate::characters::bad_byte;
 use crate::holds::claims_wording;
 use crate::names::names_wording;
-use crate::syntax::parse_wording;
-use crate::wording::Wording;
 use pb_base::NoMemory;
 use pb_codegen::CompileFault;
 use pb_lexer::{LexFault, lex};
+use pb_message_syntax::characters::bad_byte;
+use pb_message_syntax::syntax::parse_wording;
+use pb_mistakes::Wording;
 use std::alloc::Global;
 
 /// Returns the wording of a fault of a text.

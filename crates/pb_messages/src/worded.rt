@@ -7,7 +7,7 @@ ghost use Rattle.pb_messages.specs.Messages.{IsMessage, IsShown, IsSummary, mess
 use pb_accept::Cause;
 use pb_base::NoMemory;
 use pb_message_excerpts::{place_of, show_place};
-use pb_message_wording::{Spot, Wording};
+use pb_mistakes::{Spot, Wording};
 use std::alloc::Global;
 
 /// Returns the message of a cause: its code, what is wrong in words, its place in the text, and details. A

@@ -34,7 +34,7 @@ use Rattle.pb_search_stages.specs.declared.print.Mode.{Mode}
 use Rattle.pb_search_stages.specs.declared.print.Print.{Print}
 use Rattle.pb_search_engine.specs.Expected.{AreWanted, IsFirstOther, IsWanted, printing}
 use Rattle.pb_search_engine.specs.PrintLines.{IsBadPrint, SpellsPrints}
-use Rattle.pb_search_engine.specs.SaysExpected.{IsPlain, SaysOfExpected, SaysOfLines, SaysOfRuns, TellsDeadlock, TellsOutcome, compared, no_prints, no_text}
+use Rattle.pb_search_engine.specs.SaysExpected.{IsPlain, IsPlainBy, SaysOfEndless, SaysOfExpected, SaysOfLines, SaysOfRuns, TellsDeadlock, TellsOutcome, compared, no_prints, no_text}
 use Rattle.pb_search_engine.specs.SaysExpected.{as_expected, deadlock, endless, long, many, outcome}
 use Rattle.pb_search_engine.specs.SaysOfAll.{SaysOfSearches, SaysOrDocument, SaysWhether}
 use Rattle.pb_search_engine.specs.Showing.{HaveProcesses}
@@ -42,9 +42,47 @@ use Rattle.pb_search_engine.specs.declared.print_lines.PrintFault.TheVariants.{N
 use Rattle.pb_search_engine.proofs.OutcomeLemmas.{deadlocks_few, deadlocks_here, found_few, found_here}
 use Rattle.pb_verifier.specs.Verified.{IsVerified, VerifiedCode}
 
-module _ (lending : Lending) (any_order : Bool) (wanted : List Print) (code : Code) (labels : List ProcessLabels) (states : ℕ) where
+-- what is said where nothing is left to the fair runs
+module _ (lending : Lending) (code : Code) (states : ℕ) (text : List ℕ) (status : Status) where
+  done_of : (fair : Bool) → IsPlainBy fair lending code states (extent.All false) text status → IsPlain states (extent.All false) text status
+  done_of false is = is
+  done_of true is = is
+
+  many_of : (fair : Bool) → IsPlainBy fair lending code states extent.TooMany text status → IsPlain states extent.TooMany text status
+  many_of false is = is
+  many_of true is = is
+
+  long_of : (fair : Bool) → IsPlainBy fair lending code states extent.TooLong text status → IsPlain states extent.TooLong text status
+  long_of false is = is
+  long_of true is = is
+
+  -- and where something is
+  endless_of : (fair : Bool) → IsPlainBy fair lending code states (extent.All true) text status → SaysOfEndless fair lending code states text status
+  endless_of false is = is
+  endless_of true is = is
+
+  -- by whether only fair runs count and some run does not end
+  pub fairly_plain : (fair : Bool) (e : Extent) → fair ≡ true → e ≡ extent.All true → SaysOfEndless true lending code states text status
+      → IsPlainBy fair lending code states e text status
+  fairly_plain true (extent.All true) on is says = says
+  fairly_plain false e on is says = absurd (cc)
+  fairly_plain true (extent.All false) on is says = absurd (cc)
+  fairly_plain true extent.TooMany on is says = absurd (cc)
+  fairly_plain true extent.TooLong on is says = absurd (cc)
+  fairly_plain true extent.AtDeadlock on is says = absurd (cc)
+
+  pub plainly : (fair : Bool) (e : Extent) → (fair ≡ true → e ≡ extent.All true → ⊥) → IsPlain states e text status
+      → IsPlainBy fair lending code states e text status
+  plainly false e not says = says
+  plainly true (extent.All true) not says = absurd (not refl refl)
+  plainly true (extent.All false) not says = says
+  plainly true extent.TooMany not says = says
+  plainly true extent.TooLong not says = says
+  plainly true extent.AtDeadlock not says = says
+
+module _ (fair : Bool) (lending : Lending) (any_order : Bool) (wanted : List Print) (code : Code) (labels : List ProcessLabels) (states : ℕ) where
   abbrev Says : List ℕ → Status → Type 0
-  Says = SaysOfRuns lending any_order wanted code labels states
+  Says = SaysOfRuns fair lending any_order wanted code labels states
 
   -- with no deadlock in the list there is none
   none_there : (found : List FoundDeadlock) (stuck : List Trace) → AreFoundAt (printing lending) code found stuck → length found ≡ 0 → (s : Trace)
@@ -56,18 +94,19 @@ module _ (lending : Lending) (any_order : Bool) (wanted : List Print) (code : Co
   -- by how much was found
   plain_by : (found : List Found) (deadlocks : List FoundDeadlock) (e : Extent)
       → IsTold (printing lending) code FirstDeadlock states found deadlocks e → AreWanted any_order wanted found → length deadlocks ≡ 0
-      → (text : List ℕ) (status : Status) → IsPlain states e text status → Says text status
+      → (text : List ℕ) (status : Status) → IsPlainBy fair lending code states e text status → Says text status
   plain_by found deadlocks (extent.All true) h all none text status is =
-      subst (λ (s : Status). Says text s) (sym is.1) (subst (λ (t : List ℕ). Says t Unexpected) (sym is.0) (endless (record {
+      endless (record {
         ends = λ picks end ends.
             All-contains (IsWanted any_order wanted) (map (λ f. f.outcome) found) (trace_outcome end)
             (All-map (IsWanted any_order wanted) (λ (f : Found). f.outcome) found all)
             (h.outcomes.none_missing picks end ends);
         no_deadlock = λ picks s dead.
             none_there deadlocks h.deadlocks.some.stuck h.deadlocks.some.each none s (h.deadlocks.none_missing picks s dead);
-      }) (h.endless.0 refl)))
+      }) (h.endless.0 refl) text status (endless_of lending code states text status fair is)
   plain_by found deadlocks (extent.All false) h all none text status is =
-      subst (λ (s : Status). Says text s) (sym is.1) (subst (λ (t : List ℕ). Says t Done) (sym is.0) (as_expected (record {
+      let by = done_of lending code states text status fair is in
+      subst (λ (s : Status). Says text s) (sym by.1) (subst (λ (t : List ℕ). Says t Done) (sym by.0) (as_expected (record {
         ends = λ picks end ends.
             All-contains (IsWanted any_order wanted) (map (λ f. f.outcome) found) (trace_outcome end)
             (All-map (IsWanted any_order wanted) (λ (f : Found). f.outcome) found all)
@@ -77,9 +116,11 @@ module _ (lending : Lending) (any_order : Bool) (wanted : List Print) (code : Co
         all_end = h.bounded refl;
       })))
   plain_by found [] extent.TooMany h all none text status is =
-      subst (λ (s : Status). Says text s) (sym is.1) (subst (λ (t : List ℕ). Says t Limit) (sym is.0) (many found h all))
+      let by = many_of lending code states text status fair is in
+      subst (λ (s : Status). Says text s) (sym by.1) (subst (λ (t : List ℕ). Says t Limit) (sym by.0) (many found h all))
   plain_by found [] extent.TooLong h all none text status is =
-      subst (λ (s : Status). Says text s) (sym is.1) (subst (λ (t : List ℕ). Says t Limit) (sym is.0) (long found h all))
+      let by = long_of lending code states text status fair is in
+      subst (λ (s : Status). Says text s) (sym by.1) (subst (λ (t : List ℕ). Says t Limit) (sym by.0) (long found h all))
   plain_by found (d ∷ deadlocks) extent.TooMany h all none text status is = absurd (omega (arith, none))
   plain_by found (d ∷ deadlocks) extent.TooLong h all none text status is = absurd (omega (arith, none))
   plain_by found deadlocks extent.AtDeadlock h all none text status is = let one = h.1.one in absurd (omega (arith, one, none))
@@ -102,14 +143,14 @@ module _ (lending : Lending) (any_order : Bool) (wanted : List Print) (code : Co
 
     -- all that was found is wanted, and there is no deadlock
     pub plain_said : AreWanted any_order wanted (map found_view told.found.items) → length told.deadlocks.items ≡ 0 → (text : List ℕ) (status : Status)
-        → IsPlain states told.extent text status → Says text status
+        → IsPlainBy fair lending code states told.extent text status → Says text status
     plain_said all none text status is =
         let many = length-map told.deadlocks.items deadlock_view in
         plain_by (map found_view told.found.items) (map deadlock_view told.deadlocks.items) told.extent tells all (omega (arith, many, none)) text status is
 
     -- no outcome is another
     pub no_other_said : AreWanted any_order wanted (map found_view told.found.items) → (text : List ℕ) (status : Status)
-        → ((length told.deadlocks.items ≡ 0) × IsPlain states told.extent text status)
+        → ((length told.deadlocks.items ≡ 0) × IsPlainBy fair lending code states told.extent text status)
         ⊎ (TellsDeadlock code.names labels (map deadlock_view told.deadlocks.items) text × (status ≡ Unexpected)) → Says text status
     no_other_said all text status (inl plain) = plain_said all plain.0 text status plain.1
     no_other_said all text status (inr stuck) = stuck_said all text status stuck.0 stuck.1
@@ -171,31 +212,31 @@ module _ (lending : Lending) (code : Code) where
       subst (λ (ds : List GivenDeadlock). All (λ d. length d.picks.items ≤ MAX_PICKS) ds) (sym is) (deadlocks_few (printing lending) code found are)
 
 -- print lines of which one says no print
-pub bad_said : (lending : Lending) (any_order : Bool) (code seen : Code) (labels : List ProcessLabels) (states : ℕ) (lines : List ℕ) (at : ℕ)
+pub bad_said : (fair : Bool) (lending : Lending) (any_order : Bool) (code seen : Code) (labels : List ProcessLabels) (states : ℕ) (lines : List ℕ) (at : ℕ)
     → seen ≡ code → IsBadPrint seen lines (NotPrint at) → (text : List ℕ) (status : Status) → text ≡ line (cause_line (record { code = K1; at = Some at }))
-    → status ≡ Refused → SaysOfLines lending any_order code labels states lines text status
-bad_said lending any_order code seen labels states lines at same bad text status is refused =
-    subst (λ (s : Status). SaysOfLines lending any_order code labels states lines text s) (sym refused)
-    (subst (λ (t : List ℕ). SaysOfLines lending any_order code labels states lines t Refused) (sym is)
+    → status ≡ Refused → SaysOfLines fair lending any_order code labels states lines text status
+bad_said fair lending any_order code seen labels states lines at same bad text status is refused =
+    subst (λ (s : Status). SaysOfLines fair lending any_order code labels states lines text s) (sym refused)
+    (subst (λ (t : List ℕ). SaysOfLines fair lending any_order code labels states lines t Refused) (sym is)
     (no_prints at (subst (λ (c : Code). IsBadPrint c lines (NotPrint at)) same bad)))
 
 -- print lines that were read, and what is said of the runs
-pub compared_said : (lending : Lending) (any_order : Bool) (code seen : Code) (labels : List ProcessLabels) (states : ℕ) (lines : List ℕ)
+pub compared_said : (fair : Bool) (lending : Lending) (any_order : Bool) (code seen : Code) (labels : List ProcessLabels) (states : ℕ) (lines : List ℕ)
     (prints given : List Print) → seen ≡ code → given ≡ prints → SpellsPrints seen lines prints → (text : List ℕ) (status : Status)
-    → SaysOfRuns lending any_order given code labels states text status → SaysOfLines lending any_order code labels states lines text status
-compared_said lending any_order code seen labels states lines prints given same is spells text status says =
+    → SaysOfRuns fair lending any_order given code labels states text status → SaysOfLines fair lending any_order code labels states lines text status
+compared_said fair lending any_order code seen labels states lines prints given same is spells text status says =
     compared prints (subst (λ (c : Code). SpellsPrints c lines prints) same spells) text status
-    (subst (λ (ps : List Print). SaysOfRuns lending any_order ps code labels states text status) is says)
+    (subst (λ (ps : List Print). SaysOfRuns fair lending any_order ps code labels states text status) is says)
 
 -- a refused text, behind which there are lines
-pub text_refused : (lend : Lend) (any_order : Bool) (states : ℕ) (bytes text lines : List ℕ) (old new : Option (List ℕ)) (given : Status)
+pub text_refused : (fair : Bool) (lend : Lend) (any_order : Bool) (states : ℕ) (bytes text lines : List ℕ) (old new : Option (List ℕ)) (given : Status)
     → length bytes ≤ 4194304 → length text ≤ 4194304 → AreTwoParts bytes text lines → Tells (SaysOfInput SaysOfRefusedText text) old new given
-    → Tells (SaysOfInput (SaysOfExpected lend any_order states) bytes) old new given
-text_refused lend any_order states bytes text lines old new given short few cut (said, status, is, written) =
+    → Tells (SaysOfInput (SaysOfExpected fair lend any_order states) bytes) old new given
+text_refused fair lend any_order states bytes text lines old new given short few cut (said, status, is, written) =
     (said, status, go said status is, written)
   where
     go : (said : List ℕ) (status : Status) → SaysOfInput SaysOfRefusedText text said status
-        → SaysOfInput (SaysOfExpected lend any_order states) bytes said status
+        → SaysOfInput (SaysOfExpected fair lend any_order states) bytes said status
     go _ _ (not_read (too_long more)) = absurd (omega (arith, more, few))
     go _ _ (not_read input.no_memory) = not_read input.no_memory
     go _ _ (not_read nothing) = not_read nothing

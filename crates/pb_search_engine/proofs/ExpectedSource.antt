@@ -1,5 +1,5 @@
 -- What is said of the runs of the code of a text is right of its program.
-use Rattle.std.proofs.Common.{◌≡◌, ◌↔◌, ◌⊎◌, inl, inr, ℕ, Bool, List, Some, refl, sym, subst}
+use Rattle.std.proofs.Common.{◌≡◌, ◌↔◌, ◌⊎◌, inl, inr, ℕ, Bool, true, false, List, Some, refl, sym, subst}
 use Rattle.std.specs.Prelude.{slice_get}
 use Rattle.std.proofs.lemmas.Option.{get_or_from_slice_get, slice_get_within}
 use Rattle.pb_base.specs.declared.lending.Lending.{Lending}
@@ -17,13 +17,15 @@ use Rattle.pb_search_stages.specs.Reaching.{outcome_of}
 use Rattle.pb_search_stages.specs.Traces.{Outcome, Trace, TraceEnds, trace_outcome}
 use Rattle.pb_search_stages.specs.declared.print.Print.{Print}
 use Rattle.pb_search_engine.specs.Expected.{IsWanted, printing}
-use Rattle.pb_search_engine.specs.ExpectedLaws.{AnswersAreRightOfPrograms, DoesAsExpected, EndsOtherwise, HasDeadlock}
+use Rattle.pb_search_engine.specs.ExpectedLaws.{AnswersAreRightOfPrograms, DoesAsExpected, EndsOtherwise, HasDeadlock, IsAsExpectedBy, SourceEnds}
 use Rattle.pb_search_engine.specs.SaysExpected.{SaysOfRuns, as_expected, deadlock, endless, long, many, outcome}
+use Rattle.pb_search_engine.specs.SourceFair.{FairRunsEnd}
 use Rattle.pb_search_engine.specs.SourceOutcomes.{IsPrintedByCodeBy, IsPrintedBySource}
 use Rattle.pb_search_engine.specs.SourceRuns.{HasRunsOf, IsDeadlockOfCode, SourceIsEndless, Stuck}
-use Rattle.pb_search_engine.proofs.ExpectedLaw.{answers_are_right}
+use Rattle.pb_search_engine.proofs.ExpectedLaw.{answers_are_right, ends_too}
 use Rattle.pb_search_engine.proofs.OutcomeLemmas.{each_at}
 use Rattle.pb_search_engine.proofs.PrintedOutcomes.{same_printed}
+use Rattle.pb_search_engine.proofs.SourceLaw.{fair_end}
 use Rattle.pb_search_engine.proofs.SourceRunLemmas.{has_runs}
 
 -- an outcome that is found is one of the code
@@ -42,22 +44,31 @@ found_stuck lending code deadlocks some d there =
     (each_at (printing lending) code deadlocks some.stuck some.each 0 d (slice_get_within deadlocks 0 d there)) in
     (record { processes = outcome_of one.0.state; loans = one.0.state.loans }, (d.picks, one.0, one.1.0, refl))
 
-module _ (lending : Lending) (any_order : Bool) (wanted : List Print) (program : Program) (code : Code) (labels : List ProcessLabels) (states : ℕ)
+-- each run of the source that counts ends
+source_ends : (fair : Bool) (lending : Lending) (any_order : Bool) (wanted : List Print) (program : Program) (code : Code)
+    → HasRunsOf program (printing lending) code → FairRunsEnd program lending code → IsAsExpectedBy fair lending any_order wanted code
+    → SourceEnds fair lending program code
+source_ends false lending any_order wanted program code runs ends all = runs.bounded all.all_end
+source_ends true lending any_order wanted program code runs ends all = λ run. all.1 (ends.kept run)
+
+module _ (fair : Bool) (lending : Lending) (any_order : Bool) (wanted : List Print) (program : Program) (code : Code) (labels : List ProcessLabels)
+    (states : ℕ)
     (same : (outcome : Outcome) → IsPrintedByCodeBy lending code outcome ↔ IsPrintedBySource lending program code.claims outcome)
-    (runs : HasRunsOf program (printing lending) code) where
-  all_as_expected : (text : List ℕ) (status : Status) → SaysOfRuns lending any_order wanted code labels states text status → status ≡ Done
-      → DoesAsExpected lending any_order wanted program code
+    (runs : HasRunsOf program (printing lending) code) (fair_ends : FairRunsEnd program lending code) where
+  all_as_expected : (text : List ℕ) (status : Status) → SaysOfRuns fair lending any_order wanted code labels states text status → status ≡ Done
+      → DoesAsExpected fair lending any_order wanted program code
   all_as_expected text status says done =
-      let right = (answers_are_right lending any_order wanted code labels states text status says).0 done in
+      let right = (answers_are_right fair lending any_order wanted code labels states text status says).0 done in
+      let each = ends_too fair lending any_order wanted code right in
       record {
         ends = λ o printed.
             let by = (same o).1 printed in
-            subst (λ (x : Outcome). IsWanted any_order wanted x) (sym by.3) (right.ends by.0 by.1 by.2);
-        no_deadlock = λ dead. let by = (runs.deadlocks dead.0).1 dead.1 in right.no_deadlock by.0 by.1 by.2;
-        all_end = runs.bounded right.all_end;
+            subst (λ (x : Outcome). IsWanted any_order wanted x) (sym by.3) (each.ends by.0 by.1 by.2);
+        no_deadlock = λ dead. let by = (runs.deadlocks dead.0).1 dead.1 in each.no_deadlock by.0 by.1 by.2;
+        all_end = source_ends fair lending any_order wanted program code runs fair_ends right;
       }
 
-  not_all : (text : List ℕ) (status : Status) → SaysOfRuns lending any_order wanted code labels states text status → status ≡ Unexpected
+  not_all : (text : List ℕ) (status : Status) → SaysOfRuns fair lending any_order wanted code labels states text status → status ≡ Unexpected
       → EndsOtherwise lending any_order wanted program code ⊎ HasDeadlock lending program code ⊎ SourceIsEndless lending program code.claims
   not_all _ _ (as_expected all) is = absurd (let e : Done ≡ Unexpected = is in cc)
   not_all _ _ (outcome found deadlocks extent told at first f there picks counted what said) is =
@@ -67,7 +78,7 @@ module _ (lending : Lending) (any_order : Bool) (wanted : List Print) (program :
       let some = (some_of (printing lending) code FirstDeadlock states found deadlocks extent told).1 in
       let dead = found_stuck lending code deadlocks some d there in
       inr (inl (dead.0, (runs.deadlocks dead.0).0 dead.1))
-  not_all _ _ (endless ends run) is = inr (inr (runs.endless run))
+  not_all _ _ (endless ends run said given says) is = inr (inr (runs.endless run))
   not_all _ _ (many found told each) is = absurd (let e : Limit ≡ Unexpected = is in cc)
   not_all _ _ (long found told each) is = absurd (let e : Limit ≡ Unexpected = is in cc)
 
@@ -77,14 +88,16 @@ right_of_programs text code labels is =
     let arms = well_numbered (resource_names program) is.numbered.tree.processes program.processes is.numbered.numbered.processes in (
       program,
       is.numbered,
-      λ lending any_order wanted states said status says.
+      λ fair lending any_order wanted states said status says.
           let same : (o : Outcome) → IsPrintedByCodeBy lending code o ↔ IsPrintedBySource lending program code.claims o =
           λ o. subst (λ c. IsPrintedByCodeBy lending c o ↔ IsPrintedBySource lending program code.claims o) (sym is.generated)
           (same_printed lending program code.claims arms o) in
           let runs : HasRunsOf program (printing lending) code =
           subst (HasRunsOf program (printing lending)) (sym is.generated) (has_runs (printing lending) program code.claims arms) in
+          let fair_ends : FairRunsEnd program lending code =
+          subst (FairRunsEnd program lending) (sym is.generated) (fair_end lending program code.claims arms) in
           record {
-            done = all_as_expected lending any_order wanted program code labels states same runs said status says;
-            unexpected = not_all lending any_order wanted program code labels states same runs said status says;
+            done = all_as_expected fair lending any_order wanted program code labels states same runs fair_ends said status says;
+            unexpected = not_all fair lending any_order wanted program code labels states same runs fair_ends said status says;
           },
     )

@@ -3,7 +3,7 @@ use Rattle.std.proofs.Common.{◌≡◌, ◌⊎◌, inl, inr, ℕ, zero, suc, �
 use Rattle.std.proofs.Common.{Option, Some, None, refl, sym, ap, ◌∙◌, subst, arith, false, true≢false}
 use Rattle.pb_base.specs.declared.lending.Lending.{Lending}
 use Rattle.pb_base.specs.declared.pick.Pick.{Pick}
-use Rattle.pb_base.specs.Steppers.{Bank, Silent, IsGranted, Move, State, Table, opening}
+use Rattle.pb_base.specs.Steppers.{Bank, IsGranted, Move, State, Table, opening}
 use Rattle.pb_code.specs.Code.{CodeProcess, code_process, code_step}
 use Rattle.pb_code.specs.Shadows.{is_skipped}
 use Rattle.pb_code.specs.Whole.{Code}
@@ -12,14 +12,14 @@ use Rattle.pb_codegen.proofs.SimulationRuns.{PicksAlike, StatesAlike, code_alone
 use Rattle.pb_generator.specs.Generate.{program_code}
 use Rattle.pb_names.specs.Meaning.{source_bank_by}
 use Rattle.pb_names.specs.Program.{AllWellNumbered, Program}
-use Rattle.pb_names.specs.Source.{SourceProcess, source_process, source_step}
+use Rattle.pb_names.specs.Source.{SourceProcess, source_process}
 use Rattle.pb_search_fair.specs.CodeRuns.{HasFairRun}
-use Rattle.pb_search_fair.specs.FairRuns.{FairRun, IsEnabled}
+use Rattle.pb_search_fair.specs.FairRuns.{IsEnabled}
 use Rattle.pb_search_stages.proofs.EitherLending.{granted}
 use Rattle.pb_search_stages.specs.Configurations.{Comes}
 use Rattle.pb_search_stages.specs.Reaching.{CodeLeads, Configuration}
 use Rattle.pb_search_stages.specs.Reduction.{LeadsTo}
-use Rattle.pb_search_stages.specs.Traces.{Trace, TraceLeads}
+use Rattle.pb_search_stages.specs.Traces.{Trace}
 use Rattle.pb_search_stages.specs.declared.print.Mode.{Mode}
 use Rattle.pb_search_stages.proofs.Traces.{plain_step, quiet_step}
 use Rattle.pb_search_engine.specs.SourceFair.{HasFairRunOfProgram}

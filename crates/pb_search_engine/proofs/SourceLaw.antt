@@ -49,7 +49,7 @@ runs_are_those_of_the_program text code labels is =
     )
 
 -- the fair runs of a program end if those of its code do
-fair_end : (lending : Lending) (program : Program) (claims : Table) → AllWellNumbered program.processes
+pub fair_end : (lending : Lending) (program : Program) (claims : Table) → AllWellNumbered program.processes
     → FairRunsEnd program lending (program_code program claims)
 fair_end lending program claims numbered = record {
   kept = λ run. fair_run_of_code lending program claims numbered run;

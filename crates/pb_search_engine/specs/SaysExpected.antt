@@ -1,5 +1,5 @@
 -- What `outcomes --expect` says of an input, and with which status.
-use Rattle.std.specs.Prelude.{◌≡◌, ◌+◌, ℕ, Bool, true, false, List, [], ◌++◌, Some, codes, slice_get, ⊤}
+use Rattle.std.specs.Prelude.{◌≡◌, ℕ, Bool, true, false, List, [], ◌++◌, Some, codes, slice_get, ⊤}
 use Rattle.std.specs.Fmt.{decimal}
 use Rattle.pb_base.specs.Lines.{NameTable, line}
 use Rattle.pb_base.specs.declared.lending.Lending.{Lending}
@@ -21,12 +21,16 @@ use Rattle.pb_search.specs.Told.{IsTold}
 use Rattle.pb_search.specs.declared.found.Extent.{Extent}
 use Rattle.pb_search.specs.declared.found.Extent.TheVariants as extent
 use Rattle.pb_search.specs.declared.found.Until.TheVariants.{FirstDeadlock}
+use Rattle.pb_search_fair.specs.CodeRuns.{TellsFairRuns}
+use Rattle.pb_search_fair.specs.declared.runs.FairRuns.{FairRuns}
+use Rattle.pb_search_fair.specs.declared.runs.FairRuns.TheVariants.{AllEnd, SomeDoNotEnd, TooMany}
 use Rattle.pb_search_stages.specs.Reaching.{ProcessOutcome}
 use Rattle.pb_search_stages.specs.declared.print.Print.{Print}
 use Rattle.pb_search_engine.specs.DeadlockLines.{deadlock_lines}
 use Rattle.pb_search_engine.specs.Expected.{AreWanted, EndsAsExpected, HasNoFault, IsAsExpected, IsFirstOther, printing}
 use Rattle.pb_search_engine.specs.OutcomeLines.{AreCounted, outcome_lines}
 use Rattle.pb_search_engine.specs.PrintLines.{IsBadPrint, SpellsPrints}
+use Rattle.pb_search_engine.specs.SourceOutcomes.{without_prints}
 use Rattle.pb_search_engine.specs.declared.print_lines.PrintFault.TheVariants.{NotPrint}
 
 -- the last line, if not all runs are as expected: what is not
@@ -42,61 +46,82 @@ pub data IsOtherText (processes : List ProcessOutcome) : List ℕ → Type 0 whe
 abbrev pub IsListed : Lending → Code → (states : ℕ) → List Found → List FoundDeadlock → Extent → Type 0
 IsListed lending code = IsTold (printing lending) code FirstDeadlock
 
+-- what is said if each run that ends is as expected and only fair runs count, by what is told of these
+abbrev pub fair_answer : (states : ℕ) → FairRuns → List ℕ
+fair_answer states AllEnd = line (codes "as expected")
+fair_answer states SomeDoNotEnd = other_line (codes "some fair run does not end")
+fair_answer states TooMany = line (codes "more than " ++ decimal states ++ codes " configurations for fair runs")
+
+-- with which status
+abbrev pub fair_status : FairRuns → Status
+fair_status AllEnd = Done
+fair_status SomeDoNotEnd = Unexpected
+fair_status TooMany = Limit
+
+-- what is said of code if each run that ends is as expected and some run does not end, by whether only fair runs count
+abbrev pub SaysOfEndless : (fair : Bool) → Lending → Code → (states : ℕ) → List ℕ → Status → Type 0
+SaysOfEndless false lending code states said status = (said ≡ other_line (codes "some run does not end")) × (status ≡ Unexpected)
+SaysOfEndless true lending code states said status =
+    (told : FairRuns) × TellsFairRuns (without_prints lending) code states told × (said ≡ fair_answer states told)
+    × (status ≡ fair_status told)
+
 -- what is said of code, under this lending: all its runs are as expected; or one is not, which is the first outcome of
 -- the list that is not, or, if each that is listed is, the deadlock of the list, or, if each run that ends is as
--- expected, one that does not end; or there may be others than were found, which all are as expected, since more
--- than this number of configurations are reached, or since picks lead to an outcome or a deadlock that are more than a run may have
-pub data SaysOfRuns (lending : Lending) (any_order : Bool) (wanted : List Print) (code : Code) (labels : List ProcessLabels)
-    (states : ℕ) : List ℕ → Status → Type 0 where
+-- expected, one that does not end, which counts if it is fair or all runs count; or there may be others than were
+-- found, which all are as expected, since more than this number of configurations are reached, or since picks lead to
+-- an outcome or a deadlock that are more than a run may have
+pub data SaysOfRuns (fair : Bool) (lending : Lending) (any_order : Bool) (wanted : List Print) (code : Code)
+    (labels : List ProcessLabels) (states : ℕ) : List ℕ → Status → Type 0 where
   as_expected : IsAsExpected lending any_order wanted code
-      → SaysOfRuns lending any_order wanted code labels states (line (codes "as expected")) Done
+      → SaysOfRuns fair lending any_order wanted code labels states (line (codes "as expected")) Done
   outcome : (found : List Found) (deadlocks : List FoundDeadlock) (extent : Extent) → IsListed lending code states found deadlocks extent
       → (at : ℕ) → IsFirstOther any_order wanted found at → (f : Found) → slice_get found at ≡ Some f
       → (picks : List CountedPick) → AreCounted f.picks picks → (what : List ℕ) → IsOtherText f.outcome.processes what
-      → SaysOfRuns lending any_order wanted code labels states
-      (outcome_lines code.names labels (at + 1) f.outcome picks ++ other_line what) Unexpected
+      → SaysOfRuns fair lending any_order wanted code labels states
+      (outcome_lines code.names labels 1 f.outcome picks ++ other_line what) Unexpected
   deadlock : (found : List Found) (deadlocks : List FoundDeadlock) (extent : Extent) → IsListed lending code states found deadlocks extent
       → AreWanted any_order wanted found → (d : FoundDeadlock) → slice_get deadlocks 0 ≡ Some d → (picks : List CountedPick) → AreCounted d.picks picks
-      → SaysOfRuns lending any_order wanted code labels states
+      → SaysOfRuns fair lending any_order wanted code labels states
       (deadlock_lines code.names labels 1 d picks ++ other_line (codes "a deadlock")) Unexpected
   endless : EndsAsExpected lending any_order wanted code → HasEndlessRun (printing lending) code
-      → SaysOfRuns lending any_order wanted code labels states (other_line (codes "some run does not end")) Unexpected
+      → (said : List ℕ) (status : Status) → SaysOfEndless fair lending code states said status
+      → SaysOfRuns fair lending any_order wanted code labels states said status
   many : (found : List Found) → IsListed lending code states found [] extent.TooMany → AreWanted any_order wanted found
-      → SaysOfRuns lending any_order wanted code labels states
+      → SaysOfRuns fair lending any_order wanted code labels states
       (line (codes "more than " ++ decimal states ++ codes " configurations")) Limit
   long : (found : List Found) → IsListed lending code states found [] extent.TooLong → AreWanted any_order wanted found
-      → SaysOfRuns lending any_order wanted code labels states
+      → SaysOfRuns fair lending any_order wanted code labels states
       (line (codes "more than " ++ decimal MAX_PICKS ++ codes " picks")) Limit
 
 -- what is said of the lines behind an accepted text, by its code: one says no print; or all say prints, which the
 -- runs of the code are compared with
-pub data SaysOfLines (lending : Lending) (any_order : Bool) (code : Code) (labels : List ProcessLabels) (states : ℕ)
+pub data SaysOfLines (fair : Bool) (lending : Lending) (any_order : Bool) (code : Code) (labels : List ProcessLabels) (states : ℕ)
     (lines : List ℕ) : List ℕ → Status → Type 0 where
   no_prints : (at : ℕ) → IsBadPrint code lines (NotPrint at)
-      → SaysOfLines lending any_order code labels states lines (line (cause_line (record { code = K1; at = Some at }))) Refused
+      → SaysOfLines fair lending any_order code labels states lines (line (cause_line (record { code = K1; at = Some at }))) Refused
   compared : (wanted : List Print) → SpellsPrints code lines wanted
-      → (said : List ℕ) (status : Status) → SaysOfRuns lending any_order wanted code labels states said status
-      → SaysOfLines lending any_order code labels states lines said status
+      → (said : List ℕ) (status : Status) → SaysOfRuns fair lending any_order wanted code labels states said status
+      → SaysOfLines fair lending any_order code labels states lines said status
 
 -- what is said of an input, which is a text and print lines behind it: its text is refused; or it is accepted, and
 -- it is said what is said of its lines
-pub data SaysOfExpected (lend : Lend) (any_order : Bool) (states : ℕ) (bytes : List ℕ) : List ℕ → Status → Type 0 where
+pub data SaysOfExpected (fair : Bool) (lend : Lend) (any_order : Bool) (states : ℕ) (bytes : List ℕ) : List ℕ → Status → Type 0 where
   no_text : (text lines : List ℕ) → AreTwoParts bytes text lines
       → (said : List ℕ) (status : Status) → SaysOfRefusedText text said status
-      → SaysOfExpected lend any_order states bytes said status
+      → SaysOfExpected fair lend any_order states bytes said status
   accepted : (text lines : List ℕ) → AreTwoParts bytes text lines
       → (code : Code) (labels : List ProcessLabels) → IsCompiled text code labels
-      → (said : List ℕ) (status : Status) → SaysOfLines (lending_for lend) any_order code labels states lines said status
-      → SaysOfExpected lend any_order states bytes said status
+      → (said : List ℕ) (status : Status) → SaysOfLines fair (lending_for lend) any_order code labels states lines said status
+      → SaysOfExpected fair lend any_order states bytes said status
 
 -- ---- what serves the proof
 
--- the lines of the outcome at this place, by its picks, and the last line
+-- the lines of the outcome at this place, which alone is told, by its picks, and the last line
 abbrev pub TellsOutcome : NameTable → List ProcessLabels → List Found → (at : ℕ) → List ℕ → Type 0
 TellsOutcome names labels found at text =
     (f : Found) × (slice_get found at ≡ Some f) × ((picks : List CountedPick) × AreCounted f.picks picks
     × ((what : List ℕ) × IsOtherText f.outcome.processes what
-    × (text ≡ outcome_lines names labels (at + 1) f.outcome picks ++ other_line what)))
+    × (text ≡ outcome_lines names labels 1 f.outcome picks ++ other_line what)))
 
 -- the lines of the first deadlock, by its picks, and the last line
 abbrev pub TellsDeadlock : NameTable → List ProcessLabels → List FoundDeadlock → List ℕ → Type 0
@@ -113,3 +138,12 @@ IsPlain states extent.TooMany text status =
 IsPlain states extent.TooLong text status =
     (text ≡ line (codes "more than " ++ decimal MAX_PICKS ++ codes " picks")) × (status ≡ Limit)
 IsPlain states extent.AtDeadlock text status = ⊤
+
+-- the same, by whether only fair runs count
+abbrev pub IsPlainBy : (fair : Bool) → Lending → Code → (states : ℕ) → Extent → List ℕ → Status → Type 0
+IsPlainBy false lending code states extent = IsPlain states extent
+IsPlainBy true lending code states (extent.All true) = SaysOfEndless true lending code states
+IsPlainBy true lending code states (extent.All false) = IsPlain states (extent.All false)
+IsPlainBy true lending code states extent.TooMany = IsPlain states extent.TooMany
+IsPlainBy true lending code states extent.TooLong = IsPlain states extent.TooLong
+IsPlainBy true lending code states extent.AtDeadlock = IsPlain states extent.AtDeadlock

@@ -25,7 +25,7 @@ SaysWhich None options =
 
 -- whether all runs are as expected, if that is asked; else a run or all outcomes
 abbrev pub SaysWhether : (expect : Bool) → OutcomesOptions → List ℕ → List ℕ → Status → Type 0
-SaysWhether true options = SaysOfExpected options.lend options.any_order options.states
+SaysWhether true options = SaysOfExpected options.fair options.lend options.any_order options.states
 SaysWhether false options = SaysWhich (target_of options.run options.deadlock) options
 
 -- the document of all schedules, if that is asked; else the others

@@ -1,6 +1,6 @@
 //! The command `outcomes --expect`: whether all runs of a program are as expected.
 
-ghost use Rattle.std.specs.Prelude.{◌≡◌, ◌≤◌, ◌<◌, ◌⊎◌, IfOk, length, map};
+ghost use Rattle.std.specs.Prelude.{◌≡◌, ◌≤◌, ◌<◌, ◌⊎◌, IfOk, length, map, true};
 ghost use Rattle.pb_base.specs.declared.limits.TheConstants.{MAX_INPUT};
 ghost use Rattle.pb_code.specs.Limits.{AreLabels};
 ghost use Rattle.pb_command_io.specs.Answers.{Tells};
@@ -11,12 +11,12 @@ ghost use Rattle.pb_search.specs.Deadlocks.{deadlock_view};
 ghost use Rattle.pb_search.specs.Outcomes.{found_view};
 ghost use Rattle.pb_search.specs.Told.{AreSome};
 ghost use Rattle.pb_search_engine.specs.Expected.{printing};
-ghost use Rattle.pb_search_engine.specs.SaysExpected.{IsPlain, SaysOfExpected, SaysOfLines, SaysOfRuns, TellsDeadlock, TellsOutcome};
+ghost use Rattle.pb_search_engine.specs.SaysExpected.{IsPlainBy, SaysOfEndless, SaysOfExpected, SaysOfLines, SaysOfRuns, TellsDeadlock, TellsOutcome};
 ghost use Rattle.pb_options.specs.Lends.{lending_for};
 
 use crate::outcomes::mode;
 use crate::print_lines::{PrintFault, read_prints};
-use crate::replies::{bad_print, deadlock_text, outcome_text, plain_text};
+use crate::replies::{bad_print, deadlock_text, fair_text, outcome_text, plain_text};
 use crate::wanted::{Wanted, first_other};
 use pb_accept::{compile_text, refuse};
 use pb_base::limits::MAX_INPUT;
@@ -25,11 +25,13 @@ use pb_codegen::Compiled;
 use pb_command_io::{Reply, Status, tell, two_parts};
 use pb_options::OutcomesOptions;
 use pb_search::explore::explore_by;
-use pb_search::{Outcomes, Until};
+use pb_search::{Extent, Outcomes, Until};
+use pb_search_fair::fair_runs;
 use std::alloc::Global;
 
 /// Writes whether all runs of a text are as the print lines say that follow it, behind a line `%%`; and else the
-/// first outcome or deadlock that is not, or that some run does not end.
+/// first outcome or deadlock that is not, or that some run does not end. With `options.fair` a run that does not end
+/// counts only if it is fair.
 pub fn tell_expected<O: Output>(
     alloc: Global,
     options: OutcomesOptions,
@@ -37,7 +39,7 @@ pub fn tell_expected<O: Output>(
     output: &mut O,
 ) -> Status
     requires { length bytes.now ≤ MAX_INPUT }
-    ensures text { Tells (SaysOfInput (SaysOfExpected options.lend options.any_order options.states) bytes.now)
+    ensures text { Tells (SaysOfInput (SaysOfExpected options.fair options.lend options.any_order options.states) bytes.now)
         (O.written output.old) (O.written output.new) result }
     ensures faults { TellsWriteFaults (O.failures output.old) (O.failures output.new) result }
 {
@@ -56,7 +58,7 @@ fn reply(
     lines: &[u8],
 ) -> Result<Reply, NoMemory>
     requires { AreLabels compiled.now.verified.code compiled.now.labels }
-    ensures { IfOk result (λ r. SaysOfLines (lending_for options.lend) options.any_order compiled.now.verified.code
+    ensures { IfOk result (λ r. SaysOfLines options.fair (lending_for options.lend) options.any_order compiled.now.verified.code
         compiled.now.labels options.states lines.now r.text.items r.status) }
 {
     match read_prints(alloc, compiled.verified().code(), lines) {
@@ -82,7 +84,7 @@ fn compared(
     wanted: Wanted<'_>,
 ) -> Result<Reply, NoMemory>
     requires { AreLabels compiled.now.verified.code compiled.now.labels }
-    ensures { IfOk result (λ r. SaysOfRuns (lending_for options.lend) wanted.entry.any_order wanted.entry.prints.now
+    ensures { IfOk result (λ r. SaysOfRuns options.fair (lending_for options.lend) wanted.entry.any_order wanted.entry.prints.now
         compiled.now.verified.code compiled.now.labels options.states r.text.items r.status) }
 {
     let verified = compiled.verified();
@@ -90,7 +92,7 @@ fn compared(
     let told = explore_by(alloc, verified, mode, Until::FirstDeadlock, options.states)?;
     match first_other(alloc, wanted, &told.found)? {
         Some(at) => other_outcome(alloc, compiled, &told, at),
-        None => no_other(alloc, compiled, &told, options.states),
+        None => no_other(alloc, options, compiled, &told),
     }
 }
 
@@ -118,19 +120,20 @@ fn other_outcome(
 /// Returns what is said if all outcomes that were found are wanted.
 fn no_other(
     alloc: Global,
+    options: OutcomesOptions,
     compiled: &Compiled,
     told: &Outcomes,
-    states: u32,
 ) -> Result<Reply, NoMemory>
     requires some { (lending : AnyLending) × AreSome (printing lending) compiled.now.verified.code
         (map found_view told.now.found.items) (map deadlock_view told.now.deadlocks.items) }
     ensures { IfOk result (λ r.
-        ((length told.now.deadlocks.items ≡ 0) × IsPlain states told.now.extent r.text.items r.status)
+        ((length told.now.deadlocks.items ≡ 0) × IsPlainBy options.fair (lending_for options.lend)
+        compiled.now.verified.code options.states told.now.extent r.text.items r.status)
         ⊎ (TellsDeadlock compiled.now.verified.code.names compiled.now.labels
         (map deadlock_view told.now.deadlocks.items) r.text.items × (r.status ≡ Status.Unexpected))) }
 {
     if told.deadlocks.is_empty() {
-        return plain_text(alloc, told.extent, states);
+        return plain_reply(alloc, options, compiled, told.extent);
     }
     let code = compiled.verified().code();
     let text = deadlock_text(alloc, &code.names, compiled.labels(), &told.deadlocks)?;
@@ -138,4 +141,34 @@ fn no_other(
         text,
         status: Status::Unexpected,
     })
+}
+
+/// Returns what is said if all outcomes that were found are wanted and there is no deadlock, by how much was found.
+fn plain_reply(
+    alloc: Global,
+    options: OutcomesOptions,
+    compiled: &Compiled,
+    extent: Extent,
+) -> Result<Reply, NoMemory>
+    ensures { IfOk result (λ r. IsPlainBy options.fair (lending_for options.lend) compiled.now.verified.code
+        options.states extent r.text.items r.status) }
+{
+    if options.fair && extent == (Extent::All { cycles: true }) {
+        return fair_reply(alloc, options, compiled);
+    }
+    plain_text(alloc, extent, options.states)
+}
+
+/// Returns what is said if each run that ends is as expected and some run does not end, by the fair ones.
+fn fair_reply(
+    alloc: Global,
+    options: OutcomesOptions,
+    compiled: &Compiled,
+) -> Result<Reply, NoMemory>
+    ensures { IfOk result (λ r. SaysOfEndless true (lending_for options.lend) compiled.now.verified.code
+        options.states r.text.items r.status) }
+{
+    let lending = options.lend.lending();
+    let told = fair_runs(alloc, compiled.verified(), lending, options.states)?;
+    fair_text(alloc, told, options.states)
 }

@@ -9,7 +9,7 @@ ghost use Rattle.pb_code.specs.View.{labels_view};
 ghost use Rattle.pb_search.specs.Deadlocks.{deadlock_view};
 ghost use Rattle.pb_search.specs.Outcomes.{process_outcome_view, found_view};
 ghost use Rattle.pb_search.specs.declared.found.Extent.TheVariants.{AtDeadlock as EndsAtDeadlock};
-ghost use Rattle.pb_search_engine.specs.SaysExpected.{IsOtherText, IsPlain, TellsDeadlock, TellsOutcome, other_line};
+ghost use Rattle.pb_search_engine.specs.SaysExpected.{IsOtherText, IsPlain, TellsDeadlock, TellsOutcome, fair_answer, fair_status, other_line};
 ghost use Rattle.pb_search_engine.specs.Showing.{HaveProcesses};
 
 use crate::counts::count_picks;
@@ -24,9 +24,11 @@ use pb_code::Labels;
 use pb_command_io::{Reply, Status, refused};
 use pb_options::Code;
 use pb_search::{Deadlock, Extent, Found, ProcessOutcome};
+use pb_search_fair::FairRuns;
 use std::alloc::Global;
 
-/// Returns the lines of the outcome at a place, which is not as expected, and the last line, which says so.
+/// Returns the lines of the outcome at a place, which is not as expected, and the last line, which says so. It alone is
+/// told, so its number is 1.
 pub fn outcome_text(
     alloc: Global,
     names: &Names,
@@ -42,7 +44,7 @@ pub fn outcome_text(
     let one = &found[at];
     let picks = count_picks(alloc, &one.picks)?;
     let mut text = Vec::new(alloc);
-    put_outcome(&mut text, names, labels, at + 1, one, &picks)?;
+    put_outcome(&mut text, names, labels, 1, one, &picks)?;
     put_other(&mut text, other_of(&one.outcome))?;
     Ok(text)
 }
@@ -93,25 +95,46 @@ fn put_other(text: &mut Vec<u8>, what: &[u8]) -> Result<(), NoMemory>
 pub fn plain_text(alloc: Global, extent: Extent, states: u32) -> Result<Reply, NoMemory>
     ensures { IfOk result (λ r. IsPlain states extent r.text.items r.status) }
 {
-    let mut text = Vec::new(alloc);
     match extent {
-        Extent::All { cycles: true } => {
-            put_other(&mut text, b"some run does not end")?;
-            Ok(Reply {
-                text,
-                status: Status::Unexpected,
-            })
-        }
-        Extent::All { cycles: false } | Extent::AtDeadlock => {
-            text.extend_from_slice(b"as expected\n")?;
-            Ok(Reply {
-                text,
-                status: Status::Done,
-            })
-        }
+        Extent::All { cycles: true } => unexpected(alloc, b"some run does not end"),
+        Extent::All { cycles: false } | Extent::AtDeadlock => as_expected(alloc),
         Extent::TooMany => limit(alloc, states, b" configurations\n"),
         Extent::TooLong => limit(alloc, MAX_PICKS, b" picks\n"),
     }
+}
+
+/// Returns the answer if each run that ends is as expected and some run does not end, by what is told of fair runs.
+pub fn fair_text(alloc: Global, told: FairRuns, states: u32) -> Result<Reply, NoMemory>
+    ensures { IfOk result (λ r. (r.text.items ≡ fair_answer states told) × (r.status ≡ fair_status told)) }
+{
+    match told {
+        FairRuns::AllEnd => as_expected(alloc),
+        FairRuns::SomeDoNotEnd => unexpected(alloc, b"some fair run does not end"),
+        FairRuns::TooMany => limit(alloc, states, b" configurations for fair runs\n"),
+    }
+}
+
+/// Returns the answer that all is as expected.
+fn as_expected(alloc: Global) -> Result<Reply, NoMemory>
+    ensures { IfOk result (λ r. (r.text.items ≡ line (codes "as expected")) × (r.status ≡ Status.Done)) }
+{
+    let text = Vec::from_slice(alloc, b"as expected\n")?;
+    Ok(Reply {
+        text,
+        status: Status::Done,
+    })
+}
+
+/// Returns the answer that says what is not as expected, and nothing else.
+fn unexpected(alloc: Global, what: &[u8]) -> Result<Reply, NoMemory>
+    ensures { IfOk result (λ r. (r.text.items ≡ other_line what.now) × (r.status ≡ Status.Unexpected)) }
+{
+    let mut text = Vec::new(alloc);
+    put_other(&mut text, what)?;
+    Ok(Reply {
+        text,
+        status: Status::Unexpected,
+    })
 }
 
 /// Returns the answer that there is more than this number of something.

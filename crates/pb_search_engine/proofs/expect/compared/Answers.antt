@@ -51,7 +51,7 @@ returns-in-Some c =
     (if_some (IsFirstOther c.args.wanted.any_order c.args.wanted.prints.now (map found_view c.deref.result.now)) _ c.in-Some.at c.in-Some.is
     c.in_ok-at.ensures.some) in
     MatchResult-weaker c.other_outcome.result c.other_outcome.ensures
-    (λ r h. other_said lending c.args.wanted.any_order c.args.wanted.prints.now v.code c.args.compiled.now.labels c.args.options.states told
+    (λ r h. other_said c.args.options.fair lending c.args.wanted.any_order c.args.wanted.prints.now v.code c.args.compiled.now.labels c.args.options.states told
     (tells_here v c.verified-verified.result.now c.verified-verified.ensures c.mode-mode.result lending c.mode-mode.ensures c.args.options.states told
     c.in_ok-told.ensures) c.in-Some.at first r.text.items r.status h.0 h.1)
     (λ e h. h)
@@ -66,7 +66,7 @@ returns c =
     (if_none (All (λ f. IsWanted c.args.wanted.any_order c.args.wanted.prints.now f.outcome) (map found_view c.deref.result.now)) _ c.in-None.is
     c.in_ok-at.ensures.none) in
     MatchResult-weaker c.no_other.result c.no_other.ensures
-    (λ r h. no_other_said lending c.args.wanted.any_order c.args.wanted.prints.now v.code c.args.compiled.now.labels c.args.options.states told
+    (λ r h. no_other_said c.args.options.fair lending c.args.wanted.any_order c.args.wanted.prints.now v.code c.args.compiled.now.labels c.args.options.states told
     (tells_here v c.verified-verified.result.now c.verified-verified.ensures c.mode-mode.result lending c.mode-mode.ensures c.args.options.states told
     c.in_ok-told.ensures) all r.text.items r.status h)
     (λ e h. h)

@@ -17,7 +17,7 @@ read_prints-requires c = subst KeepsLimits (sym c.code.ensures.code) (c.code.ens
 pub returns-in-Ok : goal.returns-in-Ok
 returns-in-Ok c =
     MatchResult-weaker c.compared.result c.compared.ensures
-    (λ r says. compared_said (lending_for c.args.options.lend) c.args.options.any_order c.args.compiled.now.verified.code (code_view c.code.result.now)
+    (λ r says. compared_said c.args.options.fair (lending_for c.args.options.lend) c.args.options.any_order c.args.compiled.now.verified.code (code_view c.code.result.now)
     c.args.compiled.now.labels c.args.options.states c.args.lines.now c.in-Ok.prints.items c.deref.result.now
     (c.code.ensures.code ∙ ap (λ (v : VerifiedCode). v.code) c.verified.ensures) c.deref.ensures.value c.in-Ok.ensures.read r.text.items r.status says)
     (λ e h. h)
@@ -25,7 +25,7 @@ returns-in-Ok c =
 pub returns-in-Err-NotPrint : goal.returns-in-Err-NotPrint
 returns-in-Err-NotPrint c =
     MatchResult-weaker c.bad_print.result c.bad_print.ensures
-    (λ r h. bad_said (lending_for c.args.options.lend) c.args.options.any_order c.args.compiled.now.verified.code (code_view c.code.result.now)
+    (λ r h. bad_said c.args.options.fair (lending_for c.args.options.lend) c.args.options.any_order c.args.compiled.now.verified.code (code_view c.code.result.now)
     c.args.compiled.now.labels c.args.options.states c.args.lines.now c.in-Err-NotPrint.at
     (c.code.ensures.code ∙ ap (λ (v : VerifiedCode). v.code) c.verified.ensures) (rw c.in-Err-NotPrint.field-0-is at c.in-Err-NotPrint.ensures.refused)
     r.text.items r.status (h.0 ∙ ap (λ (n : ℕ). line (cause_line (record { code = K1; at = Some n }))) c.in-Err-NotPrint.at-is) h.1)

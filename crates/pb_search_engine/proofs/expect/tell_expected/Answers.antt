@@ -17,8 +17,8 @@ returns-in-Ok-clause-text g c =
     let states = c.args.options.states in
     let text = c.two_parts.result.0.now in
     let lines = c.two_parts.result.1.now in
-    told_reply (SaysOfExpected lend any_order states) c.args.bytes.now c.reply.result _ _ c.tell.result c.requires
-    (replied_too (SaysOfLines (lending_for lend) any_order code labels states lines) (SaysOfExpected lend any_order states c.args.bytes.now)
+    told_reply (SaysOfExpected c.args.options.fair lend any_order states) c.args.bytes.now c.reply.result _ _ c.tell.result c.requires
+    (replied_too (SaysOfLines c.args.options.fair (lending_for lend) any_order code labels states lines) (SaysOfExpected c.args.options.fair lend any_order states c.args.bytes.now)
     c.reply.result (accepted text lines c.two_parts.ensures code labels c.in-Ok.ensures.compiled) c.reply.ensures)
     c.tell.ensures.said c.tell.ensures.memory
 
@@ -27,5 +27,5 @@ returns-in-Err-clause-text g c =
     let text = c.two_parts.result.0.now in
     let lines = c.two_parts.result.1.now in
     let short = text_is_short c.args.bytes.now text lines c.two_parts.ensures c.requires in
-    text_refused c.args.options.lend c.args.options.any_order c.args.options.states c.args.bytes.now text lines _ _ c.refuse.result c.requires short
+    text_refused c.args.options.fair c.args.options.lend c.args.options.any_order c.args.options.states c.args.bytes.now text lines _ _ c.refuse.result c.requires short
     c.two_parts.ensures (c.refuse.ensures.text text short c.in-Err.ensures.refused)

@@ -1,4 +1,4 @@
-use Rattle.std.proofs.Common.{◌+◌, ◌++◌, ◌≤◌, ◌∙◌, ℕ, List, length, map, sym, ap, subst}
+use Rattle.std.proofs.Common.{◌++◌, ◌≤◌, ◌∙◌, ℕ, List, length, map, sym, ap, subst}
 use Rattle.std.specs.Prelude.{All}
 use Rattle.pb_base.specs.declared.limits.TheConstants.{MAX_PICKS}
 use Rattle.pb_base.specs.declared.pick.Pick.{Pick}
@@ -48,8 +48,8 @@ returns c =
           other,
           c.in_ok-put_other.ensures
               ∙ ap (λ (t : List ℕ). t ++ other_line what) (c.in_ok-put_outcome.ensures
-              ∙ (ap (λ (t : List ℕ). t ++ outcome_lines names labels (c.args.at + 1) (found_view f).outcome c.deref-2.result.now) c.new-text.ensures.items
-              ∙ ap (λ (cs : List CountedPick). outcome_lines names labels (c.args.at + 1) (found_view f).outcome cs) c.deref-2.ensures.value)),
+              ∙ (ap (λ (t : List ℕ). t ++ outcome_lines names labels 1 (found_view f).outcome c.deref-2.result.now) c.new-text.ensures.items
+              ∙ ap (λ (cs : List CountedPick). outcome_lines names labels 1 (found_view f).outcome cs) c.deref-2.ensures.value)),
         ),
       ),
     )

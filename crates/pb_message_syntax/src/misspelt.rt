@@ -1,10 +1,10 @@
 //! Words that are probably misspelt: a reserved word, an integer or a resource is near, and fits there.
 
-use crate::tokens::{RESERVED, is_at, is_declared, is_name, process_before, text_at};
-use crate::wording::{Told, telling};
 use pb_base::NoMemory;
 use pb_lexer::{LexFault, Mark, Token, lex};
 use pb_message_excerpts::{is_near, nearest};
+use pb_mistakes::tokens::{RESERVED, is_at, is_declared, is_name, process_before, text_at};
+use pb_mistakes::{Told, telling};
 use pb_parser::{ParseFault, parse};
 use std::alloc::{AllocError, Global};
 use std::str;

@@ -1,20 +1,20 @@
 //! The mistakes that are usually made where a text is not a program.
 
-use crate::closing::closing_mistake;
-use crate::foreign::foreign_word;
 use crate::misspelt::misspelt_word;
-use crate::open::{Open, open_before};
-use crate::parts::part_mistake;
-use crate::resources::resource_mistake;
-use crate::signs::sign_mistake;
-use crate::statements::{head_mistake, named_mistake};
-use crate::tokens::{
+use pb_base::NoMemory;
+use pb_lexer::{Mark, Token};
+use pb_mistakes::closing::closing_mistake;
+use pb_mistakes::foreign::foreign_word;
+use pb_mistakes::open::{Open, open_before};
+use pb_mistakes::parts::part_mistake;
+use pb_mistakes::resources::resource_mistake;
+use pb_mistakes::signs::sign_mistake;
+use pb_mistakes::statements::{head_mistake, named_mistake};
+use pb_mistakes::tokens::{
     begins_list, begins_statement, ends_before, ends_list, is_at, is_declaration, is_name,
     is_statement_start, mark_at, process_before, statement_before,
 };
-use crate::wording::{Told, usual};
-use pb_base::NoMemory;
-use pb_lexer::{Mark, Token};
+use pb_mistakes::{Told, usual};
 use std::alloc::Global;
 
 /// Returns the mistake that was probably made in a text, if the token with a number cannot come where it is (behind the

@@ -2,10 +2,10 @@
 //! the text goes wrong.
 
 use crate::mistakes::likely_mistake;
-use crate::tokens::{text_at, token_at};
-use crate::wording::{Shown, Wording};
 use pb_base::NoMemory;
 use pb_lexer::{LexFault, Token, lex};
+use pb_mistakes::tokens::{text_at, token_at};
+use pb_mistakes::{Shown, Wording};
 use pb_parser::{ParseFault, parse};
 use std::alloc::{AllocError, Global};
 

@@ -2,16 +2,16 @@
 
 ghost use Rattle.std.specs.Prelude.{◌≤◌, length};
 
-use crate::foreign::hint_of;
 use crate::misspelt::fault_of;
 use crate::mistakes::word_mistake;
-use crate::open::{Open, open_before};
-use crate::tokens::{
-    is_at, is_declaration, is_name, is_number, is_statement_start, text_at, token_at,
-};
-use crate::wording::{Shown, Told, Wording};
 use pb_base::NoMemory;
 use pb_lexer::{LexFault, Mark, Token, lex};
+use pb_mistakes::foreign::hint_of;
+use pb_mistakes::open::{Open, open_before};
+use pb_mistakes::tokens::{
+    is_at, is_declaration, is_name, is_number, is_statement_start, text_at, token_at,
+};
+use pb_mistakes::{Shown, Told, Wording};
 use std::alloc::{AllocError, Global};
 use std::str;
 
