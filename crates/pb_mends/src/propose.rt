@@ -2,22 +2,32 @@
 
 ghost use Rattle.std.specs.Prelude.{◌≡◌, All, IfOk, true};
 ghost use Rattle.pb_codegen.specs.Compiled.{IsRefused};
+ghost use Rattle.pb_lexer.specs.Cutting.{AreTokensOf};
+ghost use Rattle.pb_lexer.specs.Tokens.{tokens as tokens_view};
 ghost use Rattle.pb_mends.specs.Mends.{HasCause, Mends, edit_of};
 
 use crate::candidates::{add_capital, add_declaration, add_missing, add_respelling};
 use crate::further::gets_further;
+use crate::kept::keeps_others;
 use crate::mend::{Mend, edited};
 use bumpalo::Bump;
 use pb_accept::text_cause;
 use pb_base::NoMemory;
 use pb_codegen::{CompileFault, compile};
-use pb_lexer::{LexFault, lex};
+use pb_lexer::{LexFault, Token, lex};
 use pb_names::NameFault;
 use pb_parser::ParseFault;
 use std::alloc::Global;
 
-/// Returns whether an edit is one of the text and the text gets further with it.
-fn mends_it(alloc: Global, text: &[u8], fault: &CompileFault, mend: &Mend) -> Result<bool, NoMemory>
+/// Returns whether an edit is one of the text, whose other tokens it keeps, and the text gets further with it.
+fn mends_it(
+    alloc: Global,
+    text: &[u8],
+    tokens: &[Token<'_>],
+    fault: &CompileFault,
+    mend: &Mend,
+) -> Result<bool, NoMemory>
+    requires tokens { AreTokensOf text.now (tokens_view tokens.now) }
     requires refused { IsRefused text.now fault.now }
     requires told { HasCause fault.now }
     ensures { IfOk result (λ is. is ≡ true → Mends text.now (edit_of mend.now)) }
@@ -26,26 +36,32 @@ fn mends_it(alloc: Global, text: &[u8], fault: &CompileFault, mend: &Mend) -> Re
         return Ok(false);
     }
     let after = edited(alloc, text, mend)?;
-    gets_further(alloc, text, fault, &after)
+    let left = after.as_slice();
+    let keeps = keeps_others(alloc, text, tokens, mend, left)?;
+    if keeps {
+        gets_further(alloc, text, fault, left)
+    } else {
+        Ok(false)
+    }
 }
 
-/// Returns the edits that may mend a text with this fault.
-fn candidates(alloc: Global, text: &[u8], fault: &CompileFault) -> Result<Vec<Mend>, NoMemory> {
+/// Returns the edits that may mend a text with this fault and these tokens.
+fn candidates(
+    alloc: Global,
+    text: &[u8],
+    tokens: &[Token<'_>],
+    fault: &CompileFault,
+) -> Result<Vec<Mend>, NoMemory> {
     let mut out = Vec::new(alloc);
-    let tokens = match lex(alloc, text) {
-        Ok(tokens) => tokens,
-        Err(LexFault::NoMemory) => return Err(NoMemory),
-        Err(_) => return Ok(out),
-    };
     let is_misspelt = add_respelling(alloc, &mut out, text, fault)?;
     match fault {
         CompileFault::Parse(ParseFault::Syntax(at)) if !is_misspelt => {
-            add_missing(alloc, &mut out, &tokens, *at)?
+            add_missing(alloc, &mut out, tokens, *at)?
         }
         CompileFault::Names(NameFault::Unknown(at)) => {
-            add_declaration(alloc, &mut out, &tokens, *at)?
+            add_declaration(alloc, &mut out, tokens, *at)?
         }
-        CompileFault::Claims(over) => add_capital(alloc, &mut out, &tokens, over)?,
+        CompileFault::Claims(over) => add_capital(alloc, &mut out, tokens, over)?,
         _ => {}
     }
     Ok(out)
@@ -55,20 +71,38 @@ fn candidates(alloc: Global, text: &[u8], fault: &CompileFault) -> Result<Vec<Me
 fn tried(
     alloc: Global,
     text: &[u8],
+    tokens: &[Token<'_>],
     fault: &CompileFault,
     candidates: Vec<Mend>,
 ) -> Result<Vec<Mend>, NoMemory>
+    requires tokens { AreTokensOf text.now (tokens_view tokens.now) }
     requires refused { IsRefused text.now fault.now }
     requires told { HasCause fault.now }
     ensures { IfOk result (λ list. All (λ mend. Mends text.now (edit_of mend)) list.items) }
 {
     let mut out = Vec::new(alloc);
     for mend in candidates {
-        if mends_it(alloc, text, fault, &mend)? {
+        if mends_it(alloc, text, tokens, fault, &mend)? {
             out.push(mend)?;
         }
     }
     Ok(out)
+}
+
+/// Returns the edits with which a text with this fault gets further.
+fn mends_of(alloc: Global, text: &[u8], fault: &CompileFault) -> Result<Vec<Mend>, NoMemory>
+    requires refused { IsRefused text.now fault.now }
+    requires told { HasCause fault.now }
+    ensures { IfOk result (λ list. All (λ mend. Mends text.now (edit_of mend)) list.items) }
+{
+    match lex(alloc, text) {
+        Ok(tokens) => {
+            let candidates = candidates(alloc, text, &tokens, fault)?;
+            tried(alloc, text, &tokens, fault, candidates)
+        }
+        Err(LexFault::NoMemory) => Err(NoMemory),
+        Err(_) => Ok(Vec::new(alloc)),
+    }
 }
 
 /// Returns edits with which a text that is refused gets further; none if it is accepted, or if none is known. The error
@@ -80,10 +114,7 @@ pub fn propose_mends(alloc: Global, text: &[u8]) -> Result<Vec<Mend>, NoMemory>
     match compile(alloc, &arena, text) {
         Ok(_) => Ok(Vec::new(alloc)),
         Err(fault) => match text_cause(&fault) {
-            Some(_) => {
-                let candidates = candidates(alloc, text, &fault)?;
-                tried(alloc, text, &fault, candidates)
-            }
+            Some(_) => mends_of(alloc, text, &fault),
             None => Err(NoMemory),
         },
     }

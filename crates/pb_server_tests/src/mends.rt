@@ -5,7 +5,7 @@ use pb_diagnostics::actions;
 use std::alloc::Global;
 
 /// Texts, and the actions that mend them.
-const CASES: [(&str, &str); 10] = [
+const CASES: [(&str, &str); 12] = [
     (
         "process a begin prnt 1 end\n",
         "[{\"edit\":{\"changes\":{\"file:///a.pb\":[{\"newText\":\"print\",\"range\":{\"end\":{\"character\":20,\"line\":0},\"start\":{\"character\":16,\"line\":0}}}]}},\"kind\":\"quickfix\",\"title\":\"write `print`\"}]",
@@ -37,6 +37,15 @@ const CASES: [(&str, &str); 10] = [
     (
         "resource tape = 1;\nprocess p\nbegin\n  hold 1 of tape do\n    hold 1 of tape do skip od\n  od\nend\n",
         "[{\"edit\":{\"changes\":{\"file:///a.pb\":[{\"newText\":\"2\",\"range\":{\"end\":{\"character\":17,\"line\":0},\"start\":{\"character\":16,\"line\":0}}}]}},\"kind\":\"quickfix\",\"title\":\"make the capital of tape 2\"}]",
+    ),
+    // With the edit the text is refused for a later claim: of the same process, or of the next one.
+    (
+        "resource a = 1;\nresource b = 1;\nprocess p begin hold 2 of a do skip od; hold 3 of b do skip od end\n",
+        "[{\"edit\":{\"changes\":{\"file:///a.pb\":[{\"newText\":\"2\",\"range\":{\"end\":{\"character\":14,\"line\":0},\"start\":{\"character\":13,\"line\":0}}}]}},\"kind\":\"quickfix\",\"title\":\"make the capital of a 2\"}]",
+    ),
+    (
+        "resource a = 1;\nprocess p begin hold 2 of a do skip od end\nprocess q begin hold 3 of a do skip od end\n",
+        "[{\"edit\":{\"changes\":{\"file:///a.pb\":[{\"newText\":\"2\",\"range\":{\"end\":{\"character\":14,\"line\":0},\"start\":{\"character\":13,\"line\":0}}}]}},\"kind\":\"quickfix\",\"title\":\"make the capital of a 2\"}]",
     ),
     ("process a begin skip end\n", "[]"),
     ("process a ? begin skip end\n", "[]"),

@@ -3,8 +3,8 @@ use Rattle.std.proofs.lemmas.Result.{IfOk-weaker}
 use Rattle.pb_mends.specs.Mends.{GetsFurther}
 use Rattle.pb_mends.proofs.propose.mends_it.Goals as goal
 
-pub returns : goal.returns
-returns c =
+pub returns-then-keeps : goal.returns-then-keeps
+returns-then-keeps c =
     IfOk-weaker c.gets_further.result _ _
     (λ is has gets. record {
       fault = c.args.fault.now;
@@ -12,6 +12,7 @@ returns c =
       told = c.requires.told;
       order = omega (arith, c.if-mend.false);
       within = omega (arith, c.if-text-mend.false);
-      further = subst (GetsFurther c.args.text.now c.args.fault.now) (c.deref.ensures.value ∙ c.in_ok-after.ensures) (has gets);
+      kept = c.in_ok-keeps.ensures c.if-keeps.true;
+      further = subst (GetsFurther c.args.text.now c.args.fault.now) (c.as_slice-left.ensures.value ∙ c.in_ok-after.ensures) (has gets);
     })
     c.gets_further.ensures
