@@ -221,17 +221,17 @@ with_resource d name amount = record {
 }
 
 -- the resource is added, or refused for this reason
-abbrev pub AddsResource : DeskValue → (name : List ℕ) → Option ℕ → Option Refusal → List ℕ → DeskValue → Type 0
-AddsResource d name amount (Some refusal) said next = Refuses [] refusal d said next
-AddsResource d name None None said next = ⊥
-AddsResource d name (Some amount) None said next = (said ≡ []) × (next ≡ with_resource d name amount)
+abbrev pub AddsResource : DeskValue → (words : List (List ℕ)) → (name : List ℕ) → Option ℕ → Option Refusal → List ℕ → DeskValue → Type 0
+AddsResource d words name amount (Some refusal) said next = Refuses words refusal d said next
+AddsResource d words name None None said next = ⊥
+AddsResource d words name (Some amount) None said next = (said ≡ []) × (next ≡ with_resource d name amount)
 
 -- `resource`: its name, and how many there are
 abbrev pub AnswersResource : DeskValue → List (List ℕ) → List ℕ → DeskValue → Type 0
 AnswersResource d [] said next = Refuses [] refused.Command d said next
 AnswersResource d (name ∷ []) said next = Refuses [] refused.Command d said next
 AnswersResource d (name ∷ amount ∷ []) said next =
-    AddsResource d name (amount_of amount) (resource_refusal d name (amount_of amount)) said next
+    AddsResource d (name ∷ amount ∷ []) name (amount_of amount) (resource_refusal d name (amount_of amount)) said next
 AnswersResource d (name ∷ amount ∷ other ∷ words) said next = Refuses [] refused.Command d said next
 
 -- a row with the amounts of pairs

@@ -5,7 +5,7 @@ ghost use Rattle.pb_base.specs.Banker.{processes, resources, loan};
 ghost use Rattle.pb_banker.specs.Jobs.{SaysWhy, state_held};
 ghost use Rattle.pb_bank.specs.Answers as answers;
 ghost use Rattle.pb_bank.specs.Desks.{IsRequestOf, job_of};
-ghost use Rattle.pb_bank.specs.Queues.{ServesQueue};
+ghost use Rattle.pb_bank.specs.Queues.{ServesQueue, request_text};
 ghost use Rattle.pb_bank.specs.Words.{words_of};
 
 use crate::desk::Desk;
@@ -68,10 +68,26 @@ impl Desk {
         ensures state { self.new ≡ answers.with_state self.old
             (state_held self.old.bank.state request.now.job request.now.bundle result) }
         ensures among { answers.IsReasonOf self.old.bank.state result }
+        ensures of { IsRequestOf self.new.bank request.now }
     {
         // Called for its contract alone, which the proof needs.
         let _ = self.bank.slots();
         lend(&mut self.bank, request)
+    }
+
+    /// Appends the line of a request of the desk to `out`: a word, the job and the amounts.
+    pub(crate) fn tell_request(
+        &self,
+        out: &mut Vec<u8>,
+        word: &[u8],
+        request: &Request,
+    ) -> Result<(), NoMemory>
+        requires { IsRequestOf self.now.bank request.now }
+        ensures { OnOk result (out.new.items ≡ out.old.items ++ request_text word.now self.now.names request.now) }
+    {
+        // Called for its contract alone, which the proof needs.
+        let _ = self.bank.slots();
+        put_request(out, word, &self.names, request)
     }
 
     /// Grants a request if it is allowed, and appends the answer to `out`.
@@ -113,7 +129,7 @@ impl Desk {
             × (out.new.items ≡ out.old.items ++ said)) }
     {
         match self.grant(request) {
-            Reason::Allowed => put_request(out, granted, &self.names, request),
+            Reason::Allowed => self.tell_request(out, granted, request),
             Reason::OverClaim(r) => self.tell_reason(out, &Reason::OverClaim(r)),
             Reason::OverCash(r) => self.tell_reason(out, &Reason::OverCash(r)),
             Reason::Rest(slots) => self.tell_reason(out, &Reason::Rest(slots)),

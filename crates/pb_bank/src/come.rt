@@ -109,7 +109,7 @@ impl Desk {
         }
         let amount = amount_of(words.second);
         if let Some(refusal) = self.resource_refusal(words.first, amount) {
-            return put_refusal(out, &self.names, b"", refusal);
+            return put_refusal(out, &self.names, text, refusal);
         }
         match amount {
             Some(amount) => self.add_resource(words.first, amount),

@@ -9,7 +9,7 @@ ghost use Rattle.pb_bank.specs.Queues as queue;
 ghost use Rattle.pb_bank.specs.Words.{words_of};
 
 use crate::desk::Desk;
-use crate::queue::{has_wish, put_request, without};
+use crate::queue::{has_wish, without};
 use crate::refusal::{Refusal, put_refusal};
 use crate::request::Request;
 use crate::texts::end_name;
@@ -54,7 +54,7 @@ impl Desk {
             × (out.new.items ≡ out.old.items ++ said)) }
     {
         match self.grant(&wish) {
-            Reason::Allowed => put_request(out, b"granted ", &self.names, &wish),
+            Reason::Allowed => self.tell_request(out, b"granted ", &wish),
             Reason::OverClaim(r) => {
                 end_name(out, b"over claim ", self.names.resources[r].as_slice())
             }
