@@ -1,6 +1,6 @@
 -- What a desk answers to a command.
-use Rattle.std.specs.Prelude.{◌≡◌, ◌⊎◌, ℕ, ◌<◌, ◌≤◌, Bool, true, false, cond, nat_lt}
-use Rattle.std.specs.Prelude.{List, [], ◌∷◌, ◌++◌, length, take, All, codes, slice_index, slice_index_or, slice_set}
+use Rattle.std.specs.Prelude.{◌≡◌, ℕ, ◌<◌, Bool, true, false, cond, nat_lt}
+use Rattle.std.specs.Prelude.{List, [], ◌∷◌, ◌++◌, length, take, codes, slice_index, slice_index_or, slice_set}
 use Rattle.std.specs.Prelude.{Option, Some, None, Result, Ok, Err, replicate, ⊤}
 use Rattle.std.specs.Fmt.{decimal}
 use Rattle.pb_base.specs.declared.limits.TheConstants.{MAX_PROCESSES, MAX_RESOURCES}

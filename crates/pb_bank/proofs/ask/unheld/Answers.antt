@@ -1,7 +1,6 @@
-use Rattle.std.proofs.Common.{◌≡◌, ◌<◌, ◌≤◌, ltb, true, false, arith, length, take, drop, All, ap, sym, ◌∙◌, lt-ltb, le-ltb}
+use Rattle.std.proofs.Common.{◌≡◌, ◌<◌, ◌≤◌, true, false, arith, length, take, All, ap, sym, ◌∙◌, lt-ltb, le-ltb}
 use Rattle.std.proofs.lemmas.List.{take_all, drop_all}
 use Rattle.pb_base.specs.Banker.{loan}
-use Rattle.pb_base.specs.declared.pair.Pair.{Pair}
 use Rattle.pb_banker.proofs.Pairs.{All-more-at}
 use Rattle.pb_bank.specs.Answers.{unheld}
 use Rattle.pb_bank.proofs.PairLemmas.{unheld_next}

@@ -1,6 +1,5 @@
-use Rattle.std.proofs.Common.{◌≡◌, ℕ, suc, ◌+◌, ◌-◌, [], get_or, ap, sym, ◌∙◌, arith}
+use Rattle.std.proofs.Common.{◌≡◌, ◌-◌, [], get_or, ap, arith}
 use Rattle.pb_bank.specs.Words.{words_of}
-use Rattle.pb_bank.proofs.WordLemmas.{nth_first, nth_next}
 use Rattle.pb_bank.proofs.words.nth_word.Goals as goal
 
 pub loop-k-init : goal.loop-k-init
