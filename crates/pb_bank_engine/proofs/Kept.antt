@@ -1,6 +1,6 @@
 -- What is kept of a line.
 use Rattle.std.proofs.Common.{◌≡◌, inl, inr, ℕ, ◌+◌, ◌<◌, ◌≤◌, ◌++◌, ◌||◌, eqb, ltb, List, [], ◌∷◌, length, take, set, refl, true, false, cond}
-use Rattle.std.proofs.Common.{sym, ap, ◌∙◌, subst, length-append, arith, Bool, get_or}
+use Rattle.std.proofs.Common.{sym, ap, ◌∙◌, subst, length-append, arith, Bool}
 use Rattle.std.proofs.lemmas.Bool.{cases_lt, lt-ltb, ne_eqb}
 use Rattle.std.proofs.lemmas.List.{take_all, take-append-le, take_more_set, length-take-le}
 use Rattle.pb_bank.specs.Answers.{AnswersLine, AnswersText, AnswersWords, first_of, rest_of}
@@ -13,14 +13,6 @@ use Rattle.pb_bank_engine.specs.Sessions.{kept, kept_with}
 
 cut : List ℕ → List ℕ
 cut line = take 4097 line
-
--- a first byte that is kept
-pub kept_first : (bytes old : List ℕ) (n b : ℕ) → take n bytes ≡ old → n ≡ 0 → is_blank b ≡ true → old ≡ kept_with old b
-kept_first bytes [] n b is none blank = sym (ap (λ t. cond t [] (b ∷ [])) blank)
-kept_first bytes (x ∷ xs) n b is none blank =
-    let size : length (take n bytes) ≡ length (x ∷ xs) = ap (λ (l : List ℕ). length l) is in
-    let empty : length (take n bytes) ≡ 0 = ap (λ k. length (take k bytes)) none in
-    absurd (omega (arith, size, empty))
 
 -- a line with one byte more, as much of it as is kept
 cut_more : (bytes old : List ℕ) (n b : ℕ) → take n bytes ≡ old → length bytes ≡ 4097 → n < 4097
