@@ -89,13 +89,13 @@ DEBUG: list[tuple[str, dict[str, Any]]] = [
     ("memory", {"kind": "memory"}), *REFUSALS, ("<integer> <value>", {"kind": "variable"}), LINE,
 ]
 BANK: list[tuple[str, dict[str, Any]]] = [
-    *((words, {"kind": words}) for words in ("ready", "granted", "held", "allowed", "queued", "finishes", "memory")),
-    ("granted <job> <text>", {"kind": "granted"}), ("over claim <share>", {"kind": "over claim"}),
+    *((words, {"kind": words}) for words in ("ready", "allowed", "queued", "finishes", "memory")),
+    ("granted <job><shares>", {"kind": "granted"}), ("held <job><shares>", {"kind": "held"}), ("over claim <share>", {"kind": "over claim"}),
     ("wait cash <share> <cash>", {"kind": "wait cash"}), ("wait rest <text>", {"kind": "wait rest"}),
     ("order", {"kind": "order", "text": ""}), ("order <text>", {"kind": "order"}), ("lacks <job> <share>", {"kind": "lacks"}),
     ("twice <job>", {"kind": "twice"}), ("missing <job>", {"kind": "missing"}),
     ("resource <share> capital <capital> cash <cash>", {"kind": "resource"}),
-    ("job <job> <share> claim <claim> holds <holds> needs <needs>", {"kind": "job"}), ("wish <job> <text>", {"kind": "wish"}),
+    ("job <job> <share> claim <claim> holds <holds> needs <needs>", {"kind": "job"}), ("wish <job><shares>", {"kind": "wish"}),
     ("refused <code> <text>", {"kind": "refused"}), LINE,
 ]
 EXPLAIN: list[tuple[str, dict[str, Any]]] = [("<short>: <text>", {"kind": "code"}), LINE]
@@ -106,7 +106,7 @@ LISTS = {
 }
 NAMES = ("process", "resource", "integer", "code", "fault", "outer", "inner", "holder")
 # Keys of which the object has another name, and how they are written.
-OTHERS = {"share": ("resource", LABEL), "job": ("job", LABEL), "short": ("code", CODE)}
+OTHERS = {"share": ("resource", LABEL), "shares": ("amounts", f" (?:0|[1-9][0-9]*) {LABEL}(?:, (?:0|[1-9][0-9]*) {LABEL})*"), "job": ("job", LABEL), "short": ("code", CODE)}
 VALUES = {"amounts": PAIRS, "lines": r"(?P<lines>(?: [1-9][0-9]*)+)", "text": "(?P<text>.*)"}
 
 
@@ -129,7 +129,7 @@ def value_of(key: str, said: str) -> Any:
     """Returns the value of a member of which a line says this."""
     words = said.split()
     if key == "amounts":
-        return [{"amount": int(k), "resource": r} for k, r in zip(words[::2], words[1::2])]
+        return [{"amount": int(k), "resource": r.rstrip(",")} for k, r in zip(words[::2], words[1::2])]
     if key == "lines":
         return [int(word) for word in words]
     if key in NAMES or key in ("text", "job"):

@@ -1,15 +1,16 @@
 -- The pairs of a request, one after another.
 use Rattle.std.proofs.Common.{◌≡◌, ◌≢◌, ℕ, suc, ◌+◌, ◌<◌, ◌++◌, eqb, ltb, Bool, true, false, cond, not, ◌&&◌, List, [], ◌∷◌, length, drop, get_or, set}
-use Rattle.std.proofs.Common.{refl, ap, ◌∙◌, arith, Some, slice_get, All, Result, Err}
+use Rattle.std.proofs.Common.{refl, ap, ◌∙◌, arith, Option, Some, slice_get, All, Result, Err}
 use Rattle.std.proofs.Math.Seq.{drop-cons}
 use Rattle.std.proofs.lemmas.Bool.{eqb-false}
 use Rattle.std.proofs.lemmas.Option.{get_or_from_slice_get}
 use Rattle.std.proofs.lemmas.List.Elements.{All-cons}
 use Rattle.pb_base.specs.declared.pair.Pair.{Pair}
-use Rattle.pb_bank.specs.Answers.{with_amounts}
+use Rattle.pb_base.specs.Banker.{BankerState, loan}
+use Rattle.pb_bank.specs.Answers.{unheld, with_amounts}
 use Rattle.pb_bank.specs.declared.refusal.Refusal.{Refusal}
-use Rattle.pb_bank.specs.declared.refusal.Refusal.TheVariants.{Command, Twice}
-use Rattle.pb_bank.specs.Requests.{has_resource, is_new, on_pair, pair_of, pairs_after, pairs_of}
+use Rattle.pb_bank.specs.declared.refusal.Refusal.TheVariants.{Command, NoComma, Twice}
+use Rattle.pb_bank.specs.Requests.{comma_place, has_resource, is_new, on_pair, pair_of, pairs_after, pairs_of, resource_place}
 use Rattle.pb_bank.specs.Words.{has_two, is_comma}
 
 -- ---- one resource among pairs
@@ -44,19 +45,35 @@ new_parts pairs pair e = not_there (has_resource pairs pair.resource) (ltb (leng
 -- ---- further pairs
 
 pub more_pairs : (names : List (List ℕ)) (pairs : List Pair) (comma amount resource : List ℕ) (rest : List (List ℕ)) (t : Bool)
-    (one : Result Pair Refusal) → is_comma comma ≡ t → pair_of names amount resource ≡ one
+    (one : Result Pair Refusal) → is_comma comma ≡ t → pair_of names (resource_place pairs) amount resource ≡ one
     → pairs_after names pairs (comma ∷ amount ∷ resource ∷ rest)
-    ≡ cond t (on_pair one (λ pair. cond (is_new pairs pair) (pairs_after names (pairs ++ pair ∷ []) rest) (Err Twice))) (Err Command)
+    ≡ cond t (on_pair one (λ pair. cond (is_new pairs pair) (pairs_after names (pairs ++ pair ∷ []) rest) (Err (Twice pair.resource))))
+    (Err (NoComma (comma_place pairs)))
 more_pairs names pairs comma amount resource rest t one comma_is one_is =
-    let next : Pair → Result (List Pair) Refusal = λ pair. cond (is_new pairs pair) (pairs_after names (pairs ++ pair ∷ []) rest) (Err Twice) in
-    ap (λ b. cond b (on_pair (pair_of names amount resource) next) (Err Command)) comma_is
-    ∙ ap (λ o. cond t (on_pair o next) (Err Command)) one_is
+    let next : Pair → Result (List Pair) Refusal =
+    λ pair. cond (is_new pairs pair) (pairs_after names (pairs ++ pair ∷ []) rest) (Err (Twice pair.resource)) in
+    let none : Result (List Pair) Refusal = Err (NoComma (comma_place pairs)) in
+    ap (λ b. cond b (on_pair (pair_of names (resource_place pairs) amount resource) next) none) comma_is
+    ∙ ap (λ o. cond t (on_pair o next) none) one_is
+
+choice : List Pair → Bool → Result (List Pair) Refusal
+choice pairs b = cond b (Err Command) (Err (NoComma (comma_place pairs)))
 
 pub short_pairs : (names : List (List ℕ)) (pairs : List Pair) (comma : List ℕ) (words : List (List ℕ)) → has_two words ≡ false
-    → pairs_after names pairs (comma ∷ words) ≡ Err Command
-short_pairs names pairs comma [] e = refl
-short_pairs names pairs comma (a ∷ []) e = refl
-short_pairs names pairs comma (a ∷ b ∷ words) e = absurd cc
+    → is_comma comma ≡ true → pairs_after names pairs (comma ∷ words) ≡ Err Command
+unfolding choice
+short_pairs names pairs comma [] e is = ap (choice pairs) is
+short_pairs names pairs comma (a ∷ []) e is = ap (choice pairs) is
+short_pairs names pairs comma (a ∷ b ∷ words) e is = absurd cc
+
+-- another word stands in the place of a comma
+pub no_comma : (names : List (List ℕ)) (pairs : List Pair) (comma : List ℕ) (words : List (List ℕ)) → is_comma comma ≡ false
+    → pairs_after names pairs (comma ∷ words) ≡ Err (NoComma (comma_place pairs))
+unfolding choice
+no_comma names pairs comma [] is = ap (choice pairs) is
+no_comma names pairs comma (a ∷ []) is = ap (choice pairs) is
+no_comma names pairs comma (a ∷ b ∷ words) is =
+    more_pairs names pairs comma a b words false (pair_of names (resource_place pairs) a b) is refl
 
 pub no_pairs : (names : List (List ℕ)) (words : List (List ℕ)) → has_two words ≡ false → pairs_of names words ≡ Err Command
 unfolding pairs_of
@@ -65,10 +82,23 @@ no_pairs names (a ∷ []) e = refl
 no_pairs names (a ∷ b ∷ words) e = absurd cc
 
 pub first_pair : (names : List (List ℕ)) (amount resource : List ℕ) (rest : List (List ℕ)) (one : Result Pair Refusal)
-    → pair_of names amount resource ≡ one
+    → pair_of names (resource_place []) amount resource ≡ one
     → pairs_of names (amount ∷ resource ∷ rest) ≡ on_pair one (λ pair. pairs_after names (pair ∷ []) rest)
 unfolding pairs_of
 first_pair names amount resource rest one is = ap (λ o. on_pair o (λ pair. pairs_after names (pair ∷ []) rest)) is
+
+-- ---- what is not held
+
+pub unheld_next : (s : BankerState) (p : ℕ) (pairs : List Pair) (i : ℕ) (pair : Pair) (b : Bool) → i < length pairs
+    → slice_get pairs i ≡ Some pair → ltb (loan s p pair.resource) pair.amount ≡ b
+    → unheld s p (drop i pairs) ≡ cond b (Some pair.resource) (unheld s p (drop (i + 1) pairs))
+unheld_next s p pairs i pair b lt here same =
+    let n : suc i ≡ i + 1 = omega arith in
+    let at : get_or pairs i pair ≡ pair = get_or_from_slice_get pairs i pair pair here in
+    let later : ℕ → Option ℕ = λ k. unheld s p (drop k pairs) in
+    ap (unheld s p) (drop-cons pairs i pair lt)
+    ∙ (ap (λ (q : Pair). cond (ltb (loan s p q.resource) q.amount) (Some q.resource) (later (suc i))) at
+    ∙ (ap (λ t. cond t (Some pair.resource) (later (suc i))) same ∙ ap (λ k. cond b (Some pair.resource) (later k)) n))
 
 -- ---- rows of claims
 

@@ -103,6 +103,15 @@ held_none b good w is (OverClaim r) why wishes of none = none
 held_none b good w is (OverCash r) why wishes of none = none
 held_none b good w is (Rest slots) why wishes of none = none
 
+-- a request is one of the bank that has lent, too
+pub request_held : (b next : BankValue) (w : Request) (reason : Reason) → next.state ≡ state_held b.state w.job w.bundle reason
+    → IsRequestOf b w → IsRequestOf next w
+request_held b next w reason same is =
+    request_in b next w
+    (ap (λ (s : BankerState). s.claims) same ∙ held_claims b.state w.job w.bundle reason)
+    (ap (λ (s : BankerState). s.capital) same ∙ held_capital b.state w.job w.bundle reason)
+    is
+
 -- a desk of another bank with the same claims and capital
 pub desk_kept : (b next : BankValue) (names : NameTable) (wishes waiting : List Request) → next.state.claims ≡ b.state.claims
     → next.state.capital ≡ b.state.capital → All (IsRequestOf b) waiting → NoneIsAllowed next.state waiting

@@ -4,7 +4,7 @@ use Rattle.std.proofs.Common.{refl, sym, ap, ◌∙◌, arith, inl, inr}
 use Rattle.std.proofs.lemmas.Bool.{cases_lt, eqb-true}
 use Rattle.std.proofs.Math.Seq.{drop-cons}
 use Rattle.std.proofs.lemmas.List.{take_more, drop_all, length-drop}
-use Rattle.pb_bank.specs.Words.{is_blank, ends_word, before, cut_words, words_of}
+use Rattle.pb_bank.specs.Words.{is_blank, ends_word, before, cut_words, trimmed, words_of}
 
 next_at : (text : List ℕ) (i : ℕ) → i < length text → drop i text ≡ get_or text i 0 ∷ drop (i + 1) text
 next_at text i lt =
@@ -25,6 +25,23 @@ skip_blank text i lt blank =
     let rest = drop (i + 1) text in
     let step : cut_words [] (b ∷ rest) ≡ cut_words [] rest = ap (λ t. cut_at [] b rest t (eqb b 44)) blank in
     sym (ap (cut_words []) (next_at text i lt) ∙ step)
+
+pub trim_blank : (text : List ℕ) (i : ℕ) → i < length text → is_blank (get_or text i 0) ≡ true
+    → trimmed (drop (i + 1) text) ≡ trimmed (drop i text)
+trim_blank text i lt blank =
+    let b = get_or text i 0 in
+    let rest = drop (i + 1) text in
+    sym (ap trimmed (next_at text i lt) ∙ ap (λ t. cond t (trimmed rest) (b ∷ rest)) blank)
+
+-- a text that begins with no blank stays as it is
+pub trim_ends : (text : List ℕ) (i : ℕ) → i < length text → is_blank (get_or text i 0) ≡ false → trimmed (drop i text) ≡ drop i text
+trim_ends text i lt blank =
+    let b = get_or text i 0 in
+    let rest = drop (i + 1) text in
+    ap trimmed (next_at text i lt) ∙ (ap (λ t. cond t (trimmed rest) (b ∷ rest)) blank ∙ sym (next_at text i lt))
+
+pub trim_nothing : (text : List ℕ) (i : ℕ) → length text ≤ i → trimmed (drop i text) ≡ drop i text
+trim_nothing text i le = ap trimmed (drop_all i text le) ∙ sym (drop_all i text le)
 
 -- a byte that ends no word is of the word
 pub word_more : (text : List ℕ) (i : ℕ) → i < length text → is_blank (get_or text i 0) ≡ false → eqb (get_or text i 0) 44 ≡ false
@@ -111,3 +128,18 @@ first_kept text n rest is ends some =
     let lt : n < length text = omega (arith, size, cut, some) in
     let here : rest ≡ get_or text n 0 ∷ drop (n + 1) text = is ∙ next_at text n lt in
     ap (λ (x : List ℕ). is_blank (get_or x 0 0)) here ∙ ends lt
+
+-- the word with a number is the one with the number before, behind the first word
+pub nth_next : (words : List (List ℕ)) (n : ℕ) (word : List ℕ) (rest : List (List ℕ)) → words ≡ before word rest
+    → (length word ≡ 0 → words ≡ []) → get_or words (suc n) [] ≡ get_or rest n []
+nth_next words n [] rest is none =
+    let empty = none refl in
+    let nothing : rest ≡ [] = sym is ∙ empty in
+    ap (λ (ws : List (List ℕ)). get_or ws (suc n) []) empty ∙ ap (λ (ws : List (List ℕ)). get_or ws n []) (sym nothing)
+nth_next words n (b ∷ bs) rest is none = ap (λ (ws : List (List ℕ)). get_or ws (suc n) []) is
+
+-- the first of the words
+pub nth_first : (words : List (List ℕ)) (word : List ℕ) (rest : List (List ℕ)) → words ≡ before word rest
+    → (length word ≡ 0 → words ≡ []) → word ≡ get_or words 0 []
+nth_first words [] rest is none = ap (λ (ws : List (List ℕ)). get_or ws 0 []) (sym (none refl))
+nth_first words (b ∷ bs) rest is none = ap (λ (ws : List (List ℕ)). get_or ws 0 []) (sym is)

@@ -1,6 +1,6 @@
 -- What a desk answers to a command.
-use Rattle.std.specs.Prelude.{◌≡◌, ◌⊎◌, ℕ, ◌<◌, ◌≤◌, Bool, true, false, cond, nat_lt}
-use Rattle.std.specs.Prelude.{List, [], ◌∷◌, ◌++◌, length, take, All, codes, slice_index, slice_index_or, slice_set}
+use Rattle.std.specs.Prelude.{◌≡◌, ℕ, ◌<◌, Bool, true, false, cond, nat_lt}
+use Rattle.std.specs.Prelude.{List, [], ◌∷◌, ◌++◌, length, take, codes, slice_index, slice_index_or, slice_set}
 use Rattle.std.specs.Prelude.{Option, Some, None, Result, Ok, Err, replicate, ⊤}
 use Rattle.std.specs.Fmt.{decimal}
 use Rattle.pb_base.specs.declared.limits.TheConstants.{MAX_PROCESSES, MAX_RESOURCES}
@@ -23,31 +23,32 @@ use Rattle.pb_bank.specs.declared.refusal.Refusal.{Refusal}
 use Rattle.pb_bank.specs.declared.refusal.Refusal.TheVariants as refused
 use Rattle.pb_bank.specs.declared.request.Request.{Request}
 use Rattle.pb_bank.specs.Desks.{DeskValue, NoneIsAllowed, place_of, job_of}
-use Rattle.pb_bank.specs.Queues.{has_wish, without_wish, wishes_text, ServesQueue}
+use Rattle.pb_bank.specs.Queues.{has_wish, request_text, without_wish, wishes_text, ServesQueue}
 use Rattle.pb_bank.specs.Requests.{pairs_of, request_of}
-use Rattle.pb_bank.specs.Words.{words_of, kind_of, amount_of, is_name}
+use Rattle.pb_bank.specs.Words.{words_of, kind_within, amount_of, is_name, shown_word, trimmed}
 
 -- ---- refusals
 
--- the line of a refusal
-abbrev pub refusal_text : Refusal → List ℕ
-refusal_text refused.Command = line (codes "refused B1 not a command")
-refusal_text refused.Amount = line (codes "refused B2 an amount is not in 0..=1000000")
-refusal_text refused.Name = line (codes "refused B3 not a name of 1 to 32 bytes")
-refusal_text refused.NoResource = line (codes "refused B4 no such resource")
-refusal_text refused.NoJob = line (codes "refused B5 no such job")
-refusal_text refused.Twice = line (codes "refused B6 a resource is named twice")
-refusal_text refused.Taken = line (codes "refused B7 the name is taken")
-refusal_text refused.Late = line (codes "refused B8 a job was there before the resource")
-refusal_text refused.Full = line (codes "refused B9 there are as many as there can be")
-refusal_text refused.OverCapital = line (codes "refused B10 a claim is over the capital")
-refusal_text refused.NotHeld = line (codes "refused B11 the job does not hold as much")
-refusal_text refused.HasWish = line (codes "refused B12 the job has a wish in the queue")
-refusal_text refused.NoWish = line (codes "refused B13 the job has no wish in the queue")
+-- the line of a refusal of a command with these words behind it
+abbrev pub refusal_text : NameTable → (words : List (List ℕ)) → Refusal → List ℕ
+refusal_text names words refused.Command = line (codes "refused B1 not a command")
+refusal_text names words (refused.NoComma at) = line (codes "refused B1 not a command: a comma is missing before " ++ shown_word words at)
+refusal_text names words refused.Amount = line (codes "refused B2 an amount is not in 0..=1000000")
+refusal_text names words refused.Name = line (codes "refused B3 not a name of 1 to 32 bytes")
+refusal_text names words (refused.NoResource at) = line (codes "refused B4 no such resource: " ++ shown_word words at)
+refusal_text names words (refused.NoJob at) = line (codes "refused B5 no such job: " ++ shown_word words at)
+refusal_text names words (refused.Twice r) = line (codes "refused B6 a resource is named twice: " ++ name_of names.resources r)
+refusal_text names words refused.Taken = line (codes "refused B7 the name is taken")
+refusal_text names words refused.Late = line (codes "refused B8 a job was there before the resource")
+refusal_text names words refused.Full = line (codes "refused B9 there are as many as there can be")
+refusal_text names words (refused.OverCapital r) = line (codes "refused B10 a claim is over the capital: " ++ name_of names.resources r)
+refusal_text names words (refused.NotHeld r) = line (codes "refused B11 the job does not hold as much: " ++ name_of names.resources r)
+refusal_text names words refused.HasWish = line (codes "refused B12 the job has a wish in the queue")
+refusal_text names words refused.NoWish = line (codes "refused B13 the job has no wish in the queue")
 
--- what is said of a refused command, which changes nothing
-abbrev pub Refuses : Refusal → DeskValue → List ℕ → DeskValue → Type 0
-Refuses refusal d said next = (said ≡ refusal_text refusal) × (next ≡ d)
+-- what is said of a refused command with these words, which changes nothing
+abbrev pub Refuses : (words : List (List ℕ)) → Refusal → DeskValue → List ℕ → DeskValue → Type 0
+Refuses words refusal d said next = (said ≡ refusal_text d.names words refusal) × (next ≡ d)
 
 -- ---- requests
 
@@ -59,9 +60,9 @@ with_state d s = record d { bank = record d.bank { state = s } }
 abbrev pub jobs_text : NameTable → List Bool → ℕ → List ℕ
 jobs_text names set n = each_below (λ p. cond (slice_index_or set p false) (codes " " ++ name_of names.processes p) []) n
 
--- the line of a reason; that of a request that is allowed has this word
+-- the line of a reason; that of a request that is allowed is given
 abbrev pub reason_text : (allowed : List ℕ) → NameTable → BankerState → Reason → List ℕ
-reason_text allowed names s Allowed = line allowed
+reason_text allowed names s Allowed = allowed
 reason_text allowed names s (OverClaim r) = line (codes "over claim " ++ name_of names.resources r)
 reason_text allowed names s (OverCash r) =
     line (codes "wait cash " ++ name_of names.resources r ++ codes " " ++ decimal (cash s r))
@@ -78,17 +79,19 @@ IsReasonAmong n (Rest slots) = ⊤
 abbrev pub IsReasonOf : BankerState → Reason → Type 0
 IsReasonOf s reason = IsReasonAmong (resources s) reason
 
--- a request that is allowed is granted; of another it is said why not, and nothing changes
-abbrev pub Grants : (allowed : List ℕ) → DeskValue → Request → List ℕ → DeskValue → Type 0
-Grants allowed d w said next =
+-- a request that is allowed is granted, and a line with this word says so; of another it is said why not, and nothing
+-- changes
+abbrev pub Grants : (granted : List ℕ) → DeskValue → Request → List ℕ → DeskValue → Type 0
+Grants granted d w said next =
     (reason : Reason) × SaysWhy d.bank.state w.job w.bundle reason
-    × (said ≡ reason_text allowed d.names d.bank.state reason)
+    × (said ≡ reason_text (request_text granted d.names w) d.names d.bank.state reason)
     × (next ≡ with_state d (state_held d.bank.state w.job w.bundle reason))
 
 -- what is said of a request, if the words say one
-abbrev pub OfRequest : (Request → List ℕ → DeskValue → Type 0) → Result Request Refusal → DeskValue → List ℕ → DeskValue → Type 0
-OfRequest Says (Err refusal) d said next = Refuses refusal d said next
-OfRequest Says (Ok w) d said next = Says w said next
+abbrev pub OfRequest : (Request → List ℕ → DeskValue → Type 0) → (words : List (List ℕ)) → Result Request Refusal → DeskValue
+    → List ℕ → DeskValue → Type 0
+OfRequest Says words (Err refusal) d said next = Refuses words refusal d said next
+OfRequest Says words (Ok w) d said next = Says w said next
 
 -- a request for more; a job that has a wish in the queue asks for nothing else
 abbrev pub if_free : DeskValue → Result Request Refusal → Result Request Refusal
@@ -101,11 +104,11 @@ asked_of d words = if_free d (request_of d words)
 
 -- `ask`: a request is granted if it is allowed; of another it is said why not
 abbrev pub AnswersAsk : DeskValue → List (List ℕ) → List ℕ → DeskValue → Type 0
-AnswersAsk d words said next = OfRequest (Grants (codes "granted") d) (asked_of d words) d said next
+AnswersAsk d words said next = OfRequest (Grants (codes "granted ") d) words (asked_of d words) d said next
 
 -- `hold`: the same, said in another word
 abbrev pub AnswersHold : DeskValue → List (List ℕ) → List ℕ → DeskValue → Type 0
-AnswersHold d words said next = OfRequest (Grants (codes "held") d) (asked_of d words) d said next
+AnswersHold d words said next = OfRequest (Grants (codes "held ") d) words (asked_of d words) d said next
 
 -- the desk whose queue has one wish more
 abbrev pub with_wish : DeskValue → Request → DeskValue
@@ -113,7 +116,8 @@ with_wish d w = record d { wishes = d.wishes ++ w ∷ [] }
 
 -- a wish is granted if it is allowed; one over the claim is told so; any other joins the queue
 abbrev pub WantsFor : Reason → DeskValue → Request → List ℕ → DeskValue → Type 0
-WantsFor Allowed d w said next = (said ≡ line (codes "granted")) × (next ≡ with_state d (with_loan d.bank.state w.job w.bundle))
+WantsFor Allowed d w said next =
+    (said ≡ request_text (codes "granted ") d.names w) × (next ≡ with_state d (with_loan d.bank.state w.job w.bundle))
 WantsFor (OverClaim r) d w said next = (said ≡ line (codes "over claim " ++ name_of d.names.resources r)) × (next ≡ d)
 WantsFor (OverCash r) d w said next = (said ≡ line (codes "queued")) × (next ≡ with_wish d w)
 WantsFor (Rest slots) d w said next = (said ≡ line (codes "queued")) × (next ≡ with_wish d w)
@@ -124,49 +128,53 @@ Wants d w said next = (reason : Reason) × SaysWhy d.bank.state w.job w.bundle r
 
 -- `want`: a request is granted, is told that it is over the claim, or joins the queue
 abbrev pub AnswersWant : DeskValue → List (List ℕ) → List ℕ → DeskValue → Type 0
-AnswersWant d words said next = OfRequest (Wants d) (asked_of d words) d said next
+AnswersWant d words said next = OfRequest (Wants d) words (asked_of d words) d said next
 
 -- a wish is taken back, if the job has one
 abbrev pub DropsWish : Bool → DeskValue → ℕ → List ℕ → DeskValue → Type 0
-DropsWish false d p said next = Refuses refused.NoWish d said next
+DropsWish false d p said next = Refuses [] refused.NoWish d said next
 DropsWish true d p said next = (said ≡ []) × (next ≡ record d { wishes = without_wish d.wishes p })
 
 -- the wish of the job that has this slot is dropped, if the name is that of a job
-abbrev pub AnswersDropping : DeskValue → Option ℕ → List ℕ → DeskValue → Type 0
-AnswersDropping d None said next = Refuses refused.NoJob d said next
-AnswersDropping d (Some p) said next = DropsWish (has_wish d.wishes p) d p said next
+abbrev pub AnswersDropping : DeskValue → (words : List (List ℕ)) → Option ℕ → List ℕ → DeskValue → Type 0
+AnswersDropping d words None said next = Refuses words (refused.NoJob 0) d said next
+AnswersDropping d words (Some p) said next = DropsWish (has_wish d.wishes p) d p said next
 
 -- `drop`: a job takes back its wish
 abbrev pub AnswersDrop : DeskValue → List (List ℕ) → List ℕ → DeskValue → Type 0
-AnswersDrop d [] said next = Refuses refused.Command d said next
-AnswersDrop d (job ∷ []) said next = AnswersDropping d (job_of d job) said next
-AnswersDrop d (job ∷ other ∷ words) said next = Refuses refused.Command d said next
+AnswersDrop d [] said next = Refuses [] refused.Command d said next
+AnswersDrop d (job ∷ []) said next = AnswersDropping d (job ∷ []) (job_of d job) said next
+AnswersDrop d (job ∷ other ∷ words) said next = Refuses [] refused.Command d said next
 
 -- why a request would be granted or not; nothing changes
 abbrev pub Explains : DeskValue → Request → List ℕ → DeskValue → Type 0
 Explains d w said next =
     (reason : Reason) × SaysWhy d.bank.state w.job w.bundle reason
-    × (said ≡ reason_text (codes "allowed") d.names d.bank.state reason) × (next ≡ d)
+    × (said ≡ reason_text (line (codes "allowed")) d.names d.bank.state reason) × (next ≡ d)
 
 -- `why`: what would be said of a request
 abbrev pub AnswersWhy : DeskValue → List (List ℕ) → List ℕ → DeskValue → Type 0
-AnswersWhy d words said next = OfRequest (Explains d) (request_of d words) d said next
+AnswersWhy d words said next = OfRequest (Explains d) words (request_of d words) d said next
 
 -- ---- coming back
 
--- the job holds as much of each
-abbrev pub IsHeld : BankerState → Request → Type 0
-IsHeld s w = All (λ pair. pair.amount ≤ loan s w.job pair.resource) w.bundle
+-- the first resource of which the job does not hold as much, if there is one
+abbrev pub unheld : BankerState → (p : ℕ) → List Pair → Option ℕ
+unheld s p [] = None
+unheld s p (pair ∷ pairs) = cond (nat_lt (loan s p pair.resource) pair.amount) (Some pair.resource) (unheld s p pairs)
 
--- what a job holds comes back, and the queue is served; a job that does not hold as much is refused
+-- what a job gives comes back, and the queue is served; or it does not hold as much of this resource, and is refused
+abbrev pub GivesBack : Option ℕ → DeskValue → Request → List ℕ → DeskValue → Type 0
+GivesBack None d w said next = ServesQueue (with_state d (without_loan d.bank.state w.job w.bundle)) said next
+GivesBack (Some r) d w said next = Refuses [] (refused.NotHeld r) d said next
+
+-- what a job holds comes back
 abbrev pub Gives : DeskValue → Request → List ℕ → DeskValue → Type 0
-Gives d w said next =
-    (IsHeld d.bank.state w × ServesQueue (with_state d (without_loan d.bank.state w.job w.bundle)) said next)
-    ⊎ ((¬ IsHeld d.bank.state w) × Refuses refused.NotHeld d said next)
+Gives d w said next = GivesBack (unheld d.bank.state w.job w.bundle) d w said next
 
 -- `give`: a job gives back some of what it holds
 abbrev pub AnswersGive : DeskValue → List (List ℕ) → List ℕ → DeskValue → Type 0
-AnswersGive d words said next = OfRequest (Gives d) (request_of d words) d said next
+AnswersGive d words said next = OfRequest (Gives d) words (request_of d words) d said next
 
 -- the desk that a job has left: all comes back, and its name is gone, and its wish
 abbrev pub desk_left : DeskValue → ℕ → DeskValue
@@ -177,15 +185,15 @@ desk_left d p = record {
 }
 
 -- the job that has this slot leaves, if the name is that of a job
-abbrev pub AnswersLeaving : DeskValue → Option ℕ → List ℕ → DeskValue → Type 0
-AnswersLeaving d None said next = Refuses refused.NoJob d said next
-AnswersLeaving d (Some p) said next = ServesQueue (desk_left d p) said next
+abbrev pub AnswersLeaving : DeskValue → (words : List (List ℕ)) → Option ℕ → List ℕ → DeskValue → Type 0
+AnswersLeaving d words None said next = Refuses words (refused.NoJob 0) d said next
+AnswersLeaving d words (Some p) said next = ServesQueue (desk_left d p) said next
 
 -- `leave`: a job leaves the bank
 abbrev pub AnswersLeave : DeskValue → List (List ℕ) → List ℕ → DeskValue → Type 0
-AnswersLeave d [] said next = Refuses refused.Command d said next
-AnswersLeave d (job ∷ []) said next = AnswersLeaving d (job_of d job) said next
-AnswersLeave d (job ∷ other ∷ words) said next = Refuses refused.Command d said next
+AnswersLeave d [] said next = Refuses [] refused.Command d said next
+AnswersLeave d (job ∷ []) said next = AnswersLeaving d (job ∷ []) (job_of d job) said next
+AnswersLeave d (job ∷ other ∷ words) said next = Refuses [] refused.Command d said next
 
 -- ---- resources and jobs
 
@@ -213,18 +221,18 @@ with_resource d name amount = record {
 }
 
 -- the resource is added, or refused for this reason
-abbrev pub AddsResource : DeskValue → (name : List ℕ) → Option ℕ → Option Refusal → List ℕ → DeskValue → Type 0
-AddsResource d name amount (Some refusal) said next = Refuses refusal d said next
-AddsResource d name None None said next = ⊥
-AddsResource d name (Some amount) None said next = (said ≡ []) × (next ≡ with_resource d name amount)
+abbrev pub AddsResource : DeskValue → (words : List (List ℕ)) → (name : List ℕ) → Option ℕ → Option Refusal → List ℕ → DeskValue → Type 0
+AddsResource d words name amount (Some refusal) said next = Refuses words refusal d said next
+AddsResource d words name None None said next = ⊥
+AddsResource d words name (Some amount) None said next = (said ≡ []) × (next ≡ with_resource d name amount)
 
 -- `resource`: its name, and how many there are
 abbrev pub AnswersResource : DeskValue → List (List ℕ) → List ℕ → DeskValue → Type 0
-AnswersResource d [] said next = Refuses refused.Command d said next
-AnswersResource d (name ∷ []) said next = Refuses refused.Command d said next
+AnswersResource d [] said next = Refuses [] refused.Command d said next
+AnswersResource d (name ∷ []) said next = Refuses [] refused.Command d said next
 AnswersResource d (name ∷ amount ∷ []) said next =
-    AddsResource d name (amount_of amount) (resource_refusal d name (amount_of amount)) said next
-AnswersResource d (name ∷ amount ∷ other ∷ words) said next = Refuses refused.Command d said next
+    AddsResource d (name ∷ amount ∷ []) name (amount_of amount) (resource_refusal d name (amount_of amount)) said next
+AnswersResource d (name ∷ amount ∷ other ∷ words) said next = Refuses [] refused.Command d said next
 
 -- a row with the amounts of pairs
 abbrev pub with_amounts : List ℕ → List Pair → List ℕ
@@ -242,8 +250,8 @@ desk_joined d bank p name = record d { bank = bank; names = record d.names { pro
 -- a job of this name joins the bank, and the queue is served; or it is refused
 abbrev pub Joins : DeskValue → (name : List ℕ) → Joined → BankValue → List ℕ → DeskValue → Type 0
 Joins d name (joining.In p) bank said next = ServesQueue (desk_joined d bank p name) said next
-Joins d name (joining.OverCapital r) bank said next = Refuses refused.OverCapital d said next
-Joins d name joining.Full bank said next = Refuses refused.Full d said next
+Joins d name (joining.OverCapital r) bank said next = Refuses [] (refused.OverCapital r) d said next
+Joins d name joining.Full bank said next = Refuses [] refused.Full d said next
 
 -- a job with the claims that pairs say
 abbrev pub JoinsWith : DeskValue → (name : List ℕ) → List Pair → List ℕ → DeskValue → Type 0
@@ -252,9 +260,9 @@ JoinsWith d name pairs said next =
     × Joins d name joined bank said next
 
 -- the job joins with these claims, or is refused
-abbrev pub AddsJob : DeskValue → (name : List ℕ) → Result (List Pair) Refusal → List ℕ → DeskValue → Type 0
-AddsJob d name (Err refusal) said next = Refuses refusal d said next
-AddsJob d name (Ok pairs) said next = JoinsWith d name pairs said next
+abbrev pub AddsJob : DeskValue → (words : List (List ℕ)) → (name : List ℕ) → Result (List Pair) Refusal → List ℕ → DeskValue → Type 0
+AddsJob d words name (Err refusal) said next = Refuses words refusal d said next
+AddsJob d words name (Ok pairs) said next = JoinsWith d name pairs said next
 
 -- a job of a name that can be one and is not taken
 abbrev pub job_for : DeskValue → (name : List ℕ) → Result (List Pair) Refusal → Result (List Pair) Refusal
@@ -263,8 +271,9 @@ job_for d name pairs =
 
 -- `job`: its name, and its claims
 abbrev pub AnswersJob : DeskValue → List (List ℕ) → List ℕ → DeskValue → Type 0
-AnswersJob d [] said next = Refuses refused.Command d said next
-AnswersJob d (name ∷ words) said next = AddsJob d name (job_for d name (pairs_of d.names.resources words)) said next
+AnswersJob d [] said next = Refuses [] refused.Command d said next
+AnswersJob d (name ∷ words) said next =
+    AddsJob d (name ∷ words) name (job_for d name (pairs_of d.names.resources words)) said next
 
 -- ---- orders
 
@@ -282,29 +291,29 @@ TellsOrder d said next =
     (order : List ℕ) × IsLeastFirst d.bank.state order
     × (said ≡ line (codes "order" ++ order_text d.names d.bank.used order)) × (next ≡ d)
 
--- with the slot of a job, if there is one
-abbrev pub on_slot : Option ℕ → (ℕ → Option (List ℕ)) → Option (List ℕ)
-on_slot None next = None
-on_slot (Some p) next = next p
+-- with the slot of a job, if the word with this number names one
+abbrev pub on_slot : (at : ℕ) → Option ℕ → (ℕ → Result (List ℕ) Refusal) → Result (List ℕ) Refusal
+on_slot at None next = Err (refused.NoJob at)
+on_slot at (Some p) next = next p
 
 -- the slots of the jobs of these names, behind others
-abbrev pub slots_after : DeskValue → (slots : List ℕ) → List (List ℕ) → Option (List ℕ)
-slots_after d slots [] = Some slots
-slots_after d slots (word ∷ words) = on_slot (job_of d word) (λ p. slots_after d (slots ++ p ∷ []) words)
+abbrev pub slots_after : DeskValue → (slots : List ℕ) → List (List ℕ) → Result (List ℕ) Refusal
+slots_after d slots [] = Ok slots
+slots_after d slots (word ∷ words) = on_slot (length slots) (job_of d word) (λ p. slots_after d (slots ++ p ∷ []) words)
 
 -- the slots of the jobs of these names
-abbrev pub slots_of : DeskValue → List (List ℕ) → Option (List ℕ)
+abbrev pub slots_of : DeskValue → List (List ℕ) → Result (List ℕ) Refusal
 slots_of d words = slots_after d [] words
 
 -- the line of what is said of an order: all finish in it; or the job that comes twice; or the first that lacks a
 -- resource when its turn comes, and which; or one that is not in it
-abbrev pub order_line : NameTable → (slots : List ℕ) → OrderSaid → List ℕ
-order_line names slots order.Finishing = line (codes "finishes")
-order_line names slots (order.NoJob k) = refusal_text refused.NoJob
-order_line names slots (order.Twice k) = line (codes "twice " ++ name_of names.processes (slice_index slots k))
-order_line names slots (order.Lacks k r) =
+abbrev pub order_line : NameTable → (words : List (List ℕ)) → (slots : List ℕ) → OrderSaid → List ℕ
+order_line names words slots order.Finishing = line (codes "finishes")
+order_line names words slots (order.NoJob k) = refusal_text names words (refused.NoJob k)
+order_line names words slots (order.Twice k) = line (codes "twice " ++ name_of names.processes (slice_index slots k))
+order_line names words slots (order.Lacks k r) =
     line (codes "lacks " ++ name_of names.processes (slice_index slots k) ++ codes " " ++ name_of names.resources r)
-order_line names slots (order.Missing p) = line (codes "missing " ++ name_of names.processes p)
+order_line names words slots (order.Missing p) = line (codes "missing " ++ name_of names.processes p)
 
 -- the places and the resource that are named are there
 abbrev pub IsAmong : (count resources : ℕ) → OrderSaid → Type 0
@@ -315,19 +324,19 @@ IsAmong count resources (order.Lacks k r) = (k < count) × (r < resources)
 IsAmong count resources (order.Missing p) = ⊤
 
 -- whether all jobs finish in an order of slots, and why not
-abbrev pub SaysWhether : DeskValue → (slots : List ℕ) → List ℕ → DeskValue → Type 0
-SaysWhether d slots said next =
-    (of : OrderSaid) × SaysOfOrder d.bank.state d.bank.used slots of × (said ≡ order_line d.names slots of) × (next ≡ d)
+abbrev pub SaysWhether : DeskValue → (words : List (List ℕ)) → (slots : List ℕ) → List ℕ → DeskValue → Type 0
+SaysWhether d words slots said next =
+    (of : OrderSaid) × SaysOfOrder d.bank.state d.bank.used slots of × (said ≡ order_line d.names words slots of) × (next ≡ d)
 
 -- so it is if each name is that of a job
-abbrev pub ChecksOrder : DeskValue → Option (List ℕ) → List ℕ → DeskValue → Type 0
-ChecksOrder d None said next = Refuses refused.NoJob d said next
-ChecksOrder d (Some slots) said next = SaysWhether d slots said next
+abbrev pub ChecksOrder : DeskValue → (words : List (List ℕ)) → Result (List ℕ) Refusal → List ℕ → DeskValue → Type 0
+ChecksOrder d words (Err refusal) said next = Refuses words refusal d said next
+ChecksOrder d words (Ok slots) said next = SaysWhether d words slots said next
 
 -- of no words an order in which all finish; else what is said of the order that they name
 abbrev pub AnswersOrder : DeskValue → List (List ℕ) → List ℕ → DeskValue → Type 0
 AnswersOrder d [] said next = TellsOrder d said next
-AnswersOrder d (word ∷ words) said next = ChecksOrder d (slots_of d (word ∷ words)) said next
+AnswersOrder d (word ∷ words) said next = ChecksOrder d (word ∷ words) (slots_of d (word ∷ words)) said next
 
 -- ---- the state
 
@@ -367,13 +376,13 @@ help_text =
 -- a command of one word
 abbrev pub AnswersAlone : List ℕ → DeskValue → List (List ℕ) → List ℕ → DeskValue → Type 0
 AnswersAlone text d [] said next = (said ≡ text) × (next ≡ d)
-AnswersAlone text d (word ∷ words) said next = Refuses refused.Command d said next
+AnswersAlone text d (word ∷ words) said next = Refuses [] refused.Command d said next
 
 -- ---- lines
 
 -- what is said of a command of this kind with these words behind it
 abbrev pub AnswersKind : Kind → DeskValue → List (List ℕ) → List ℕ → DeskValue → Type 0
-AnswersKind kind.Skip d words said next = Refuses refused.Command d said next
+AnswersKind kind.Skip d words said next = Refuses [] refused.Command d said next
 AnswersKind kind.Resource d words said next = AnswersResource d words said next
 AnswersKind kind.Job d words said next = AnswersJob d words said next
 AnswersKind kind.Ask d words said next = AnswersAsk d words said next
@@ -386,7 +395,7 @@ AnswersKind kind.Why d words said next = AnswersWhy d words said next
 AnswersKind kind.Order d words said next = AnswersOrder d words said next
 AnswersKind kind.State d words said next = AnswersAlone (state_text d.names d.bank ++ wishes_text d.names d.wishes) d words said next
 AnswersKind kind.Help d words said next = AnswersAlone help_text d words said next
-AnswersKind kind.Other d words said next = Refuses refused.Command d said next
+AnswersKind kind.Other d words said next = Refuses [] refused.Command d said next
 
 -- each answer ends with this line
 abbrev pub ready_line : List ℕ
@@ -406,17 +415,16 @@ abbrev pub rest_of : List (List ℕ) → List (List ℕ)
 rest_of [] = []
 rest_of (word ∷ words) = words
 
--- the most bytes of a command
+-- the most bytes of a command, from the first that is no blank
 abbrev pub most : ℕ
 most = 4096
 
--- what is answered to a line, without its line feed
-abbrev pub AnswersText : Bool → DeskValue → List ℕ → List ℕ → DeskValue → Type 0
-AnswersText true d line' said next = (said ≡ refusal_text refused.Command ++ ready_line) × (next ≡ d)
-AnswersText false d line' said next =
-    AnswersWords (kind_of (first_of (words_of line'))) d (rest_of (words_of line')) said next
+-- what is answered to a line, without its line feed and without the blanks that it begins with
+abbrev pub AnswersText : DeskValue → List ℕ → List ℕ → DeskValue → Type 0
+AnswersText d text said next =
+    AnswersWords (kind_within (nat_lt most (length text)) (first_of (words_of text))) d (rest_of (words_of text)) said next
 
 -- a line is answered, and after it no wish of the queue is allowed
 unfoldable pub AnswersLine : DeskValue → List ℕ → List ℕ → DeskValue → Type 0
 AnswersLine d line' said next =
-    AnswersText (nat_lt most (length line')) d line' said next × NoneIsAllowed next.bank.state next.wishes
+    AnswersText d (trimmed line') said next × NoneIsAllowed next.bank.state next.wishes

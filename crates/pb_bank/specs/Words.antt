@@ -1,6 +1,6 @@
 -- The words of a command.
 use Rattle.std.specs.Prelude.{ℕ, Bool, true, false, cond, ◌&&◌, ◌||◌, nat_lt, ◌==◌, List, [], ◌∷◌, ◌++◌, length}
-use Rattle.std.specs.Prelude.{Option, Some, None, codes, slice_index_or}
+use Rattle.std.specs.Prelude.{Option, Some, None, codes, map, slice_index_or}
 use Rattle.std.specs.Char.{is_ascii_alphabetic, is_ascii_digit}
 use Rattle.std.specs.List.{list_all}
 use Rattle.std.specs.Str.{bytes_eq}
@@ -22,6 +22,11 @@ ends_word b = is_blank b || b == 44
 abbrev pub before : List ℕ → List (List ℕ) → List (List ℕ)
 before [] words = words
 before (b ∷ bytes) words = (b ∷ bytes) ∷ words
+
+-- a text without the blanks that it begins with
+abbrev pub trimmed : List ℕ → List ℕ
+trimmed [] = []
+trimmed (b ∷ bytes) = cond (is_blank b) (trimmed bytes) (b ∷ bytes)
 
 -- the words of bytes that come behind the first part of a word: blanks part them, and a comma is a word
 abbrev pub cut_words : (word : List ℕ) → List ℕ → List (List ℕ)
@@ -54,14 +59,26 @@ is_name_byte b = is_ascii_alphabetic b || is_ascii_digit b || b == 95 || b == 45
 abbrev pub is_name : List ℕ → Bool
 is_name word = nat_lt (length word) 33 && list_all is_name_byte word
 
+-- a byte of a word as it is shown: one that is no sign of ASCII is a question mark
+abbrev pub shown_byte : ℕ → ℕ
+shown_byte b = cond (nat_lt 32 b && nat_lt b 127) b 63
+
+-- the word with a number, as it is shown
+abbrev pub shown_word : List (List ℕ) → ℕ → List ℕ
+shown_word words k = map shown_byte (slice_index_or words k [])
+
 -- a word that is a comma
 abbrev pub is_comma : List ℕ → Bool
 is_comma word = bytes_eq word (codes ",")
 
+-- there is no word, or one that begins with `#`
+abbrev pub is_skipped : List ℕ → Bool
+is_skipped word = length word == 0 || slice_index_or word 0 0 == 35
+
 -- which command begins with this word; of no word, or one that begins with `#`, none does
 unfoldable pub kind_of : List ℕ → Kind
 kind_of word =
-    cond (length word == 0 || slice_index_or word 0 0 == 35) Skip (
+    cond (is_skipped word) Skip (
     cond (bytes_eq word (codes "ask")) Ask (
     cond (bytes_eq word (codes "give")) Give (
     cond (bytes_eq word (codes "want")) Want (
@@ -74,3 +91,7 @@ kind_of word =
     cond (bytes_eq word (codes "order")) Order (
     cond (bytes_eq word (codes "state")) State (
     cond (bytes_eq word (codes "help")) Help Other))))))))))))
+
+-- the same; a command that is too long is none, and a comment may have any length
+abbrev pub kind_within : (too_long : Bool) → List ℕ → Kind
+kind_within too_long word = cond too_long (cond (is_skipped word) Skip Other) (kind_of word)

@@ -7,15 +7,15 @@ ghost use Rattle.pb_bank.specs.Queues.{wishes_text};
 ghost use Rattle.pb_bank.specs.Words.{words_of};
 
 use crate::desk::Desk;
-use crate::kind::{Kind, kind_of};
+use crate::kind::{Kind, kind_within};
 use crate::queue::put_wishes;
 use crate::refusal::{Refusal, put_refusal};
 use crate::texts::{put_help, put_state};
-use crate::words::first_word;
+use crate::words::{first_word, trimmed};
 use pb_base::NoMemory;
 use pb_base::writing::put;
 
-/// The most bytes of a command.
+/// The most bytes of a command, from the first that is no blank.
 pub const MAX_COMMAND: usize = 4_096;
 
 impl Desk {
@@ -32,7 +32,7 @@ impl Desk {
             put_state(out, &self.names, &self.bank)?;
             put_wishes(out, &self.names, &self.wishes)
         } else {
-            put_refusal(out, Refusal::Command)
+            put_refusal(out, &self.names, b"", Refusal::Command)
         }
     }
 
@@ -45,7 +45,7 @@ impl Desk {
         if first_word(text).word.is_empty() {
             put_help(out)
         } else {
-            put_refusal(out, Refusal::Command)
+            put_refusal(out, &self.names, b"", Refusal::Command)
         }
     }
 
@@ -55,11 +55,11 @@ impl Desk {
             × (out.new.items ≡ out.old.items ++ said)) }
     {
         match kind {
-            Kind::Ask => self.say_ask(out, b"granted", text),
+            Kind::Ask => self.say_ask(out, b"granted ", text),
             Kind::Want => self.say_want(out, text),
             Kind::Drop => self.say_drop(out, text),
             Kind::Give => self.say_give(out, text),
-            Kind::Hold => self.say_ask(out, b"held", text),
+            Kind::Hold => self.say_ask(out, b"held ", text),
             Kind::Why => self.say_why(out, text),
             Kind::Leave => self.say_leave(out, text),
             Kind::Job => self.say_job(out, text),
@@ -67,7 +67,7 @@ impl Desk {
             Kind::Order => self.say_order(out, text),
             Kind::State => self.say_state(out, text),
             Kind::Help => self.say_help(out, text),
-            Kind::Skip | Kind::Other => put_refusal(out, Refusal::Command),
+            Kind::Skip | Kind::Other => put_refusal(out, &self.names, b"", Refusal::Command),
         }
     }
 
@@ -82,12 +82,9 @@ impl Desk {
     {
         // Called for its contract alone, which the proof needs.
         let _ = self.waiting();
-        if MAX_COMMAND < line.len() {
-            put_refusal(out, Refusal::Command)?;
-            return put(out, b"ready\n");
-        }
-        let first = first_word(line);
-        let kind = kind_of(first.word);
+        let text = trimmed(line);
+        let first = first_word(text);
+        let kind = kind_within(MAX_COMMAND < text.len(), first.word);
         if kind == Kind::Skip {
             return Ok(());
         }

@@ -1,16 +1,15 @@
 //! Requests, and what comes back.
 
-ghost use Rattle.std.specs.Prelude.{◌≡◌, ◌++◌, ◌<◌, ◌≤◌, ◌↔◌, ℕ, List, codes, length, All, OnOk, IsTrue, take};
-ghost use Rattle.std.specs.Bool.{OnTrue, OnFalse};
+ghost use Rattle.std.specs.Prelude.{◌≡◌, ◌++◌, ◌<◌, ◌≤◌, [], ℕ, List, codes, length, All, OnOk, IfNone, take, drop};
 ghost use Rattle.pb_base.specs.Banker.{processes, resources, loan};
 ghost use Rattle.pb_banker.specs.Jobs.{SaysWhy, state_held};
 ghost use Rattle.pb_bank.specs.Answers as answers;
 ghost use Rattle.pb_bank.specs.Desks.{IsRequestOf, job_of};
-ghost use Rattle.pb_bank.specs.Queues.{ServesQueue};
+ghost use Rattle.pb_bank.specs.Queues.{ServesQueue, request_text};
 ghost use Rattle.pb_bank.specs.Words.{words_of};
 
 use crate::desk::Desk;
-use crate::queue::without;
+use crate::queue::{put_request, without};
 use crate::refusal::{Refusal, put_refusal};
 use crate::request::Request;
 use crate::texts::put_reason;
@@ -46,19 +45,19 @@ fn lend(bank: &mut Bank, request: &Request) -> Reason
     }
 }
 
-/// Returns whether a job holds as much.
-fn holds(bank: &Bank, request: &Request) -> bool
+/// Returns the first resource of which a job does not hold as much.
+fn unheld(bank: &Bank, request: &Request) -> Option<usize>
     requires { IsRequestOf bank.now request.now }
-    ensures yes { OnTrue result (answers.IsHeld bank.now.state request.now) }
-    ensures no { OnFalse result (¬ answers.IsHeld bank.now.state request.now) }
+    ensures first { result ≡ answers.unheld bank.now.state request.now.job request.now.bundle }
+    ensures none { IfNone result (All (λ pair. pair.amount ≤ loan bank.now.state request.now.job pair.resource) request.now.bundle) }
 {
     for i in 0..request.bundle.len() {
         let pair = request.bundle.get(i);
-        if pair.amount > bank.loan(request.job, pair.resource as usize) {
-            return false;
+        if bank.loan(request.job, pair.resource as usize) < pair.amount {
+            return Some(pair.resource as usize);
         }
     }
-    true
+    None
 }
 
 impl Desk {
@@ -69,10 +68,26 @@ impl Desk {
         ensures state { self.new ≡ answers.with_state self.old
             (state_held self.old.bank.state request.now.job request.now.bundle result) }
         ensures among { answers.IsReasonOf self.old.bank.state result }
+        ensures of { IsRequestOf self.new.bank request.now }
     {
         // Called for its contract alone, which the proof needs.
         let _ = self.bank.slots();
         lend(&mut self.bank, request)
+    }
+
+    /// Appends the line of a request of the desk to `out`: a word, the job and the amounts.
+    pub(crate) fn tell_request(
+        &self,
+        out: &mut Vec<u8>,
+        word: &[u8],
+        request: &Request,
+    ) -> Result<(), NoMemory>
+        requires { IsRequestOf self.now.bank request.now }
+        ensures { OnOk result (out.new.items ≡ out.old.items ++ request_text word.now self.now.names request.now) }
+    {
+        // Called for its contract alone, which the proof needs.
+        let _ = self.bank.slots();
+        put_request(out, word, &self.names, request)
     }
 
     /// Grants a request if it is allowed, and appends the answer to `out`.
@@ -83,16 +98,41 @@ impl Desk {
         text: &[u8],
     ) -> Result<(), NoMemory>
         ensures { OnOk result ((said : List ℕ)
-            × answers.OfRequest (answers.Grants granted.now self.old) (answers.asked_of self.old (words_of text.now))
-            self.old said self.new
+            × answers.OfRequest (answers.Grants granted.now self.old) (words_of text.now)
+            (answers.asked_of self.old (words_of text.now)) self.old said self.new
             × (out.new.items ≡ out.old.items ++ said)) }
     {
         match self.asked_of(text) {
-            Ok(request) => {
-                let reason = self.grant(&request);
-                put_reason(out, granted, &self.names, &self.bank, &reason)
-            }
-            Err(refusal) => put_refusal(out, refusal),
+            Ok(request) => self.tell_grant(out, granted, &request),
+            Err(refusal) => put_refusal(out, &self.names, text, refusal),
+        }
+    }
+
+    /// Appends why a request is not allowed to `out`.
+    fn tell_reason(&self, out: &mut Vec<u8>, reason: &Reason) -> Result<(), NoMemory>
+        requires { answers.IsReasonOf self.now.bank.state reason.now }
+        ensures { OnOk result (out.new.items
+            ≡ out.old.items ++ answers.reason_text [] self.now.names self.now.bank.state reason.now) }
+    {
+        put_reason(out, b"", &self.names, &self.bank, reason)
+    }
+
+    /// Grants a request if it is allowed, and appends a line that says so, or why not, to `out`.
+    fn tell_grant(
+        &mut self,
+        out: &mut Vec<u8>,
+        granted: &[u8],
+        request: &Request,
+    ) -> Result<(), NoMemory>
+        requires { IsRequestOf self.old.bank request.now }
+        ensures { OnOk result ((said : List ℕ) × answers.Grants granted.now self.old request.now said self.new
+            × (out.new.items ≡ out.old.items ++ said)) }
+    {
+        match self.grant(request) {
+            Reason::Allowed => self.tell_request(out, granted, request),
+            Reason::OverClaim(r) => self.tell_reason(out, &Reason::OverClaim(r)),
+            Reason::OverCash(r) => self.tell_reason(out, &Reason::OverCash(r)),
+            Reason::Rest(slots) => self.tell_reason(out, &Reason::Rest(slots)),
         }
     }
 
@@ -104,9 +144,9 @@ impl Desk {
         match self.request_of(text) {
             Ok(request) => {
                 let reason = reason_of(&self.bank, &request);
-                put_reason(out, b"allowed", &self.names, &self.bank, &reason)
+                put_reason(out, b"allowed\n", &self.names, &self.bank, &reason)
             }
-            Err(refusal) => put_refusal(out, refusal),
+            Err(refusal) => put_refusal(out, &self.names, text, refusal),
         }
     }
 
@@ -116,13 +156,12 @@ impl Desk {
         ensures { OnOk result ((said : List ℕ) × answers.Gives self.old request.now said self.new
             × (out.new.items ≡ out.old.items ++ said)) }
     {
-        if holds(&self.bank, request) {
-            let wishes = mem::replace(&mut self.wishes, Vec::new(self.alloc));
-            self.bank.give(request.job, &request.bundle);
-            self.serve(out, wishes)
-        } else {
-            put_refusal(out, Refusal::NotHeld)
+        if let Some(r) = unheld(&self.bank, request) {
+            return put_refusal(out, &self.names, b"", Refusal::NotHeld(r));
         }
+        let wishes = mem::replace(&mut self.wishes, Vec::new(self.alloc));
+        self.bank.give(request.job, &request.bundle);
+        self.serve(out, wishes)
     }
 
     /// Takes back what a job gives, and serves the queue.
@@ -132,7 +171,7 @@ impl Desk {
     {
         match self.request_of(text) {
             Ok(request) => self.give(out, &request),
-            Err(refusal) => put_refusal(out, refusal),
+            Err(refusal) => put_refusal(out, &self.names, text, refusal),
         }
     }
 
@@ -143,11 +182,11 @@ impl Desk {
     {
         let name = first_word(text);
         if name.word.is_empty() || !first_word(name.rest).word.is_empty() {
-            return put_refusal(out, Refusal::Command);
+            return put_refusal(out, &self.names, b"", Refusal::Command);
         }
         match self.job_of(name.word) {
             Some(p) => self.leave(out, p),
-            None => put_refusal(out, Refusal::NoJob),
+            None => put_refusal(out, &self.names, text, Refusal::NoJob(0)),
         }
     }
 

@@ -102,18 +102,18 @@ impl Desk {
             × (out.new.items ≡ out.old.items ++ said)) }
     {
         let Some(words) = two_words(text) else {
-            return put_refusal(out, Refusal::Command);
+            return put_refusal(out, &self.names, b"", Refusal::Command);
         };
         if !first_word(words.rest).word.is_empty() {
-            return put_refusal(out, Refusal::Command);
+            return put_refusal(out, &self.names, b"", Refusal::Command);
         }
         let amount = amount_of(words.second);
         if let Some(refusal) = self.resource_refusal(words.first, amount) {
-            return put_refusal(out, refusal);
+            return put_refusal(out, &self.names, text, refusal);
         }
         match amount {
             Some(amount) => self.add_resource(words.first, amount),
-            None => put_refusal(out, Refusal::Amount),
+            None => put_refusal(out, &self.names, b"", Refusal::Amount),
         }
     }
 
@@ -148,8 +148,8 @@ impl Desk {
                 self.names.processes[p] = name;
                 self.serve(out, wishes)
             }
-            Joined::OverCapital(_) => put_refusal(out, Refusal::OverCapital),
-            Joined::Full => put_refusal(out, Refusal::Full),
+            Joined::OverCapital(r) => put_refusal(out, &self.names, b"", Refusal::OverCapital(r)),
+            Joined::Full => put_refusal(out, &self.names, b"", Refusal::Full),
         }
     }
 
@@ -160,11 +160,11 @@ impl Desk {
     {
         let name = first_word(text);
         if name.word.is_empty() {
-            return put_refusal(out, Refusal::Command);
+            return put_refusal(out, &self.names, b"", Refusal::Command);
         }
         match self.claims_for(name.word, name.rest) {
             Ok(bundle) => self.join(out, name.word, &bundle),
-            Err(refusal) => put_refusal(out, refusal),
+            Err(refusal) => put_refusal(out, &self.names, text, refusal),
         }
     }
 }

@@ -100,7 +100,7 @@ impl Desk {
         // Called for its contract alone, which the proof needs.
         let _ = self.bank.resources();
         let Some(job) = self.job_of(name.word) else {
-            return Err(Refusal::NoJob);
+            return Err(Refusal::NoJob(0));
         };
         let bundle = bundle_of(&self.names.resources, name.rest)?;
         Ok(Request { job, bundle })

@@ -103,16 +103,37 @@ fn kind_of_word(word: &[u8]) -> Kind
     }
 }
 
-/// Returns which command begins with a word.
-#[tactic(auto, unfolding(crate::specs::Words::kind_of))]
-pub fn kind_of(word: &[u8]) -> Kind
-    ensures { result ≡ spec.kind_of word.now }
+/// Returns whether there is no word, or one that begins with `#`.
+fn is_skipped(word: &[u8]) -> bool
+    ensures { result ≡ spec.is_skipped word.now }
 {
     if word.is_empty() {
-        return Kind::Skip;
+        return true;
     }
-    if word[0] == b'#' {
+    word[0] == b'#'
+}
+
+/// Returns which command begins with a word.
+#[tactic(auto, unfolding(crate::specs::Words::kind_of))]
+fn kind_of(word: &[u8]) -> Kind
+    ensures { result ≡ spec.kind_of word.now }
+{
+    if is_skipped(word) {
         return Kind::Skip;
     }
     kind_of_word(word)
+}
+
+/// Returns which command begins with a word. A command that is too long is none, and a comment may have any length.
+pub fn kind_within(too_long: bool, word: &[u8]) -> Kind
+    ensures { result ≡ spec.kind_within too_long word.now }
+{
+    if !too_long {
+        return kind_of(word);
+    }
+    if is_skipped(word) {
+        Kind::Skip
+    } else {
+        Kind::Other
+    }
 }

@@ -20,3 +20,4 @@ pub use desk::Desk;
 pub use kind::Kind;
 pub use refusal::Refusal;
 pub use request::Request;
+pub use words::is_blank;

@@ -1,6 +1,6 @@
 //! Orders in which jobs finish.
 
-ghost use Rattle.std.specs.Prelude.{◌≡◌, ◌<◌, ◌++◌, ℕ, List, Some, None, length, All, IfOk, IfSome, IfNone, OnOk};
+ghost use Rattle.std.specs.Prelude.{◌≡◌, ◌<◌, ◌++◌, ℕ, List, Ok, Err, length, All, IfOk, IfErr, OnOk};
 ghost use Rattle.pb_base.specs.Lines.{names_view, name_of};
 ghost use Rattle.pb_bank.specs.Answers as answers;
 ghost use Rattle.pb_bank.specs.Words.{words_of};
@@ -55,15 +55,17 @@ fn put_job(out: &mut Vec<u8>, words: &[u8], names: &Names, p: usize) -> Result<(
 fn put_order_said(
     out: &mut Vec<u8>,
     names: &Names,
+    text: &[u8],
     slots: &[u8],
     said: OrderSaid,
 ) -> Result<(), NoMemory>
     requires { answers.IsAmong (length slots.now) (length (names_view names.now).resources) said }
-    ensures { OnOk result (out.new.items ≡ out.old.items ++ answers.order_line (names_view names.now) slots.now said) }
+    ensures { OnOk result (out.new.items
+        ≡ out.old.items ++ answers.order_line (names_view names.now) (words_of text.now) slots.now said) }
 {
     match said {
         OrderSaid::Finishing => put_line(out, b"finishes"),
-        OrderSaid::NoJob(_) => put_refusal(out, Refusal::NoJob),
+        OrderSaid::NoJob(k) => put_refusal(out, names, text, Refusal::NoJob(k)),
         OrderSaid::Twice(k) => {
             put_job(out, b"twice ", names, slots[k] as usize)?;
             put(out, b"\n")
@@ -92,22 +94,22 @@ impl Desk {
         put(out, b"\n")
     }
 
-    /// Returns the slots of the jobs that words name, if there are such jobs.
+    /// Returns the slots of the jobs that words name, or the first word that names none.
     #[tactic(auto, using(crate::proofs::WordLemmas::before_some, crate::proofs::WordLemmas::before_none))]
-    fn slots_of(&self, text: &[u8]) -> Result<Option<Vec<u8>>, NoMemory>
-        ensures some { IfOk result (λ found. IfSome found (λ slots. answers.slots_of self.now (words_of text.now) ≡ Some slots.items)) }
-        ensures below { IfOk result (λ found. IfSome found (λ slots. All (λ p. p < MAX_PROCESSES) slots.items)) }
-        ensures none { IfOk result (λ found. IfNone found (answers.slots_of self.now (words_of text.now) ≡ None)) }
+    fn slots_of(&self, text: &[u8]) -> Result<Result<Vec<u8>, Refusal>, NoMemory>
+        ensures some { IfOk result (λ found. IfOk found (λ slots. answers.slots_of self.now (words_of text.now) ≡ Ok slots.items)) }
+        ensures below { IfOk result (λ found. IfOk found (λ slots. All (λ p. p < MAX_PROCESSES) slots.items)) }
+        ensures none { IfOk result (λ found. IfErr found (λ refusal. answers.slots_of self.now (words_of text.now) ≡ Err refusal)) }
     {
         let mut slots = Vec::new(self.alloc);
         let mut rest = text;
         loop {
             let name = first_word(rest);
             if name.word.is_empty() {
-                return Ok(Some(slots));
+                return Ok(Ok(slots));
             }
             let Some(p) = self.job_of(name.word) else {
-                return Ok(None);
+                return Ok(Err(Refusal::NoJob(slots.len())));
             };
             slots.push(p as u8)?;
             rest = name.rest;
@@ -115,13 +117,13 @@ impl Desk {
     }
 
     /// Appends whether all jobs finish in an order of slots to `out`, and why not.
-    fn tell_whether(&self, out: &mut Vec<u8>, slots: &[u8]) -> Result<(), NoMemory>
+    fn tell_whether(&self, out: &mut Vec<u8>, text: &[u8], slots: &[u8]) -> Result<(), NoMemory>
         requires { All (λ p. p < MAX_PROCESSES) slots.now }
-        ensures { OnOk result ((said : List ℕ) × answers.SaysWhether self.now slots.now said self.now
+        ensures { OnOk result ((said : List ℕ) × answers.SaysWhether self.now (words_of text.now) slots.now said self.now
             × (out.new.items ≡ out.old.items ++ said)) }
     {
         let said = self.bank.check_order(slots);
-        put_order_said(out, &self.names, slots, said)
+        put_order_said(out, &self.names, text, slots, said)
     }
 
     /// Appends an order in which all jobs finish to `out`, or what is said of the order that words name.
@@ -134,8 +136,8 @@ impl Desk {
             return self.tell_order(out);
         }
         match self.slots_of(text)? {
-            Some(slots) => self.tell_whether(out, &slots),
-            None => put_refusal(out, Refusal::NoJob),
+            Ok(slots) => self.tell_whether(out, text, &slots),
+            Err(refusal) => put_refusal(out, &self.names, text, refusal),
         }
     }
 }

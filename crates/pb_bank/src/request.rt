@@ -16,17 +16,17 @@ pub struct Request {
     pub bundle: Bundle,
 }
 
-/// Returns an amount of the resource of this name.
-fn pair_of(names: &[Vec<u8>], amount: &[u8], resource: &[u8]) -> Result<Pair, Refusal>
+/// Returns an amount of the resource of this name, which is the word with this number.
+fn pair_of(names: &[Vec<u8>], at: usize, amount: &[u8], resource: &[u8]) -> Result<Pair, Refusal>
     requires { length names.now ≤ MAX_RESOURCES }
-    ensures said { result ≡ spec.pair_of (map (λ name. name.items) names.now) amount.now resource.now }
+    ensures said { result ≡ spec.pair_of (map (λ name. name.items) names.now) at amount.now resource.now }
     ensures below { IfOk result (λ pair. pair.resource < length names.now) }
 {
     let Some(amount) = amount_of(amount) else {
         return Err(Refusal::Amount);
     };
     let Some(r) = place_of(names, resource) else {
-        return Err(Refusal::NoResource);
+        return Err(Refusal::NoResource(at));
     };
     Ok(Pair {
         resource: r as u8,
@@ -62,7 +62,7 @@ pub(crate) fn bundle_of(names: &[Vec<u8>], text: &[u8]) -> Result<Bundle, Refusa
     let Some(words) = two_words(text) else {
         return Err(Refusal::Command);
     };
-    let pair = match pair_of(names, words.first, words.second) {
+    let pair = match pair_of(names, 2, words.first, words.second) {
         Ok(pair) => pair,
         Err(refusal) => return Err(refusal),
     };
@@ -73,18 +73,19 @@ pub(crate) fn bundle_of(names: &[Vec<u8>], text: &[u8]) -> Result<Bundle, Refusa
         if comma.word.is_empty() {
             return Ok(bundle);
         }
+        let place = 3 * bundle.len();
+        if !is_comma(comma.word) {
+            return Err(Refusal::NoComma(place));
+        }
         let Some(words) = two_words(comma.rest) else {
             return Err(Refusal::Command);
         };
-        if !is_comma(comma.word) {
-            return Err(Refusal::Command);
-        }
-        let pair = match pair_of(names, words.first, words.second) {
+        let pair = match pair_of(names, place + 2, words.first, words.second) {
             Ok(pair) => pair,
             Err(refusal) => return Err(refusal),
         };
         if !is_new(&bundle, pair) {
-            return Err(Refusal::Twice);
+            return Err(Refusal::Twice(pair.resource as usize));
         }
         bundle.push(pair);
         rest = words.rest;

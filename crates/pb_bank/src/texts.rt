@@ -63,7 +63,7 @@ pub(crate) fn put_jobs(
     Ok(())
 }
 
-/// Appends the line of a reason to `out`.
+/// Appends the line of a reason to `out`; that of a request that is allowed is given.
 pub(crate) fn put_reason(
     out: &mut Vec<u8>,
     allowed: &[u8],
@@ -78,7 +78,7 @@ pub(crate) fn put_reason(
         ≡ out.old.items ++ said.reason_text allowed.now (names_view names.now) bank.now.state reason.now) }
 {
     match reason {
-        Reason::Allowed => put_line(out, allowed),
+        Reason::Allowed => put(out, allowed),
         Reason::OverClaim(r) => end_name(out, b"over claim ", names.resources[*r].as_slice()),
         Reason::OverCash(r) => {
             put_name(out, b"wait cash ", names.resources[*r].as_slice())?;

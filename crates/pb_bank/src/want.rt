@@ -54,7 +54,7 @@ impl Desk {
             × (out.new.items ≡ out.old.items ++ said)) }
     {
         match self.grant(&wish) {
-            Reason::Allowed => put_line(out, b"granted"),
+            Reason::Allowed => self.tell_request(out, b"granted ", &wish),
             Reason::OverClaim(r) => {
                 end_name(out, b"over claim ", self.names.resources[r].as_slice())
             }
@@ -69,7 +69,7 @@ impl Desk {
     {
         match self.asked_of(text) {
             Ok(wish) => self.want(out, wish),
-            Err(refusal) => put_refusal(out, refusal),
+            Err(refusal) => put_refusal(out, &self.names, text, refusal),
         }
     }
 
@@ -80,7 +80,7 @@ impl Desk {
             × (out.new.items ≡ out.old.items ++ said)) }
     {
         if !has_wish(&self.wishes, p) {
-            return put_refusal(out, Refusal::NoWish);
+            return put_refusal(out, &self.names, b"", Refusal::NoWish);
         }
         let others = without(self.alloc, &self.wishes, p)?;
         self.wishes = others;
@@ -94,11 +94,11 @@ impl Desk {
     {
         let name = first_word(text);
         if name.word.is_empty() || !first_word(name.rest).word.is_empty() {
-            return put_refusal(out, Refusal::Command);
+            return put_refusal(out, &self.names, b"", Refusal::Command);
         }
         match self.job_of(name.word) {
             Some(p) => self.drop_wish(out, p),
-            None => put_refusal(out, Refusal::NoJob),
+            None => put_refusal(out, &self.names, text, Refusal::NoJob(0)),
         }
     }
 }

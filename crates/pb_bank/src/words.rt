@@ -1,6 +1,6 @@
 //! The words of a line.
 
-ghost use Rattle.std.specs.Prelude.{◌≡◌, ◌<◌, ◌≤◌, ◌||◌, ◌==◌, ◌∷◌, [], length, take, drop, slice_index, map, IfSome, IfNone};
+ghost use Rattle.std.specs.Prelude.{◌≡◌, ◌<◌, ◌≤◌, ◌||◌, ◌==◌, ◌∷◌, [], length, take, drop, slice_index, slice_index_or, map, IfSome, IfNone};
 ghost use Rattle.std.specs.Prelude.{true, false};
 ghost use Rattle.std.specs.Char.{is_ascii_digit};
 ghost use Rattle.std.specs.List.{list_all};
@@ -26,17 +26,19 @@ pub struct TwoWords<'t> {
     pub rest: &'t [u8],
 }
 
-fn is_blank(b: u8) -> bool
+/// Returns whether a byte is a space, a tab or a carriage return.
+pub fn is_blank(b: u8) -> bool
     ensures { result ≡ spec.is_blank b }
 {
     b == b' ' || b == b'\t' || b == b'\r'
 }
 
-#[tactic(auto, using(crate::proofs::WordLemmas::skip_blank))]
+#[tactic(auto, using(crate::proofs::WordLemmas::skip_blank, crate::proofs::WordLemmas::trim_blank, crate::proofs::WordLemmas::trim_ends, crate::proofs::WordLemmas::trim_nothing))]
 /// Returns the number of blanks that a text begins with.
 fn blanks(text: &[u8]) -> usize
     ensures bound { result ≤ length text.now }
     ensures words { spec.words_of (drop result text.now) ≡ spec.words_of text.now }
+    ensures trimmed { spec.trimmed text.now ≡ drop result text.now }
     ensures ends { result < length text.now → spec.is_blank (slice_index text.now result) ≡ false }
 {
     for i in 0..text.len() {
@@ -70,6 +72,13 @@ fn cut_at<'t>(text: &'t [u8], at: usize) -> Cut<'t>
 {
     let (word, rest) = text.split_at(at);
     Cut { word, rest }
+}
+
+/// Returns a text without the blanks that it begins with.
+pub fn trimmed<'t>(text: &'t [u8]) -> &'t [u8]
+    ensures { result.now ≡ spec.trimmed text.now }
+{
+    cut_at(text, blanks(text)).rest
 }
 
 /// Returns the first word of a text that does not begin with a blank.
@@ -123,6 +132,18 @@ pub fn two_words<'t>(text: &'t [u8]) -> Option<TwoWords<'t>>
         second: two.word,
         rest: two.rest,
     })
+}
+
+/// Returns the word with this number of a text, which is empty if there is none.
+pub fn nth_word<'t>(text: &'t [u8], n: usize) -> &'t [u8]
+    ensures { result.now ≡ slice_index_or (spec.words_of text.now) n [] }
+{
+    let mut rest = text;
+    for k in 0..n {
+        let _ = k;
+        rest = first_word(rest).rest;
+    }
+    first_word(rest).word
 }
 
 /// Returns the number that up to seven digits write.

@@ -1,23 +1,22 @@
 -- Lines that come in parts.
-use Rattle.std.proofs.Common.{◌≡◌, inl, inr, ℕ, ◌+◌, ◌-◌, ◌<◌, ◌≤◌, ◌++◌, eqb, false, List, []}
+use Rattle.std.proofs.Common.{◌≡◌, ℕ, ◌+◌, ◌-◌, ◌<◌, ◌≤◌, ◌++◌, eqb, false, List, []}
 use Rattle.std.proofs.Common.{◌∷◌, length, take, drop, Option, Some, refl, sym, ap, ◌∙◌, subst, arith}
 use Rattle.std.proofs.Common.{append_assoc, append-nil}
 use Rattle.std.proofs.Common.{Result, Ok, Err}
 use Rattle.std.specs.Prelude.{OnOk, OnErr}
-use Rattle.std.proofs.lemmas.Bool.{cases_lt}
 use Rattle.std.proofs.lemmas.List.{take_all, length-drop}
 use Rattle.std.proofs.Math.Seq.{take-add}
 use Rattle.pb_base.specs.Device.{appended, AddsPrefix}
 use Rattle.pb_bank.specs.Answers.{AnswersLine}
-use Rattle.pb_bank.specs.Desks.{DeskValue}
+use Rattle.pb_bank.specs.Desks.{DeskValue, NoneIsAllowed}
 use Rattle.pb_debug_commands.specs.Lines.{SplitLines, cut, last_line, lines_of}
-use Rattle.pb_bank_engine.specs.Sessions.{Session, nothing, one_more, session_bytes, SaysAll, SaysSome, IsTold, kept}
+use Rattle.pb_bank_engine.specs.Sessions.{Session, nothing, one_more, session_bytes, SaysAll, SaysSome, IsTold, kept, kept_with}
 use Rattle.pb_bank_engine.specs.Sessions.{StopsAt, WritesBefore, Fed, FedSome}
 use Rattle.pb_bank_engine.specs.declared.session.Stop.{Stop}
 use Rattle.pb_bank_engine.specs.declared.session.Stop.TheVariants.{Memory, Device}
 use Rattle.pb_debug_commands.proofs.Cutting.{cut-append, first_lines, cut_end, cut_byte}
 use Rattle.pb_debug_commands.proofs.Outputs.{appended_none, prefix_more, whole_prefix}
-use Rattle.pb_bank_engine.proofs.Kept.{kept_again, kept_answers, kept_nothing}
+use Rattle.pb_bank_engine.proofs.Kept.{blank_answer, kept_again, kept_answers}
 use Rattle.pb_base.proofs.DeviceLemmas.{appended-appended}
 
 -- ---- outputs
@@ -62,7 +61,7 @@ module _ (d m next : DeskValue) (part xs : List ℕ) (old mid new : Option (List
       }
 
   -- any other byte is kept
-  pub fed_byte : (b : ℕ) (line' : List ℕ) → eqb b 10 ≡ false → line' ≡ kept (line ++ b ∷ []) → Fed d part (xs ++ b ∷ []) old mid line' m
+  pub fed_byte : (b : ℕ) (line' : List ℕ) → eqb b 10 ≡ false → line' ≡ kept_with line b → Fed d part (xs ++ b ∷ []) old mid line' m
   fed_byte b line' other e =
       let c = cut part xs in
       record {
@@ -70,7 +69,7 @@ module _ (d m next : DeskValue) (part xs : List ℕ) (old mid new : Option (List
         session = subst (λ (k : SplitLines). Session d k.lines fed.text m) (sym (cut_byte part xs b other)) fed.session;
         written = fed.written;
         last =
-            e ∙ (ap (λ (l : List ℕ). kept (l ++ b ∷ [])) fed.last
+            e ∙ (ap (λ (l : List ℕ). kept_with l b) fed.last
             ∙ (kept_again c.rest b ∙ ap (λ (k : SplitLines). kept k.rest) (sym (cut_byte part xs b other))));
       }
 
@@ -218,30 +217,32 @@ module _ (d m : DeskValue) (bytes : List ℕ) (old mid : Option (List ℕ)) (lin
   abbrev whole : SplitLines
   whole = cut [] (session_bytes bytes)
 
-  -- nothing is left behind the last line feed
-  pub says_all : length line ≡ 0 → SaysAll d bytes old mid m
-  says_all empty =
-      let none : whole.rest ≡ [] = kept_nothing whole.rest (sym (ap length fed.last) ∙ empty) in
-      let lines : whole.lines ≡ lines_of (session_bytes bytes) =
-      sym (append-nil whole.lines) ∙ ap (λ (r : List ℕ). whole.lines ++ last_line r) (sym none) in
-      record {
-        text = fed.text;
-        session = subst (λ (ls : List (List ℕ)). Session d ls fed.text m) lines fed.session;
-        written = fed.written;
-      }
+  -- nothing but blanks is behind the last line feed
+  last_blank : (r : List ℕ) → length (kept r) ≡ 0 → NoneIsAllowed m.bank.state m.wishes → Session d (whole.lines ++ last_line r) fed.text m
+  last_blank [] empty none = subst (λ (ls : List (List ℕ)). Session d ls fed.text m) (sym (append-nil whole.lines)) fed.session
+  last_blank (b ∷ bs) empty none =
+      subst (λ (t : List ℕ). Session d (whole.lines ++ (b ∷ bs) ∷ []) t m) (append-nil fed.text)
+      (one_more whole.lines fed.text m (b ∷ bs) [] m fed.session (blank_answer m (b ∷ bs) empty none))
+
+  pub says_all : length line ≡ 0 → NoneIsAllowed m.bank.state m.wishes → SaysAll d bytes old mid m
+  says_all empty none = record {
+    text = fed.text;
+    session = last_blank whole.rest (sym (ap (λ (l : List ℕ). length l) fed.last) ∙ empty) none;
+    written = fed.written;
+  }
 
   last_is : (r : List ℕ) → 0 < length r → last_line r ≡ r ∷ []
   last_is [] some = absurd (omega arith)
   last_is (b ∷ bs) some = refl
 
+  some_kept : (r : List ℕ) → 0 < length (kept r) → 0 < length r
+  some_kept [] some = absurd (omega (arith, some))
+  some_kept (b ∷ bs) some = omega arith
+
   some_left : 0 < length line → 0 < length whole.rest
-  some_left some = elim (cases_lt 0 (length whole.rest)) [
-    | inl lt ↦ lt
-    | inr le ↦ (
-        let short : kept whole.rest ≡ whole.rest = take_all 4097 whole.rest (omega (arith, le)) in
-        let size : length line ≡ length whole.rest = ap length (fed.last ∙ short) in
-        omega (arith, size, some, le))
-  ]
+  some_left some =
+      let size : length line ≡ length (kept whole.rest) = ap (λ (l : List ℕ). length l) fed.last in
+      some_kept whole.rest (omega (arith, size, some))
 
   -- the last line has no line feed
   pub says_last : (next : DeskValue) (new : Option (List ℕ)) → 0 < length line → IsTold m line mid new next → SaysAll d bytes old new next

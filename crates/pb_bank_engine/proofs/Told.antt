@@ -2,10 +2,10 @@
 use Rattle.std.proofs.Common.{◌≡◌, ◌++◌, ℕ, List, [], Option, Some, None, refl, inl, inr}
 use Rattle.std.specs.Prelude.{IfSome}
 use Rattle.pb_bank.specs.Desks.{DeskValue, IsFirstDesk}
-use Rattle.pb_bank_engine.specs.Sessions.{SaysAll, SaysSome, SaysOfBank, answered, out_of_memory, broken_off, CountsBoth, TellsAnyFault, SaysBefore}
+use Rattle.pb_bank_engine.specs.Sessions.{SaysAll, SaysSome, SaysOfBank, answered, out_of_memory, broken_off, CountsBoth, SaysBefore}
 use Rattle.pb_bank_engine.specs.declared.session.Stop.TheVariants as stop
 use Rattle.pb_command_io.specs.Answers.{Says, Tells, memory_line}
-use Rattle.pb_command_io.specs.Faults.{Devices}
+use Rattle.pb_command_io.specs.Faults.{Devices, TellsAnyFault}
 use Rattle.pb_command_io.specs.declared.status.Status.{Status}
 use Rattle.pb_command_io.specs.declared.status.Status.TheVariants.{Done, Memory, Device}
 use Rattle.pb_command_io.proofs.PageLemmas.{Says-first, Says-then}

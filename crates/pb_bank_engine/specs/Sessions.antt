@@ -1,19 +1,24 @@
 -- Sessions of the command `bank`: the lines of an input, and what is answered to them in turn.
-use Rattle.std.specs.Prelude.{◌≡◌, ◌≢◌, ◌⊎◌, ℕ, List, [], ◌∷◌, ◌++◌, take, Option, Some}
+use Rattle.std.specs.Prelude.{◌≡◌, ◌⊎◌, ℕ, cond, List, [], ◌∷◌, ◌++◌, take, Option, Some}
 use Rattle.pb_base.specs.Device.{appended, one_more_failure, AddsPrefix}
 use Rattle.pb_bank.specs.Answers.{AnswersLine}
 use Rattle.pb_bank.specs.Desks.{DeskValue, IsFirstDesk}
+use Rattle.pb_bank.specs.Words.{is_blank, trimmed}
 use Rattle.pb_bank_engine.specs.declared.session.Stop.{Stop}
 use Rattle.pb_bank_engine.specs.declared.session.Stop.TheVariants.{Memory, Device}
 use Rattle.pb_command_io.specs.Answers.{memory_line}
-use Rattle.pb_command_io.specs.Faults.{Devices, NoneFailed, WriteFailed}
 use Rattle.pb_command_io.specs.declared.status.Status.{Status}
 use Rattle.pb_command_io.specs.declared.status.Status.TheVariants as status
 use Rattle.pb_debug_commands.specs.Lines.{cut, lines_of}
 
--- as much of a line as is kept: one byte more than a command may have
+-- as much of a line as is kept: behind the blanks that it begins with, one byte more than a command may have
 abbrev pub kept : List ℕ → List ℕ
-kept line = take 4097 line
+kept line = take 4097 (trimmed line)
+
+-- what is kept of a line with one byte more
+abbrev pub kept_with : List ℕ → ℕ → List ℕ
+kept_with [] b = cond (is_blank b) [] (b ∷ [])
+kept_with (first ∷ line) b = take 4097 ((first ∷ line) ++ b ∷ [])
 
 -- the lines are answered in turn by this text, and lead from one desk to another
 pub data Session (d : DeskValue) : List (List ℕ) → List ℕ → DeskValue → Type 0 where
@@ -54,15 +59,6 @@ SaysBefore Follows bytes left old new =
     (read : List ℕ) × (text : List ℕ) × IsReadTo bytes read left × Follows read text × (new ≡ appended old text)
 
 -- ---- faults
-
--- a read failed, and no write; something may be written
-abbrev pub OneReadFailed : Devices → Devices → Type 0
-OneReadFailed old new = (new.reads ≡ one_more_failure old.reads) × (new.writes ≡ old.writes)
-
--- a device that fails is told: the status is Device exactly if one read or one write failed
-abbrev pub TellsAnyFault : Devices → Devices → Status → Type 0
-TellsAnyFault old new given =
-    (given ≢ status.Device → NoneFailed old new) × (given ≡ status.Device → OneReadFailed old new ⊎ WriteFailed old new)
 
 -- how many writes have failed, before and after a session ended early
 abbrev pub CountsWrites : Stop → ℕ → ℕ → Type 0

@@ -1,8 +1,9 @@
 //! The command `bank`, over any input and output.
 
 ghost use Rattle.std.specs.Prelude.{◌≡◌, ◌≢◌, IfSome};
-ghost use Rattle.pb_bank_engine.specs.Sessions.{AnswersLines, SaysBefore, SaysOfBank, TellsAnyFault};
+ghost use Rattle.pb_bank_engine.specs.Sessions.{AnswersLines, SaysBefore, SaysOfBank};
 ghost use Rattle.pb_command_io.specs.Answers.{Tells};
+ghost use Rattle.pb_command_io.specs.Faults.{TellsAnyFault};
 
 use crate::session::{Stop, session};
 use pb_bank::Desk;

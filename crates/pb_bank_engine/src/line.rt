@@ -1,16 +1,16 @@
 //! The line that is being read.
 
-ghost use Rattle.std.specs.Prelude.{◌≡◌, ◌++◌, ◌∷◌, [], ◌≤◌, length};
-ghost use Rattle.pb_bank_engine.specs.Sessions.{kept};
+ghost use Rattle.std.specs.Prelude.{◌≡◌, [], ◌≤◌, length};
+ghost use Rattle.pb_bank_engine.specs.Sessions.{kept_with};
 
-use pb_bank::MAX_COMMAND;
+use pb_bank::{MAX_COMMAND, is_blank};
 use std::marker::Model;
 
 /// The bytes of a line that are kept: one more than a command may have.
 const ROOM: usize = MAX_COMMAND + 1;
 
-/// The first bytes of a line: all of them, up to one more than a command may have. So a line of any length
-/// takes no memory.
+/// The first bytes of a line: all of them behind the blanks that it begins with, up to one more than a command may
+/// have. So a line of any length takes no memory.
 #[derive(Drop)]
 pub struct Line {
     bytes: [u8; ROOM],
@@ -38,10 +38,13 @@ impl Line {
         }
     }
 
-    /// Adds a byte, while there is room.
+    /// Adds a byte, while there is room; but no blank before all others.
     pub fn put(&mut self, byte: u8)
-        ensures { self.new ≡ kept (self.old ++ byte ∷ []) }
+        ensures { self.new ≡ kept_with self.old byte }
     {
+        if self.len == 0 && is_blank(byte) {
+            return;
+        }
         if self.len < ROOM {
             self.bytes[self.len] = byte;
             self.len += 1;

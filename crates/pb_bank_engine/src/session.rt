@@ -181,6 +181,8 @@ pub fn session<I: Input, O: Output>(
         return Err(stop);
     }
     if line.as_slice().is_empty() {
+        // Called for its contract alone, which the proof needs.
+        let _ = desk.waiting();
         return Ok(());
     }
     tell_line(desk, alloc, line.as_slice(), &mut page, output)

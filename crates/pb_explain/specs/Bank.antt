@@ -22,7 +22,7 @@ b1-entry = record {
     answer =
         codes "ready\n"
         ++ codes "ready\n"
-        ++ codes "refused B1 not a command\n"
+        ++ codes "refused B1 not a command: a comma is missing before 1\n"
         ++ codes "ready";
   });
   mend =
@@ -90,7 +90,7 @@ b4-entry = record {
     input = Text b4-input;
     answer =
         codes "ready\n"
-        ++ codes "refused B4 no such resource\n"
+        ++ codes "refused B4 no such resource: tpae\n"
         ++ codes "ready";
   });
   mend = codes "`state` lists all resources with their capital. Resources come before the first job.";
@@ -114,7 +114,7 @@ b5-entry = record {
     answer =
         codes "ready\n"
         ++ codes "ready\n"
-        ++ codes "refused B5 no such job\n"
+        ++ codes "refused B5 no such job: b\n"
         ++ codes "ready";
   });
   mend = codes "`state` lists all jobs. A job joins by `job`, with its claims.";
@@ -136,7 +136,7 @@ b6-entry = record {
     input = Text b6-input;
     answer =
         codes "ready\n"
-        ++ codes "refused B6 a resource is named twice\n"
+        ++ codes "refused B6 a resource is named twice: tape\n"
         ++ codes "ready";
   });
   mend = codes "Write one amount of each resource: `job a 2 tape`.";
@@ -264,7 +264,7 @@ b10-entry = record {
     input = Text b10-input;
     answer =
         codes "ready\n"
-        ++ codes "refused B10 a claim is over the capital\n"
+        ++ codes "refused B10 a claim is over the capital: tape\n"
         ++ codes "ready";
   });
   mend =
@@ -291,9 +291,9 @@ b11-entry = record {
     answer =
         codes "ready\n"
         ++ codes "ready\n"
-        ++ codes "granted\n"
+        ++ codes "granted a 1 tape\n"
         ++ codes "ready\n"
-        ++ codes "refused B11 the job does not hold as much\n"
+        ++ codes "refused B11 the job does not hold as much: tape\n"
         ++ codes "ready";
   });
   mend = codes "`state` says what each job holds. `leave` gives all back.";
@@ -323,7 +323,7 @@ b12-entry = record {
         codes "ready\n"
         ++ codes "ready\n"
         ++ codes "ready\n"
-        ++ codes "granted\n"
+        ++ codes "granted a 1 tape\n"
         ++ codes "ready\n"
         ++ codes "queued\n"
         ++ codes "ready\n"

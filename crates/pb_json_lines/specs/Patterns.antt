@@ -1,4 +1,4 @@
--- The patterns of lines. Each byte of a pattern takes some bytes of a line: capital letters and digits take a name, a
+-- The patterns of lines. Each byte of a pattern takes some bytes of a line: capital letters, digits and `@` take a name, a
 -- number or a list, and make a member of an object of it; any other byte takes itself, and makes nothing.
 use Rattle.std.specs.Prelude.{ℕ, Bool, true, false, cond, not, ◌&&◌, ◌||◌, ◌==◌, nat_lt, List, [], ◌∷◌, ◌++◌, length}
 use Rattle.std.specs.Prelude.{take, drop, codes, Option, Some, None}
@@ -9,9 +9,10 @@ use Rattle.std.specs.Str.Parse.{digits_value}
 use Rattle.pb_code.specs.Names.{is_name_byte}
 use Rattle.pb_code.specs.Numerals.{is_numeral}
 use Rattle.pb_json.specs.Strings.{string_text}
-use Rattle.pb_json_lines.specs.Lists.{is_list, list_text}
+use Rattle.pb_json_lines.specs.Lists.{is_label_byte, is_list, list_text}
+use Rattle.pb_json_lines.specs.declared.list.Shape.TheVariants as shape
 use Rattle.pb_json_lines.specs.declared.marker.Marker.{Marker}
-use Rattle.pb_json_lines.specs.declared.marker.Marker.TheVariants.{Itself, Name, Number, Pairs, Numbers, Rest, Plural}
+use Rattle.pb_json_lines.specs.declared.marker.Marker.TheVariants.{Itself, Name, Number, Pairs, Shares, Numbers, Rest, Plural}
 use Rattle.pb_json_lines.specs.declared.marker.Marker.TheVariants.{Label, Code}
 
 -- what a byte of a pattern stands for
@@ -20,11 +21,12 @@ marker_of p =
     cond (list_any (λ b. b == p) (codes "PRXCFTU2")) Name (
     cond (list_any (λ b. b == p) (codes "AVKMGLENODSIQJY015679")) Number (
     cond (p == 66) Pairs (
+    cond (p == 64) Shares (
     cond (p == 72) Numbers (
     cond (p == 87) Rest (
     cond (p == 90) Plural (
     cond (p == 51 || p == 52) Label (
-    cond (p == 56) Code Itself)))))))
+    cond (p == 56) Code Itself))))))))
 
 -- the key of the member that it makes
 abbrev pub key_of : ℕ → List ℕ
@@ -33,7 +35,7 @@ key_of p =
     cond (p == 65) (codes "arm") (
     cond (p == 86) (codes "value") (
     cond (p == 82) (codes "resource") (
-    cond (p == 66) (codes "amounts") (
+    cond (p == 66 || p == 64) (codes "amounts") (
     cond (p == 88) (codes "integer") (
     cond (p == 81) (codes "count") (
     cond (p == 77) (codes "amount") (
@@ -68,10 +70,6 @@ key_of p =
 abbrev pub is_number_byte : ℕ → Bool
 is_number_byte b = is_ascii_digit b || b == 45
 
--- a byte of the name of a job or a resource of a bank
-abbrev pub is_label_byte : ℕ → Bool
-is_label_byte b = is_name_byte b || (b == 45 || b == 46)
-
 -- up to the place of the first other byte, or to the end
 abbrev pub up_to : Option ℕ → List ℕ → ℕ
 up_to None line = length line
@@ -96,6 +94,7 @@ taken_by Plural line = plural line
 taken_by Label line = up_to (position (λ b. not (is_label_byte b)) line) line
 taken_by Code line = up_to (position (λ b. not (is_name_byte b)) line) line
 taken_by Pairs line = length line
+taken_by Shares line = length line
 taken_by Numbers line = length line
 taken_by Rest line = length line
 
@@ -125,8 +124,9 @@ meets_by Itself p word = bytes_eq word (p ∷ [])
 meets_by Name p word = begins_with_letter word
 meets_by Number p word = is_integer word
 meets_by Plural p word = true
-meets_by Pairs p word = is_list true word
-meets_by Numbers p word = is_list false word
+meets_by Pairs p word = is_list shape.Pairs word
+meets_by Shares p word = is_list shape.Shares word
+meets_by Numbers p word = is_list shape.Numbers word
 meets_by Rest p word = true
 meets_by Label p word = not (length word == 0)
 meets_by Code p word = is_code word
@@ -159,8 +159,9 @@ member_by Itself p word = []
 member_by Name p word = member_text p (string_text word)
 member_by Number p word = member_text p (number_text word)
 member_by Plural p word = []
-member_by Pairs p word = member_text p (list_text true word)
-member_by Numbers p word = member_text p (list_text false word)
+member_by Pairs p word = member_text p (list_text shape.Pairs word)
+member_by Shares p word = member_text p (list_text shape.Shares word)
+member_by Numbers p word = member_text p (list_text shape.Numbers word)
 member_by Rest p word = member_text p (string_text word)
 member_by Label p word = member_text p (string_text word)
 member_by Code p word = member_text p (string_text word)

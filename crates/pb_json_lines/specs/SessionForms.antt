@@ -52,9 +52,8 @@ debug_forms =
 unfoldable pub bank_forms : List PlainForm
 bank_forms =
     form Alone (codes "ready") (codes "ready")
-    ∷ form Alone (codes "granted") (codes "granted")
-    ∷ form Alone (codes "granted") (codes "granted 3 W")
-    ∷ form Alone (codes "held") (codes "held")
+    ∷ form Alone (codes "granted") (codes "granted 3@")
+    ∷ form Alone (codes "held") (codes "held 3@")
     ∷ form Alone (codes "allowed") (codes "allowed")
     ∷ form Alone (codes "queued") (codes "queued")
     ∷ form Alone (codes "over claim") (codes "over claim 4")
@@ -68,7 +67,7 @@ bank_forms =
     ∷ form Alone (codes "missing") (codes "missing 3")
     ∷ form Alone (codes "resource") (codes "resource 4 capital G cash 5")
     ∷ form Alone (codes "job") (codes "job 3 4 claim K holds 7 needs 6")
-    ∷ form Alone (codes "wish") (codes "wish 3 W")
+    ∷ form Alone (codes "wish") (codes "wish 3@")
     ∷ form Alone (codes "memory") (codes "memory")
     ∷ form Alone (codes "refused") (codes "refused C W")
     ∷ []

@@ -5,9 +5,10 @@ ghost use Rattle.std.specs.List.{list_all, list_any, position};
 ghost use Rattle.std.specs.Char.{is_ascii_digit};
 ghost use Rattle.std.specs.Str.Parse.{digits_value};
 ghost use Rattle.pb_code.specs.Names as names;
+ghost use Rattle.pb_json_lines.specs.Lists as lists;
 ghost use Rattle.pb_json_lines.specs.Patterns as spec;
 
-use crate::list::{is_list, is_name_byte};
+use crate::list::{Shape, is_label_byte, is_list, is_name_byte};
 use pb_code::is_numeral;
 
 /// What a byte of a pattern stands for.
@@ -21,6 +22,8 @@ pub enum Marker {
     Number,
     /// Amounts with their resources, up to the end of the line.
     Pairs,
+    /// Amounts with the resources of a bank, up to the end of the line.
+    Shares,
     /// Numbers, up to the end of the line.
     Numbers,
     /// All up to the end of the line.
@@ -50,6 +53,8 @@ pub(crate) fn marker_of(byte: u8) -> Marker
         Marker::Number
     } else if byte == b'B' {
         Marker::Pairs
+    } else if byte == b'@' {
+        Marker::Shares
     } else if byte == b'H' {
         Marker::Numbers
     } else if byte == b'W' {
@@ -73,16 +78,9 @@ fn name_end(line: &[u8]) -> Option<usize>
     line.iter().position(|b| !is_name_byte(*b))
 }
 
-/// Returns whether the name of a job or a resource of a bank may have a byte.
-fn is_label_byte(b: u8) -> bool
-    ensures { result ≡ spec.is_label_byte b }
-{
-    is_name_byte(b) || (b == b'-' || b == b'.')
-}
-
 /// Returns the place of the first byte that no such name has.
 fn label_end(line: &[u8]) -> Option<usize>
-    ensures place { result ≡ position (λ b. not (spec.is_label_byte b)) line.now }
+    ensures place { result ≡ position (λ b. not (lists.is_label_byte b)) line.now }
     ensures within { IfSome result (λ at. at < length line.now) }
 {
     line.iter().position(|b| !is_label_byte(*b))
@@ -148,7 +146,7 @@ pub(crate) fn taken(marker: Marker, line: &[u8]) -> usize
         Marker::Label => up_to(label_end(line), line),
         Marker::Number => up_to(number_end(line), line),
         Marker::Plural => plural(line),
-        Marker::Pairs | Marker::Numbers | Marker::Rest => line.len(),
+        Marker::Pairs | Marker::Shares | Marker::Numbers | Marker::Rest => line.len(),
     }
 }
 
@@ -196,8 +194,9 @@ pub(crate) fn meets(marker: Marker, byte: u8, word: &[u8]) -> bool
         Marker::Label => !word.is_empty(),
         Marker::Code => is_code(word),
         Marker::Number => is_integer(word),
-        Marker::Pairs => is_list(true, word),
-        Marker::Numbers => is_list(false, word),
+        Marker::Pairs => is_list(Shape::Pairs, word),
+        Marker::Shares => is_list(Shape::Shares, word),
+        Marker::Numbers => is_list(Shape::Numbers, word),
         Marker::Plural | Marker::Rest => true,
     }
 }

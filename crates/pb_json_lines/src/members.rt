@@ -8,7 +8,7 @@ ghost use Rattle.pb_json.specs.Strings.{string_text};
 ghost use Rattle.pb_json_lines.specs.Lists.{list_text};
 ghost use Rattle.pb_json_lines.specs.Patterns as spec;
 
-use crate::list::put_list;
+use crate::list::{Shape, put_list};
 use crate::marker::{Marker, marker_of, meets, taken};
 use pb_base::NoMemory;
 use pb_base::writing::put;
@@ -47,7 +47,7 @@ fn key_of(byte: u8) -> &'static str
         "value"
     } else if byte == b'R' {
         "resource"
-    } else if byte == b'B' {
+    } else if byte == b'B' || byte == b'@' {
         "amounts"
     } else if byte == b'X' {
         "integer"
@@ -184,11 +184,11 @@ fn put_string_member(out: &mut Vec<u8>, byte: u8, word: &[u8]) -> Result<(), NoM
 }
 
 /// Appends a member that is a list.
-fn put_list_member(out: &mut Vec<u8>, byte: u8, pairs: bool, word: &[u8]) -> Result<(), NoMemory>
-    ensures { OnOk result (out.new.items ≡ out.old.items ++ spec.member_text byte (list_text pairs word.now)) }
+fn put_list_member(out: &mut Vec<u8>, byte: u8, shape: Shape, word: &[u8]) -> Result<(), NoMemory>
+    ensures { OnOk result (out.new.items ≡ out.old.items ++ spec.member_text byte (list_text shape word.now)) }
 {
     put_key(out, byte)?;
-    put_list(out, pairs, word)
+    put_list(out, shape, word)
 }
 
 /// Appends the member that a byte of a pattern makes of what it took.
@@ -201,8 +201,9 @@ fn put_member(out: &mut Vec<u8>, marker: Marker, byte: u8, word: &[u8]) -> Resul
             put_string_member(out, byte, word)
         }
         Marker::Number => put_number_member(out, byte, word),
-        Marker::Pairs => put_list_member(out, byte, true, word),
-        Marker::Numbers => put_list_member(out, byte, false, word),
+        Marker::Pairs => put_list_member(out, byte, Shape::Pairs, word),
+        Marker::Shares => put_list_member(out, byte, Shape::Shares, word),
+        Marker::Numbers => put_list_member(out, byte, Shape::Numbers, word),
     }
 }
 

@@ -211,7 +211,7 @@ static DEBUG: [Form; 40] = [
 ];
 
 /// The forms of the answers of a bank, in the order in which they are tried.
-static BANK: [Form; 20] = [
+static BANK: [Form; 19] = [
     Form {
         section: Section::Alone,
         first: "\"kind\":\"ready\"",
@@ -220,17 +220,12 @@ static BANK: [Form; 20] = [
     Form {
         section: Section::Alone,
         first: "\"kind\":\"granted\"",
-        pattern: "granted",
-    },
-    Form {
-        section: Section::Alone,
-        first: "\"kind\":\"granted\"",
-        pattern: "granted 3 W",
+        pattern: "granted 3@",
     },
     Form {
         section: Section::Alone,
         first: "\"kind\":\"held\"",
-        pattern: "held",
+        pattern: "held 3@",
     },
     Form {
         section: Section::Alone,
@@ -300,7 +295,7 @@ static BANK: [Form; 20] = [
     Form {
         section: Section::Alone,
         first: "\"kind\":\"wish\"",
-        pattern: "wish 3 W",
+        pattern: "wish 3@",
     },
     Form {
         section: Section::Alone,

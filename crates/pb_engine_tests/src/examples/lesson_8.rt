@@ -16,15 +16,15 @@ const CALLS_1: [Call; 2] = [
 ready
 ready
 ready
-granted
+granted a 1 tape
 ready
 queued
 ready
-granted
+granted b 1 tape
 ready
 ready
 ready
-granted
+granted c 1 tape
 ready
 ready
 resource tape capital 2 cash 1
@@ -49,17 +49,17 @@ ready
 ready
 ready
 ready
-held
+held P0 1 B
 ready
-held
+held P1 2 A
 ready
-held
+held P2 3 A, 2 C
 ready
-held
+held P3 2 A, 1 B, 1 C
 ready
-held
+held P4 2 C
 ready
-granted
+granted P1 1 A, 2 C
 ready
 wait cash A 2
 ready
@@ -68,7 +68,7 @@ ready
 allowed
 ready
 ready
-granted
+granted P0 2 B
 ready
 ",
     },

@@ -16,7 +16,7 @@ job a 1 tape 1 disk
         ),
         answer: "ready
 ready
-refused B1 not a command
+refused B1 not a command: a comma is missing before 1
 ready",
     }),
     mend: "`help` lists the forms of all commands. In the example `, 1 disk` would be right:
@@ -67,7 +67,7 @@ job a 1 tpae
 ",
         ),
         answer: "ready
-refused B4 no such resource
+refused B4 no such resource: tpae
 ready",
     }),
     mend: "`state` lists all resources with their capital. Resources come before the first job.",
@@ -86,7 +86,7 @@ ask b 1 tape
         ),
         answer: "ready
 ready
-refused B5 no such job
+refused B5 no such job: b
 ready",
     }),
     mend: "`state` lists all jobs. A job joins by `job`, with its claims.",
@@ -103,7 +103,7 @@ job a 1 tape, 1 tape
 ",
         ),
         answer: "ready
-refused B6 a resource is named twice
+refused B6 a resource is named twice: tape
 ready",
     }),
     mend: "Write one amount of each resource: `job a 2 tape`.",
@@ -207,7 +207,7 @@ job a 2 tape
 ",
         ),
         answer: "ready
-refused B10 a claim is over the capital
+refused B10 a claim is over the capital: tape
 ready",
     }),
     mend: "Claim at most the capital; `state` has it. The most that a job will hold at a time
@@ -228,9 +228,9 @@ give a 2 tape
         ),
         answer: "ready
 ready
-granted
+granted a 1 tape
 ready
-refused B11 the job does not hold as much
+refused B11 the job does not hold as much: tape
 ready",
     }),
     mend: "`state` says what each job holds. `leave` gives all back.",
@@ -254,7 +254,7 @@ ask b 1 tape
         answer: "ready
 ready
 ready
-granted
+granted a 1 tape
 ready
 queued
 ready

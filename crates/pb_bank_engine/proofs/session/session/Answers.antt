@@ -19,7 +19,7 @@ returns-then-is_empty-clause-all g c =
     let empty : length line ≡ 0 = ap (λ (l : List ℕ). length l) (sym c.as_slice.ensures) ∙ none in
     IfSome_then (g.I.Input.rest c.args.input.now) c.in_default.ensures.fed
     (λ bytes fed. says_all c.args.desk.now c.read_lines.new.desk bytes (g.O.Output.written c.args.output.now)
-    (g.O.Output.written c.read_lines.new.output) line fed empty)
+    (g.O.Output.written c.read_lines.new.output) line fed empty c.waiting.ensures.waits)
 
 pub returns-clause-all : goal.returns-clause-all
 returns-clause-all g c =

@@ -5,4 +5,4 @@ use Rattle.pb_json_lines.proofs.list.put_inside.Given as goal
 
 abbrev pub invariant-loop-byte : goal.invariant-loop-byte
 invariant-loop-byte l =
-    (l.out.items ++ inside l.pairs l.mode (drop l.byte-index l.word)) ≡ (l.initial.out.items ++ inside l.pairs Begin l.word)
+    (l.out.items ++ inside l.shape l.mode (drop l.byte-index l.word)) ≡ (l.initial.out.items ++ inside l.shape Begin l.word)
