@@ -9,17 +9,14 @@ use Rattle.std.specs.List.{find, list_all, position, position_or_len}
 use Rattle.pb_base.proofs.Cases.{both_true}
 use Rattle.pb_base.specs.Lines.{line}
 use Rattle.pb_json_lines.specs.Dialects.{comes_live}
-use Rattle.pb_json_lines.specs.Forms.{first_of, form_of, forms_of, or_else, other, other_of, alone_form, section_of}
-use Rattle.pb_json_lines.specs.JsonLines.{is_inner, is_opening, is_part, json_lines, lines_of, object_of, objects, onto, opens, said_of}
+use Rattle.pb_json_lines.specs.Forms.{first_of, form_of, forms_of, or_else, other_of}
+use Rattle.pb_json_lines.specs.JsonLines.{is_inner, is_opening, is_part, json_lines, lines_of, object_of, objects, onto, opens}
 use Rattle.pb_json_lines.specs.Live.{EndsLine, lines_alone, told_alone}
 use Rattle.pb_json_lines.specs.Patterns.{fits}
 use Rattle.pb_json_lines.specs.PlainForms.{PlainForm}
 use Rattle.pb_json_lines.specs.SessionForms.{bank_forms, debug_forms}
 use Rattle.pb_json_lines.specs.declared.form.Dialect.{Dialect}
 use Rattle.pb_json_lines.specs.declared.form.Dialect.TheVariants.{Program, Record, Debug, Bank, Explain}
-use Rattle.pb_json_lines.specs.declared.form.Section.{Section}
-use Rattle.pb_json_lines.specs.declared.form.Section.TheVariants.{Alone, Opens, Heading, Processes, Integers, Prints}
-use Rattle.pb_json_lines.specs.declared.form.Section.TheVariants.{Holds, Asks, Picks}
 
 -- ---- objects of lines
 

@@ -1,4 +1,4 @@
-use Rattle.std.proofs.Common.{sym, ◌∙◌, arith}
+use Rattle.std.proofs.Common.{arith}
 use Rattle.pb_base.proofs.Lists.{take_behind}
 use Rattle.pb_json_lines.proofs.AloneLemmas.{ends_none, told_next, told_none}
 use Rattle.pb_json_lines.proofs.alone.put_ended.Goals as goal
