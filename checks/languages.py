@@ -97,7 +97,7 @@ def by_shared_library(library: Path, room: Path) -> None:
 def in_cpp(library: Path, room: Path) -> None:
     """The header, read by a C++ compiler."""
     source = room / "header.cpp"
-    source.write_text("#include <parbegin.h>\nint main() { static pb_bank bank; return static_cast<int>(pb_bank_adopt(&bank)); }\n")
+    source.write_text("#include <parbegin.h>\nint main() { static pb_bank bank; return pb_bank_adopt(&bank) != PB_NO_BANK; }\n")
     run("g++", "-Wall", "-Wextra", "-Werror", "-pthread", f"-I{library}", source, library / "libparbegin.a", "-o", room / "header")
     run(room / "header")
 

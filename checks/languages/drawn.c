@@ -15,7 +15,7 @@ static uint32_t draw(uint32_t end) {
 
 /* Are these the tables of a bank? */
 static int sound(const pb_bank *b) {
-    if (b->slots > 64 || b->resources > 16) return 0;
+    if (b->slots > 64 || !b->resources || b->resources > 16) return 0;
     for (size_t p = b->slots; p < 64; p++)
         if (b->jobs[p]) return 0;
     for (size_t r = 0; r < b->resources; r++) {
@@ -84,7 +84,7 @@ static uint32_t asked(pb_bank *b, size_t p, const uint32_t *amounts) {
 
 /* Asks for a drawn request, and leaves. Is all as it should be? */
 static int use(pb_bank *bank, long *counts) {
-    if (!bank->slots || !bank->resources) return 1;
+    if (!bank->slots) return 1;
     pb_bank kept = *bank;
     uint32_t amounts[16];
     size_t p = draw((uint32_t)bank->slots), had = bank->jobs[p];

@@ -73,7 +73,9 @@ static void asking(void) {
     amounts[0] = 1, amounts[5] = 0;
     expect("given by one who has none", pb_bank_give(&bank, 0, amounts, 16), PB_NOT_HELD);
     expect("dropped by none", pb_bank_drop_all(&bank, 64), PB_NO_REQUEST);
+    memset(&why, 0xee, sizeof why);
     expect("why of none", pb_bank_why(&bank, 64, amounts, 16, &why), PB_NO_REQUEST);
+    expect("nothing beside it", why.resource + why.rest[0] + why.rest[63], 0);
     expect("why", pb_bank_why(&bank, 0, amounts, 16, &why), PB_DONE);
     expect("unchanged", (unsigned long)memcmp(&bank, &before, sizeof bank), 0);
     expect("granted", pb_bank_ask(&bank, 63, amounts, 16), PB_DONE);
@@ -87,7 +89,9 @@ static void asking(void) {
 
 static void adopting(void) {
     static pb_bank any;
-    expect("zeros", pb_bank_adopt(&any), PB_DONE);
+    before = any;
+    expect("zeros", pb_bank_adopt(&any), PB_NO_BANK);
+    expect("zeros stay", (unsigned long)memcmp(&any, &before, sizeof any), 0);
     memset(&any, 0xff, sizeof any);
     before = any;
     expect("ones", pb_bank_adopt(&any), PB_NO_BANK);
@@ -112,6 +116,27 @@ static void adopting(void) {
     expect("a claim without a job", pb_bank_adopt(&any), PB_NO_BANK);
     any = bank, any.resources = (size_t)-1;
     expect("very many resources", pb_bank_adopt(&any), PB_NO_BANK);
+}
+
+/* Of a bank that was adopted with a job whose byte is 200 a call that does nothing keeps that byte too. */
+static void keeping(void) {
+    static pb_bank any;
+    size_t at;
+    any = bank, any.jobs[3] = 200;
+    expect("adopted", pb_bank_adopt(&any), PB_DONE);
+    before = any;
+    expect("a full bank", pb_bank_join(&any, claims, 16, &at), PB_FULL);
+    claims[7] = 11;
+    expect("a large claim", pb_bank_join(&any, claims, 16, &at), PB_OVER_CAPITAL);
+    claims[7] = 5, amounts[0] = 5;
+    expect("not held", pb_bank_give(&any, 3, amounts, 16), PB_NOT_HELD);
+    amounts[0] = 6;
+    expect("a large request", pb_bank_ask(&any, 3, amounts, 16), PB_OVER_CLAIM);
+    amounts[0] = 1;
+    expect("nobody gives", pb_bank_give(&any, 64, amounts, 16), PB_NO_REQUEST);
+    expect("nobody leaves", pb_bank_leave(&any, 64), PB_NO_REQUEST);
+    expect("nobody drops", pb_bank_drop_all(&any, 64), PB_NO_REQUEST);
+    expect("each byte stays", (unsigned long)memcmp(&any, &before, sizeof any), 0);
 }
 
 static void unsafe_loans(void) {
@@ -139,6 +164,7 @@ int main(void) {
     joining();
     asking();
     adopting();
+    keeping();
     unsafe_loans();
     if (!fails) printf("well\n");
     return fails != 0;

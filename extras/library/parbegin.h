@@ -70,8 +70,8 @@ enum {
 PB_NONNULL uint32_t pb_bank_new(pb_bank *bank, const uint32_t *capital, size_t resources);
 
 /* Makes a bank of bytes that come from anywhere, as from a file, with the jobs and the loans that are in them:
- * PB_NO_BANK or PB_NOT_SAFE if they are none. It asks nothing of what lies there; `order` is written anew. Zeroes are a
- * bank of no resources, and damaged bytes may be a bank that nobody has written: give a file a mark and a checksum. */
+ * PB_NO_BANK or PB_NOT_SAFE if they are none. It asks nothing of what lies there; `order` is written anew. Zeroes are no
+ * bank, but damaged bytes may be a bank that nobody has written: give a file a mark and a checksum. */
 PB_NONNULL uint32_t pb_bank_adopt(pb_bank *bank);
 
 /* A job joins with a claim on each resource: the most that it will hold at once. Its slot is written to `at`, the first

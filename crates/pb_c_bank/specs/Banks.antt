@@ -1,5 +1,5 @@
 -- What a bank in a caller's memory holds, and what its calls say.
-use Rattle.std.specs.Prelude.{All, ◌≡◌, ◌≢◌, ◌<◌, ◌≤◌, ℕ, suc, Bool, false, not, nat_eq, List, [], ◌∷◌, length, map}
+use Rattle.std.specs.Prelude.{All, ◌≡◌, ◌≢◌, ◌<◌, ◌≤◌, ℕ, suc, Bool, false, cond, not, nat_eq, List, [], ◌∷◌, length, map}
 use Rattle.std.specs.Prelude.{replicate, slice_index, slice_index_or, slice_set}
 use Rattle.pb_base.specs.declared.limits.TheConstants.{MAX_AMOUNT, MAX_PROCESSES, MAX_RESOURCES}
 use Rattle.pb_base.specs.declared.pair.Pair.{Pair}
@@ -59,9 +59,13 @@ pub record SaysOfOpening (capital : List ℕ) (said : ℕ) (old new : Bank) : Ty
   pub made : IsCapital capital → (said ≡ 0) × IsBank new × (value new ≡ opened capital)
   pub refused : ¬ IsCapital capital → (said ≡ 6) × (new ≡ old)
 
--- the tables of memory that comes from anywhere are those of a bank
+-- a call that does nothing leaves each byte of the bank
+abbrev pub Stays : (said : ℕ) → (old new : Bank) → Type 0
+Stays said old new = said ≢ 0 → new ≡ old
+
+-- the tables of memory that comes from anywhere are those of a bank, of at least one resource
 abbrev pub AreTables : Bank → Type 0
-AreTables b = IsSound b.accounts × AreSeated b.accounts (flags b.jobs)
+AreTables b = (0 < b.accounts.resources) × IsSound b.accounts × AreSeated b.accounts (flags b.jobs)
 
 -- what is said of memory that comes from anywhere: it is a bank now, with the state and the jobs that its tables
 -- had; or it is as it was, and its tables are not those of a bank or not all can finish
@@ -161,19 +165,23 @@ reason_resource (reason.OverClaim r) = r
 reason_resource (reason.OverCash r) = r
 reason_resource (reason.Rest slots) = 0
 
--- those that are marked: each slot that has a row as it is in the list, and none behind the last row
-pub record AreMarked (n : ℕ) (slots marked : List Bool) : Type 0 where
-  pub rows : (p : ℕ) → p < n → slice_index_or marked p false ≡ slice_index_or slots p false
-  pub behind : (p : ℕ) → n ≤ p → slice_index_or marked p false ≡ false
+-- the bytes of flags: 1 for each slot of a row that is in the list, else 0
+pub record AreMarked (n : ℕ) (slots : List Bool) (bytes : List ℕ) : Type 0 where
+  pub rows : (p : ℕ) → p < n → slice_index_or bytes p 0 ≡ cond (slice_index_or slots p false) 1 0
+  pub behind : (p : ℕ) → n ≤ p → slice_index_or bytes p 0 ≡ 0
+
+-- no slot is marked
+abbrev pub no_marks : List ℕ
+no_marks = replicate MAX_PROCESSES 0
 
 -- the slots that could not finish are marked, and none for another reason
-abbrev pub MarksRest : BankerState → Reason → List Bool → Type 0
-MarksRest s (reason.Rest slots) marked = AreMarked (processes s) slots marked
-MarksRest s _ marked = marked ≡ replicate MAX_PROCESSES false
+abbrev pub MarksRest : BankerState → Reason → List ℕ → Type 0
+MarksRest s (reason.Rest slots) bytes = AreMarked (processes s) slots bytes
+MarksRest s _ bytes = bytes ≡ no_marks
 
--- why a request is granted or not: the reason that the banker gives; or 3, if it is none
+-- why a request is granted or not: the reason that the banker gives; or 3, if it is none, and nothing beside it
 pub record SaysOfReason (b : BankValue) (p : ℕ) (amounts : List ℕ) (said : ℕ) (why : Why) : Type 0 where
   pub answered : IsRequest b p amounts → (reason : Reason) × SaysWhy b.state p (pairs_from 0 amounts) reason
       × (said ≡ reason_number reason) × (why.resource ≡ reason_resource reason)
-      × MarksRest b.state reason (flags why.rest)
-  pub refused : ¬ IsRequest b p amounts → said ≡ 3
+      × MarksRest b.state reason why.rest
+  pub refused : ¬ IsRequest b p amounts → (said ≡ 3) × (why.resource ≡ 0) × (why.rest ≡ no_marks)

@@ -3,7 +3,7 @@
 
 ghost use Rattle.std.specs.Prelude.{◌≡◌, take};
 ghost use Rattle.pb_c_bank.specs.Banks.{IsBank, SaysOfAdopting, SaysOfAsking, SaysOfDropping, SaysOfGiving};
-ghost use Rattle.pb_c_bank.specs.Banks.{SaysOfEntering, SaysOfLeaving, SaysOfOpening, SaysOfOrder, SaysOfReason};
+ghost use Rattle.pb_c_bank.specs.Banks.{SaysOfEntering, SaysOfLeaving, SaysOfOpening, SaysOfOrder, SaysOfReason, Stays};
 ghost use Rattle.pb_c_bank.specs.Banks.{state, value};
 
 use crate::bank::{Bank, Why, bundle_of, has_job, holds, is_request};
@@ -44,6 +44,9 @@ pub extern "C" fn pb_bank_new(bank: &mut Bank, capital: &[u32]) -> u32
 pub extern "C" fn pb_bank_adopt(bank: &mut Bank) -> u32
     ensures { SaysOfAdopting result bank.old bank.new }
 {
+    if bank.accounts.resources == 0 {
+        return NO_BANK;
+    }
     if !is_sound(&bank.accounts) {
         return NO_BANK;
     }
@@ -68,17 +71,24 @@ pub extern "C" fn pb_bank_join(bank: &mut Bank, claims: &[u32], at: &mut usize) 
     requires { IsBank bank.old }
     ensures bank { IsBank bank.new }
     ensures said { SaysOfEntering (value bank.old) claims.now result at.new (value bank.new) }
+    ensures stays { Stays result bank.old bank.new }
 {
     *at = 0;
     if claims.len() != bank.accounts.resources {
         return NO_REQUEST;
     }
+    let mut accounts = bank.accounts;
+    let mut order = bank.order;
     let mut used = flags_of(&bank.jobs);
-    let joined = admit(&mut bank.accounts, &mut bank.order, &mut used, claims);
-    bank.jobs = bytes_of(&used);
-    match joined {
+    match admit(&mut accounts, &mut order, &mut used, claims) {
         Joined::In(p) => {
             *at = p;
+            let jobs = bytes_of(&used);
+            *bank = Bank {
+                accounts,
+                order,
+                jobs,
+            };
             DONE
         }
         Joined::OverCapital(r) => {
@@ -95,6 +105,7 @@ pub extern "C" fn pb_bank_leave(bank: &mut Bank, job: usize) -> u32
     requires { IsBank bank.old }
     ensures bank { IsBank bank.new }
     ensures said { SaysOfLeaving (value bank.old) job result (value bank.new) }
+    ensures stays { Stays result bank.old bank.new }
 {
     if !has_job(bank, job) {
         return NO_REQUEST;
@@ -111,6 +122,8 @@ pub extern "C" fn pb_bank_ask(bank: &mut Bank, job: usize, amounts: &[u32]) -> u
     requires { IsBank bank.old }
     ensures bank { IsBank bank.new }
     ensures said { SaysOfAsking (value bank.old) job amounts.now result (value bank.new) }
+    ensures jobs { bank.new.jobs ≡ bank.old.jobs }
+    ensures stays { result ≡ 3 → bank.new ≡ bank.old }
 {
     if !is_request(bank, job, amounts) {
         return NO_REQUEST;
@@ -133,6 +146,7 @@ pub extern "C" fn pb_bank_give(bank: &mut Bank, job: usize, amounts: &[u32]) -> 
     requires { IsBank bank.old }
     ensures bank { IsBank bank.new }
     ensures said { SaysOfGiving (value bank.old) job amounts.now result (value bank.new) }
+    ensures stays { Stays result bank.old bank.new }
 {
     if !is_request(bank, job, amounts) {
         return NO_REQUEST;
@@ -153,6 +167,7 @@ pub extern "C" fn pb_bank_drop_all(bank: &mut Bank, job: usize) -> u32
     requires { IsBank bank.old }
     ensures bank { IsBank bank.new }
     ensures said { SaysOfDropping (value bank.old) job result (value bank.new) }
+    ensures stays { Stays result bank.old bank.new }
 {
     if !has_job(bank, job) {
         return NO_REQUEST;

@@ -30,7 +30,7 @@ pub fn bytes_of(set: &[bool; MAX_PROCESSES]) -> [u8; MAX_PROCESSES]
 /// Returns 1 for each flag that is set among the first ones, and 0 for each other.
 pub fn first_bytes_of(set: &[bool; MAX_PROCESSES], rows: usize) -> [u8; MAX_PROCESSES]
     requires { rows ≤ MAX_PROCESSES }
-    ensures { AreMarked rows set.now (flags result) }
+    ensures { AreMarked rows set.now result }
 {
     let mut bytes = [0; MAX_PROCESSES];
     for p in 0..rows {

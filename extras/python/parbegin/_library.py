@@ -113,8 +113,6 @@ class LibraryBank:
             raise Fault(NO_BANK)
         ctypes.memmove(self.at, given, len(given))
         self.done(self.library.pb_bank_adopt(self.at))
-        if not self.tables.resources:
-            raise Fault(NO_BANK)
 
     def join(self, claims: Sequence[int]) -> int:
         slot = c_size_t()

@@ -162,9 +162,6 @@ impl Bank {
         let mut bank: Bank = unsafe { std::mem::transmute(*tables) };
         // SAFETY: a reference to a whole value, for the call, which asks nothing of what is in it.
         done(unsafe { pb_bank_adopt(&mut bank) }, 0)?;
-        if bank.resources == 0 {
-            return Err(Fault::NoBank);
-        }
         Ok(bank)
     }
 

@@ -1,8 +1,6 @@
-use Rattle.std.proofs.Common.{ℕ, ap, arith, ◌∙◌}
+use Rattle.std.proofs.Common.{ℕ, arith}
 use Rattle.std.proofs.lemmas.List.{length-replicate}
 use Rattle.pb_banker.proofs.Newcomers.{zeros_at}
-use Rattle.pb_c_bank.specs.Banks.{is_set}
-use Rattle.pb_c_bank.proofs.FlagBytes.{flag_at}
 use Rattle.pb_c_bank.proofs.flags.first_bytes_of.Goals as goal
 
 pub loop-p-init : goal.loop-p-init
@@ -14,6 +12,6 @@ loop-p-init c = record {
 
 pub returns : goal.returns
 returns c = record {
-  rows = λ p l. flag_at c.loop-p.bytes p ∙ c.loop-p.invariant.same p (omega (arith, l));
-  behind = λ p l. flag_at c.loop-p.bytes p ∙ ap is_set (c.loop-p.invariant.none p (omega (arith, l)));
+  rows = λ p l. c.loop-p.invariant.same p (omega (arith, l));
+  behind = λ p l. c.loop-p.invariant.none p (omega (arith, l));
 }
