@@ -21,7 +21,8 @@ from script.crates import files_of  # noqa: E402
 
 MOVED = TOP / "checks" / "wrong_bodies"
 RECORD = MOVED / "TRIED"
-# As much of a sum as is recorded.
+# The first line of the record, and as much of a sum as it has.
+HEAD = "# Crates of which all wrong bodies were tried and refused, each with the sum of its files (checks/bodies.py)."
 DIGITS = 16
 NAME = re.compile(r"[A-Za-z0-9_-][A-Za-z0-9_.-]*\.edit")
 BEGINS = ("file: ", "old: ", "new:")
@@ -107,7 +108,7 @@ def read_record() -> dict[str, set[str]]:
     lines = RECORD.read_text(encoding="utf-8").splitlines() if RECORD.exists() else []
     for line in lines:
         crate, _, total = line.partition(" ")
-        if total:
+        if total and crate != "#":
             found.setdefault(crate, set()).add(total)
     return found
 
@@ -117,5 +118,5 @@ def record(crate: str, total: str) -> None:
     known = {**read_record(), crate: {total}}
     lines = [f"{it} {each}" for it in sorted(known) for each in sorted(known[it])]
     new = RECORD.with_name(f"TRIED.{os.getpid()}")
-    new.write_text("".join(f"{line}\n" for line in lines), encoding="utf-8")
+    new.write_text("".join(f"{line}\n" for line in (HEAD, *lines)), encoding="utf-8")
     os.replace(new, RECORD)
