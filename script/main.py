@@ -59,6 +59,10 @@ def run_command(start: list[str], command: str, words: list[str]) -> int:
         from script.checking import check
 
         return check(start, words)
+    if command == "plan" and any(word in ("--table", "--csv") for word in words):
+        from script.plans import plan_table
+
+        return plan_table(start, words)
     return run_on_file(start, command, files.sort_words(start, command, words))
 
 
@@ -74,9 +78,9 @@ def run_on_file(start: list[str], command: str, words: files.Words) -> int:
         files.tell_too_many(command, words.named)
         return WORDS
     if len(words.named) > 1:
-        files.give_together(words.named)
+        counts = files.give_together(words.named)
         if "--quiet" not in start:
-            files.tell_numbers(words.named)
+            files.tell_numbers(words.named, counts)
         start_program(start, [command, *words.others])
     name = words.named[0] if words.named else None
     if name and command == "debug" and "--json" not in start:
