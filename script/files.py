@@ -179,7 +179,7 @@ def advice(command: str, words: list[str], name: str, given: bytes) -> str | Non
     """Returns which command reads this, if this one can't, or what is missing."""
     parts = parts_of(given)
     if len(parts) == 1 and b"\n%%\r" in given:
-        return f"the lines of {name} end with a carriage return, the line %% too: save it with the line ends of Unix"
+        return f"the lines of {name} end with a carriage return, the line %% too: save it with the line ends of Unix: a line feed alone"
     if command == "outcomes" and "--expect" in words:
         return advice_on_prints(name, parts)
     if is_object(given) and command in (*OF_TEXTS, *OF_PICKS, "check"):
