@@ -10,7 +10,7 @@ from script import files, helping
 from script.drawn import is_drawn
 from script.own import own_call, run_own
 from script.places import DEVICE, WORDS, say, shown
-from script.program import is_built, program, record_of_gate
+from script.program import is_built, is_nothing_built, program, record_of_gate
 from script.tools import CALLS, COMMANDS, command_of, path_of, tool_of
 
 # What each command waits for at a terminal; any other waits for a text.
@@ -194,6 +194,12 @@ def main(words: list[str]) -> int:
             from script.library import library
 
             return library(words[1:])
+        if is_nothing_built():
+            from script.unbuilt import answer
+
+            status = answer(words)
+            if status is not None:
+                return status
         return run_words([program(*called(words))], words)
     except KeyboardInterrupt:
         return 128 + signal.SIGINT
