@@ -29,7 +29,8 @@ class Folder:
             (folder / pathlib.Path(name).name).write_bytes(text)
         (folder / "wrong.pb").write_text("process p begin x := 1 end\n")
         (folder / ODD).write_bytes((folder / "hello.pb").read_bytes())
-        (folder / "two.pb").write_bytes((folder / "devices.pb").read_bytes() + b"%%\n" + (folder / "copies.pb").read_bytes())
+        lists = (TOP / "examples/9-plan/lists.pb").read_bytes()
+        (folder / "two.pb").write_bytes((folder / "copies.pb").read_bytes() + b"%%\n" + lists)
         self.names = [*(pathlib.Path(name).name for name in NAMES), "wrong.pb", ODD, "two.pb"]
 
     def run(self, *words: str) -> tuple[int, str, str]:
@@ -108,7 +109,7 @@ def try_words(tally: Tally, it: Folder) -> None:
     for words, part in [
         (["plan", "--table"], "takes files"), (["plan", "--table", "--fly", "hello.pb"], "'--fly'"), (["--json", "plan", "--table", "hello.pb"], "--json"),
         (["plan", "--table", "--table", "hello.pb"], "multiple times"), (["plan", "--table", "--jobs", "0", "hello.pb"], "'--jobs'"),
-        (["plan", "--table", "--lend", "till", "hello.pb"], "banker or cash"), (["plan", "--table=x", "hello.pb"], "unexpected value"),
+        (["plan", "--table", "--lend", "till", "hello.pb"], "banker or cash"), (["plan", "--table=x", "hello.pb"], "unexpected argument"),
     ]:
         status, told, said = it.run(*words)
         tally.expect(status == WORDS and not told and part in said, words, status, told, said)

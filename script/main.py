@@ -59,7 +59,7 @@ def run_command(start: list[str], command: str, words: list[str]) -> int:
         from script.checking import check
 
         return check(start, words)
-    if command == "plan" and any(word in ("--table", "--csv") for word in words):
+    if command == "plan" and any(word.partition("=")[0] in ("--table", "--csv") for word in words):
         from script.plans import plan_table
 
         return plan_table(start, words)
