@@ -37,6 +37,8 @@ CALLS = {
     "quick": ["./parbegin build", "checks/all.py quick"],
     "gate": [".ci/run"],
 }
+# The status of a call that is not to end with 0: nothing is given to it, which it refuses.
+STATUSES = {"./parbegin lsp": 1}
 # Longer than all others together.
 UNASKED = [name for name in CALLS if name != "gate"]
 # Where `rt` keeps what it has proved and built, beside the folder of its kit.
@@ -98,7 +100,7 @@ def minutes_of(call: str, clone: Path, where: dict[str, str]) -> tuple[float, fl
     clock, after = time.monotonic() - began, resource.getrusage(resource.RUSAGE_CHILDREN)
     ended.set()
     watcher.join()
-    if ran.returncode:
+    if ran.returncode != STATUSES.get(call, 0):
         sys.exit(f"`{call}` ended with status {ran.returncode}")
     used = after.ru_utime + after.ru_stime - before.ru_utime - before.ru_stime
     return clock / 60, used / 60, loops
