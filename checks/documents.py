@@ -7,12 +7,13 @@ whether each path in them is there.
 A command is a line of a block that begins with `$ `, with the lines behind it that begin with `> `; what it writes is
 the lines up to the next command or the end of the block. If some of these begin with a prompt of the debugger, as `0/15> `,
 it is a session at a terminal, and what is behind the prompts is typed. The commands of docs/COURSE.md are typed at a
-terminal too, and what they write there is what standard error says as well, and tables in the place of lines. The commands run
-in a folder with the script, as it is installed, and the examples; `--unproved` is left out there, and changes nothing of what
-is written. A block that names a language and a path behind its opening backquotes, as in "rust crates/NAME/src/main.rt",
-shows a file, and has to be that file. A path is a word of a document, in backquotes or not, that begins with the name of a
-folder at the top of the repository. What README.md, "To begin", shows and is not typed here has to be measured by
-benches/first_call.py. Its status is 0 if all is as wanted, and 1 if not.
+terminal too: there standard error is seen, and tables in the place of lines. The commands run in a folder with the script, as
+it is installed, and the examples; `--unproved` is left out, which changes nothing of what is written. A block that names a
+language and a path behind its opening backquotes, as in "rust crates/NAME/src/main.rt", shows a file, and has to be that
+file. A path is a word of a document, in backquotes or not, that begins with the name of a folder at the top of the
+repository. What README.md, "To begin", shows and is not typed here has to be measured by benches/first_call.py, and the
+counts of crates there and in docs/BUILDING.md have to be those of the tools. Its status is 0 if all is as wanted, and 1 if
+not.
 """
 import importlib.util
 import pathlib
@@ -23,6 +24,8 @@ import tempfile
 
 from calls import TOP, Tally, installed
 from pseudo_terminal import Terminal, played
+from script.crates import crates_below
+from script.tools import COMMANDS_OF
 
 DOCUMENTS = [TOP / "README.md", TOP / "examples/README.md", TOP / "extras/README.md", *sorted((TOP / "docs").glob("*.md"))]
 # Of these the commands are typed at a terminal, which is as wide as their lines are at most.
@@ -98,6 +101,20 @@ def try_begin(tally):
         tally.expect(is_measured, "README.md shows a first call that benches/first_call.py does not measure:", call)
 
 
+def try_counts(tally):
+    """Compares how many crates documents say that tools are made of."""
+    crates = {tool: set(crates_below([tool])) for tool in COMMANDS_OF}
+    counts = {f"parbegin-{tool} |": str(len(of_tool)) for tool, of_tool in crates.items()}
+    counts |= {f"`./parbegin {command}`": str(len(crates[tool])) for command, tool in (("bank", "bank"), ("run FILE", "run"))}
+    behind = len(crates["search"] - crates["run"])
+    counts["`./parbegin outcomes FILE`"] = f"{len(crates['search'])}; behind `run` {behind}"
+    counts["`./parbegin build`, all tools"] = str(len(set().union(*crates.values())))
+    for row, count in counts.items():
+        document = TOP / ("docs/BUILDING.md" if row.startswith("parbegin-") else "README.md")
+        is_said = re.search(rf"^[|] {re.escape(row)}.*[|] {re.escape(count)} [|]", document.read_text(), re.M)
+        tally.expect(is_said, f"{document.name}: a row begins with {row} and has not {count} crates")
+
+
 def is_there(path):
     """Whether a path with braces or stars names files that are all there."""
     braces = re.search(r"\{(.*?)\}", path)
@@ -125,6 +142,7 @@ def main():
                     continue
                 tally.expect(is_there(path), f"{document.name}: there is no {path}")
     try_begin(tally)
+    try_counts(tally)
     print(f"{len(DOCUMENTS)} documents, {typed} commands")
     tally.end("documents")
 
