@@ -3,7 +3,8 @@
 
     checks/plans.py [PROGRAM]     PROGRAM is the one that ./parbegin has built if none is given
 
-The table of plans, its CSV, and which text of which file a number is when files are planned together. Its status is 0 if
+The table of plans, its CSV, which text of which file a number is when files are planned together, and that another capital
+changes nothing but what docs/FORMATS.md, "Plans", says. Its status is 0 if
 all is as wanted, and 1 if not.
 """
 from __future__ import annotations
@@ -104,6 +105,20 @@ def try_numbers(tally: Tally, it: Folder) -> None:
     tally.expect(it.run("--quiet", "plan", "two.pb", "hello.pb")[2] == "", "the numbers are not quiet")
 
 
+def try_capitals(tally: Tally) -> None:
+    """Tries other capitals: only the capital in the plan is another one, and what is compared with it."""
+    text = (TOP / "examples/9-plan/week.pb").read_bytes()
+    least, free, said = 3, 5, set()
+    for capital in range(1, 8):
+        status, told = call(["plan"], text.replace(b"tape = 4", b"tape = %d" % capital))
+        lines = told.decode().splitlines()
+        tally.expect(status == (REFUSED if capital < least else DONE), "the status with", capital, "tapes is", status)
+        wanted = {f"tape capital {capital} least {least} free {free}", "bottleneck tape" if capital < free else "no request waits"}
+        tally.expect(wanted <= set(lines), "a plan with", capital, "tapes", lines)
+        said.add(tuple(line for line in lines if line not in wanted))
+    tally.expect(len(said) == 1, "another capital changes other lines", said)
+
+
 def try_words(tally: Tally, it: Folder) -> None:
     """Tries words that are refused."""
     for words, part in [
@@ -122,6 +137,7 @@ def main() -> None:
         it = Folder(pathlib.Path(name))
         for attempt in (try_table, try_csv, try_numbers, try_words):
             attempt(tally, it)
+    try_capitals(tally)
     tally.end("plans")
 
 
