@@ -103,7 +103,7 @@ def look_at_help(tally: Tally, it: Any, path: Path) -> None:
     tally.expect(it.js("$('help').open && $('help').scrollTop === 0"), path.name, "the key does not open Help at its beginning")
     unsaid = it.js("""Object.values(SIGNS).filter((sign) => ![...document.querySelectorAll("#help .sign")].some((it) => it.textContent === sign))""")
     tally.expect(unsaid == [], path.name, f"Help does not explain {unsaid}")
-    books = set(it.js("[...document.querySelectorAll('#help #books dt')].map((word) => word.textContent)"))
+    books = set(it.js("[...document.querySelectorAll('#help #books b')].map((word) => word.textContent)"))
     tally.expect(books and books <= set(TEXTBOOK), path.name, f"Help says other words of textbooks: {books}")
     kinds = it.js("['pick', 'live', 'join', 'asks', 'now'].filter((kind) => !document.querySelector(`#help .sign.${kind}`)?.checkVisibility())")
     tally.expect(kinds == [], path.name, f"Help does not show {kinds}")
