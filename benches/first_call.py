@@ -1,12 +1,14 @@
 #!/usr/bin/env python3
-"""Measures the first call of a command from a fresh clone: the minutes by the clock, and those of processors.
+"""Measures what a newcomer types first, each in a fresh clone: the minutes by the clock, and those of processors.
 
-    benches/first_call.py [bank|run|outcomes|all ..]     each by itself from nothing; `outcomes` behind `run`; all of
-                                                         them if none is named
+    benches/first_call.py [NAME ..]     the names of CALLS; of several calls under a name only the last is measured, behind
+                                        the others; `gate` only if it is named, all others if none is
 
-Each is measured in a clone of its own, by an `rt` that finds nothing of what the kit keeps on this machine: a copy of
-the kit's command, which keeps its files beside the kit that it is in. With each figure it prints the median of the milliseconds that
-the loop of gate_minutes.py takes meanwhile, so that a slow or a busy host is seen.
+Each is measured in a clone of its own, by an `rt` that finds nothing of what the kit keeps on this machine. For that `rt` has
+no option and no variable: it keeps its files beside the folder of the kit that its own file is in. So each clone has
+a kit of its own, of links to the files of the kit and copies of `rt`, and what is kept is gone with the clone. With
+each figure it prints the median of the milliseconds that the loop of gate_minutes.py takes meanwhile, so that a slow or a
+busy host is seen. The first code blocks of README.md are such calls, as checks/documents.py compares.
 """
 from __future__ import annotations
 
@@ -24,11 +26,23 @@ from pathlib import Path
 TOP = Path(__file__).resolve().parent.parent
 # What is called, in turn, in one clone.
 CALLS = {
-    "bank": [["bank"]],
-    "run": [["run", "examples/devices.pb"]],
-    "outcomes": [["run", "examples/devices.pb"], ["outcomes", "examples/devices.pb"]],
-    "all": [["build"]],
+    "try-bank": ["./parbegin --unproved bank"],
+    "try-run": ["./parbegin --unproved run examples/devices.pb"],
+    "bank": ["./parbegin bank"],
+    "run": ["./parbegin run examples/devices.pb"],
+    "outcomes": ["./parbegin run examples/devices.pb", "./parbegin outcomes examples/devices.pb"],
+    "debug": ["./parbegin run examples/devices.pb", "./parbegin debug examples/lost.run"],
+    "lsp": ["./parbegin run examples/devices.pb", "./parbegin lsp"],
+    "build": ["./parbegin build"],
+    "quick": ["./parbegin build", "checks/all.py quick"],
+    "gate": [".ci/run"],
 }
+# The status of a call that is not to end with 0: nothing is given to it, which it refuses.
+STATUSES = {"./parbegin lsp": 1}
+# Longer than all others together.
+UNASKED = [name for name in CALLS if name != "gate"]
+# Where `rt` keeps what it has proved and built, beside the folder of its kit.
+KEPT = "rattle-kept"
 
 
 def loop() -> float:
@@ -62,12 +76,15 @@ def measure(name: str) -> None:
         commands, clone = empty_kit(Path(folder)), Path(folder, "clone")
         subprocess.run(["git", "clone", "-q", TOP, clone], check=True)
         where = {**os.environ, "PATH": f"{commands}:{os.environ['PATH']}"}
-        for words in CALLS[name]:
-            clock, processors, loops = minutes_of(words, clone, where)
-        print(f"{name:8} {clock:5.1f} minutes by the clock, {processors:5.1f} of processors; loop {statistics.median(loops):.0f} ms", flush=True)
+        for call in CALLS[name]:
+            clock, processors, loops = minutes_of(call, clone, where)
+        if "--unproved" not in CALLS[name][-1] and not Path(folder, KEPT).is_dir():
+            sys.exit(f"this kit's rt keeps nothing in {folder}, so what it found elsewhere is not known")
+        loop_of_host = f"loop {statistics.median(loops):.0f} ms"
+        print(f"{name:8} {clock:6.2f} minutes by the clock, {processors:6.2f} of processors; {loop_of_host}", flush=True)
 
 
-def minutes_of(words: list[str], clone: Path, where: dict[str, str]) -> tuple[float, float, list[float]]:
+def minutes_of(call: str, clone: Path, where: dict[str, str]) -> tuple[float, float, list[float]]:
     """Makes a call, and returns its minutes by the clock and of processors, and what the loop took meanwhile."""
     loops, ended = [loop()], threading.Event()
 
@@ -78,12 +95,13 @@ def minutes_of(words: list[str], clone: Path, where: dict[str, str]) -> tuple[fl
     watcher = threading.Thread(target=watch)
     watcher.start()
     before, began = resource.getrusage(resource.RUSAGE_CHILDREN), time.monotonic()
-    ran = subprocess.run([str(clone / "parbegin"), *words], cwd=clone, env=where, stdin=subprocess.DEVNULL, stdout=subprocess.DEVNULL, check=False)
+    how = {"stdin": subprocess.DEVNULL, "stdout": subprocess.DEVNULL, "check": False}
+    ran = subprocess.run(call.split(), cwd=clone, env=where, **how)
     clock, after = time.monotonic() - began, resource.getrusage(resource.RUSAGE_CHILDREN)
     ended.set()
     watcher.join()
-    if ran.returncode:
-        sys.exit(f"{words[0]} ended with status {ran.returncode}")
+    if ran.returncode != STATUSES.get(call, 0):
+        sys.exit(f"`{call}` ended with status {ran.returncode}")
     used = after.ru_utime + after.ru_stime - before.ru_utime - before.ru_stime
     return clock / 60, used / 60, loops
 
@@ -92,7 +110,7 @@ def main(words: list[str]) -> None:
     unknown = [word for word in words if word not in CALLS]
     if unknown:
         sys.exit(f"{unknown[0]} is none of {', '.join(CALLS)}")
-    for name in words or list(CALLS):
+    for name in words or UNASKED:
         measure(name)
 
 

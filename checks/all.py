@@ -31,6 +31,7 @@ QUICK = (
     f"checks/usage.py {PROGRAM}",
     f"checks/drawn_runs.py {PROGRAM}",
     f"checks/grades.py {PROGRAM}",
+    f"checks/plans.py {PROGRAM}",
     f"checks/json_lines.py {PROGRAM}",
     f"checks/check_formats.py {PROGRAM}",
     f"checks/terminal.py {PROGRAM}",

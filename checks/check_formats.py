@@ -40,7 +40,9 @@ PLACES = [
     ("name.pb", 3, 3, "N3"), ("claim.pb", 4, 3, "C1"), ("several.pb", 3, 23, "N3"), ("early.pb", 1, 16, "P1"),
     ("many.pb", 65, 1, "N1"), ("odd name %.pb", 1, 26, "P1"), ("a\n\x1b[1m.pb", 1, 23, "N3"),
 ]
-NAMES = [*FILES, "nosuch.pb"]
+NAMES = [*FILES, "nosuch.pb", "folder"]
+# Why those that are no files cannot be read.
+UNREAD = {"nosuch.pb": "no such file", "folder": "Is a directory"}
 
 
 class Script:
@@ -50,6 +52,7 @@ class Script:
         self.script, self.folder = installed(folder / "installed"), folder
         for name, given in FILES.items():
             (folder / name).write_bytes(given)
+        (folder / "folder").mkdir()
 
     def run(self, *words: str, given: bytes = b"") -> tuple[int, str, str]:
         """Calls the script, and returns its status and what it wrote on both."""
@@ -77,7 +80,8 @@ def try_text(tally: Tally, it: Script) -> None:
     tally.expect(told.splitlines() == [f"{SHOWN[name]}: {line}" for name in FILES for line in own_lines(name)], "text", told)
     tally.expect(status == DEVICE, "the status with a missing file is", status)
     tally.expect("parbegin: no such file: nosuch.pb\n" in said, "nothing is said of a missing file")
-    tally.expect(said.endswith("parbegin: 9 files: 1 accepted, 7 refused, 1 not read\n"), "the sums", said)
+    tally.expect("parbegin: folder: Is a directory\n" in said, "nothing is said of a folder")
+    tally.expect(said.endswith("parbegin: 10 files: 1 accepted, 7 refused, 2 not read\n"), "the sums", said)
     tally.expect(it.run("check", *FILES)[0] == REFUSED, "the status of refused files")
     tally.expect(it.run("check", "fine.pb") == (DONE, "fine.pb: ok\n", ""), "one file")
     tally.expect(it.run("check", "--jobs", "1", *NAMES)[:2] == (status, told), "one job says another thing than several")
@@ -96,10 +100,14 @@ def try_gcc(tally: Tally, it: Script) -> None:
 
 def try_json(tally: Tally, it: Script) -> None:
     """Tries an object for each text."""
-    _, told, _ = it.run("check", "--format=json", *NAMES)
-    objects = [json.loads(line) for line in told.splitlines()]
-    for value in objects:
+    status, told, _ = it.run("check", "--format=json", "folder", *NAMES)
+    said = [json.loads(line) for line in told.splitlines()]
+    for value in said:
         fits(tally, "check", value)
+    unread = [value for value in said if not value.get("read", True)]
+    wanted = [{"file": name, "accepted": False, "read": False, "message": UNREAD[name]} for name in ("folder", *UNREAD)]
+    tally.expect(unread == wanted and said[0] == wanted[0] and status == DEVICE, "JSON of files that cannot be read", unread, status)
+    objects = [value for value in said if value not in unread]
     lines = [line for name in FILES for line in own_lines(name)]
     tally.expect([value.get("refusal", "ok") for value in objects] == lines, "the lines of JSON")
     refused = [value for value in objects if not value["accepted"]]
@@ -127,7 +135,13 @@ def try_sarif(tally: Tally, it: Script) -> None:
     tally.expect(regions == [(line, column) for _, line, column, _ in PLACES], "the regions", regions)
     uris = [it["artifactLocation"]["uri"] for it in places[-2:]]
     tally.expect(uris == ["odd%20name%20%25.pb", "a%0A%1B%5B1m.pb"], "the address of a file", uris)
-    fits(tally, "sarif", json.loads(it.run("check", "--format", "sarif", "fine.pb")[1]))
+    told = [(at["locations"][0]["physicalLocation"]["artifactLocation"]["uri"], at["message"]["text"])
+            for at in run["invocations"][0]["toolExecutionNotifications"]]
+    is_told = told == list(UNREAD.items()) and not run["invocations"][0]["executionSuccessful"]
+    tally.expect(is_told, "SARIF of files that cannot be read", run["invocations"])
+    fine = json.loads(it.run("check", "--format", "sarif", "fine.pb")[1])
+    fits(tally, "sarif", fine)
+    tally.expect(fine["runs"][0]["invocations"] == [{"executionSuccessful": True}], "SARIF of files that can be read", fine)
 
 
 def try_many(tally: Tally, it: Script) -> None:

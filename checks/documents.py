@@ -6,12 +6,16 @@ whether each path in them is there.
 
 A command is a line of a block that begins with `$ `, with the lines behind it that begin with `> `; what it writes is
 the lines up to the next command or the end of the block. If some of these begin with a prompt of the debugger, as `0/15> `,
-it is a session at a terminal, and what is behind the prompts is typed. The commands run in a folder with the script, as it is
-installed, and the examples. A block that names a language and a path behind its opening backquotes, as in
-"rust crates/NAME/src/main.rt", shows a file, and has to be that file. A path is a word of a document, in backquotes or
-not, that begins with the name of a folder at the top of the repository. Its status is 0 if all is as wanted, and 1 if
+it is a session at a terminal, and what is behind the prompts is typed. The commands of docs/COURSE.md are typed at a
+terminal too: there standard error is seen, and tables in the place of lines. The commands run in a folder with the script, as
+it is installed, and the examples; `--unproved` is left out, which changes nothing of what is written. A block that names a
+language and a path behind its opening backquotes, as in "rust crates/NAME/src/main.rt", shows a file, and has to be that
+file. A path is a word of a document, in backquotes or not, that begins with the name of a folder at the top of the
+repository. What README.md, "To begin", shows and is not typed here has to be measured by benches/first_call.py, and the
+counts of crates there and in docs/BUILDING.md have to be those of the tools. Its status is 0 if all is as wanted, and 1 if
 not.
 """
+import importlib.util
 import pathlib
 import re
 import shutil
@@ -19,9 +23,15 @@ import subprocess
 import tempfile
 
 from calls import TOP, Tally, installed
-from pseudo_terminal import played
+from pseudo_terminal import Terminal, played
+from script.crates import crates_below
+from script.tools import COMMANDS_OF
 
 DOCUMENTS = [TOP / "README.md", TOP / "examples/README.md", TOP / "extras/README.md", *sorted((TOP / "docs").glob("*.md"))]
+# Of these the commands are typed at a terminal, which is as wide as their lines are at most.
+AT_A_TERMINAL = [TOP / "docs/COURSE.md"]
+COLUMNS = 125
+FIRST_CALL = TOP / "benches/first_call.py"
 BLOCK = re.compile(r"^( *)```([^\n]*)\n(.*?)^\1```$", re.M | re.S)
 PROMPT = re.compile(r"\d+/\d+> ")
 PATH = re.compile(r"(?<![\w/.])(?:crates|docs|examples|checks|benches|extras|script)/[\w./{},*-]*[\w}*]\.\w+")
@@ -61,13 +71,48 @@ def install(folder):
     return top
 
 
-def written_by(command, shown, top):
+def written_by(command, shown, top, at_a_terminal=False):
     """Returns the lines that a command writes, or a session at a terminal in which is typed what is shown."""
     typed = [PROMPT.sub("", line, count=1) for line in shown if PROMPT.match(line)]
+    command = command.replace("./parbegin --unproved ", "./parbegin ")
     if typed:
         return played(["bash", "-c", command], typed, PROMPT.pattern, str(top)).splitlines()
+    if at_a_terminal:
+        it = Terminal(["bash", "-c", command], str(top), COLUMNS)
+        it.end()
+        return it.shown.splitlines()
     ran = subprocess.run(["bash", "-c", command], cwd=top, stdout=subprocess.PIPE, stderr=subprocess.DEVNULL, check=False)
     return ran.stdout.decode().splitlines()
+
+
+def try_begin(tally):
+    """Looks whether what a newcomer types first is measured, and whether nothing is proved before the first answer."""
+    part = (TOP / "README.md").read_text().partition("\n## To begin\n")[2].partition("\n| If you |")[0]
+    where = importlib.util.spec_from_file_location("first_call", FIRST_CALL)
+    bench = importlib.util.module_from_spec(where)
+    where.loader.exec_module(bench)
+    measured = {call.replace("examples/devices.pb", "FILE") for calls in bench.CALLS.values() for call in calls}
+    typed = [re.split(" <<| [|] ", command)[0] for command, _ in commands_of(part)]
+    tally.expect("--unproved" in typed[0], "README.md: the first command proves something:", typed[0])
+    shown = [*typed[:1], *re.findall(r"^    (\S.*)$", part, re.M), *re.findall(r"^\| `([^`]*)`", part, re.M)]
+    tally.expect(len(shown) > 5, "README.md shows too few calls", shown)
+    for call in shown:
+        is_measured = call.replace("examples/devices.pb", "FILE") in measured
+        tally.expect(is_measured, "README.md shows a first call that benches/first_call.py does not measure:", call)
+
+
+def try_counts(tally):
+    """Compares how many crates documents say that tools are made of."""
+    crates = {tool: set(crates_below([tool])) for tool in COMMANDS_OF}
+    counts = {f"parbegin-{tool} |": str(len(of_tool)) for tool, of_tool in crates.items()}
+    counts |= {f"`./parbegin {command}`": str(len(crates[tool])) for command, tool in (("bank", "bank"), ("run FILE", "run"))}
+    behind = len(crates["search"] - crates["run"])
+    counts["`./parbegin outcomes FILE`"] = f"{len(crates['search'])}; behind `run` {behind}"
+    counts["`./parbegin build`, all tools"] = str(len(set().union(*crates.values())))
+    for row, count in counts.items():
+        document = TOP / ("docs/BUILDING.md" if row.startswith("parbegin-") else "README.md")
+        is_said = re.search(rf"^[|] {re.escape(row)}.*[|] {re.escape(count)} [|]", document.read_text(), re.M)
+        tally.expect(is_said, f"{document.name}: a row begins with {row} and has not {count} crates")
 
 
 def is_there(path):
@@ -86,7 +131,7 @@ def main():
             text = document.read_text()
             for command, written in commands_of(text):
                 typed += 1
-                got = written_by(command, written, top)
+                got = written_by(command, written, top, document in AT_A_TERMINAL)
                 tally.expect(got == written, f"{document.name}: `{command}` writes", *got)
             for path, shown in files_of(text):
                 is_same = (TOP / path).is_file() and (TOP / path).read_text() == shown
@@ -96,6 +141,8 @@ def main():
                     # (any crate or file)
                     continue
                 tally.expect(is_there(path), f"{document.name}: there is no {path}")
+    try_begin(tally)
+    try_counts(tally)
     print(f"{len(DOCUMENTS)} documents, {typed} commands")
     tally.end("documents")
 

@@ -5,7 +5,7 @@
 
 Every reserved word of the lexer must be coloured by Vim and by VS Code, and nothing else as one; every command of
 `--help`, with every option of its own help, must be in both completions and in docs/parbegin.1, and no other one; and so
-must what the script adds: commands of its own, and options of `check` and `run`. bash must complete what follows. If vim is there, it must take a text and a recorded
+must what the script adds: commands of its own, and options of `check`, `plan` and `run`. bash must complete what follows. If vim is there, it must take a text and a recorded
 run for what they are, and find the place of a refusal in what `check --format gcc` writes; if not, that is said. Its
 status is 0 if all is as wanted, and 1 if not.
 """
@@ -30,7 +30,7 @@ TASKS = {"TODO", "FIXME", "NOTE"}
 # What clap gives to every command, and what may come before a command.
 COMMON = {"help", "version", "unproved", "quiet", "json"}
 # Options that the script takes, and commands that it has, and the program does not know.
-OF_SCRIPT = {"check": {"format", "jobs"}, "run": {"seed", "lend"}}
+OF_SCRIPT = {"check": {"format", "jobs"}, "plan": {"table", "csv", "jobs"}, "run": {"seed", "lend"}}
 COMMANDS_OF_SCRIPT = {
     "grade": {"any", "fair", "lend", "states", "jobs", "csv", "html"}, "page": {"seed", "lend", "from", "rows", "states"},
     "sample": {"runs", "seed", "lend", "steps", "events", "jobs"},

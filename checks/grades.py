@@ -99,7 +99,19 @@ def try_exercises(tally: Tally, it: Class) -> None:
     tally.expect("keys.pb: as expected" in it.run("--lend", "banker", "handed_in", "cash.txt")[1], "the lender of the call")
     it.write("dos.txt", WANTED.replace("\n", "\r\n"))
     status, told, said = it.run("order", "dos.txt")
-    tally.expect(status == REFUSED and "the lines of dos.txt end with a carriage return" in said, "carriage returns", told, said)
+    is_told = "the lines of dos.txt end with a carriage return: save it with the line ends of Unix: a line feed alone" in said
+    tally.expect(status == REFUSED and is_told, "carriage returns", told, said)
+    (it.folder / "names").mkdir()
+    for name, text in (("arms.pb", "process p begin print 2 end\n"), ("q.pb", "process q begin print 2 end\n")):
+        (it.folder / "names" / name).write_text(text)
+    it.write("names.txt", f"// Print 2.\n{WANTED}")
+    why = "names.txt line 2: there is no process `p`; in q.pb there is q"
+    status, told, said = it.run("--csv", "names", "names.txt")
+    tally.expect(status == REFUSED and f"q.pb,1,refused K1 at 0,,{why}\n" in told, "a process that is not there", told)
+    tally.expect(said == f"parbegin: {why}\nparbegin: 2 submissions: 1 as expected, 1 refused\n", "a process that is not there", said)
+    it.write("arms.txt", WANTED.replace(".0", ".3"))
+    told = it.run("--csv", "names", "arms.txt")[1]
+    tally.expect("arms.txt line 1: process p has no arm `3`; in arms.pb its only arm is 0, its body\"\n" in told, "an arm that is not there", told)
     for text in ("// --fly\n", "// --any-order x\n", "// --lend till\n"):
         it.write("wrong.txt", text)
         status, told, said = it.run("order", "wrong.txt")

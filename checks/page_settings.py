@@ -7,6 +7,7 @@ from typing import Any
 from calls import TOP, Tally
 from page_asks import CONTRAST, LATER
 from page_made import BYSTANDER, in_a_ring, write_page
+from script.manual import TEXTBOOK
 
 # The events that are seen, those up to the position, and whether what is behind it is covered in the lanes.
 HIDDEN = """(() => {
@@ -102,6 +103,8 @@ def look_at_help(tally: Tally, it: Any, path: Path) -> None:
     tally.expect(it.js("$('help').open && $('help').scrollTop === 0"), path.name, "the key does not open Help at its beginning")
     unsaid = it.js("""Object.values(SIGNS).filter((sign) => ![...document.querySelectorAll("#help .sign")].some((it) => it.textContent === sign))""")
     tally.expect(unsaid == [], path.name, f"Help does not explain {unsaid}")
+    books = set(it.js("[...document.querySelectorAll('#help #books b')].map((word) => word.textContent)"))
+    tally.expect(books and books <= set(TEXTBOOK), path.name, f"Help says other words of textbooks: {books}")
     kinds = it.js("['pick', 'live', 'join', 'asks', 'now'].filter((kind) => !document.querySelector(`#help .sign.${kind}`)?.checkVisibility())")
     tally.expect(kinds == [], path.name, f"Help does not show {kinds}")
     it.key("Escape")

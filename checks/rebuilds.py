@@ -16,7 +16,7 @@ import subprocess
 import tempfile
 import time
 
-from calls import TOP, Tally
+from calls import TOP, WORDS, Tally
 from script.tools import COMMANDS_OF, crate_of
 
 # In place of rt: writes down its call, and as a build of the program makes one that says so.
@@ -73,13 +73,24 @@ def copied(folder: pathlib.Path) -> Checkout:
             if (TOP / f"crates/{crate_of(tool)}/{file}").exists():
                 shutil.copy(TOP / f"crates/{crate_of(tool)}/{file}", first / f"crates/{crate_of(tool)}/{file}")
     (first / "examples").mkdir()
-    for file in ("parbegin", "examples/hello.pb"):
+    (first / "docs").mkdir()
+    for file in ("parbegin", "examples/hello.pb", "docs/parbegin.1"):
         shutil.copy(TOP / file, first / file)
     (first / "crates.txt").write_text("".join(f"{crate}: {below}\n" for crate, below in CRATES.items()))
     (folder / "bin").mkdir()
     (folder / "bin/rt").write_text(RT)
     (folder / "bin/rt").chmod(0o755)
     return Checkout(first, folder)
+
+
+def try_nothing_built(tally: Tally, it: Checkout) -> None:
+    """Tries help, and words that are no command, where nothing is built: nothing is built for them."""
+    for words, status, part in [
+        (["--help"], 0, b"  outcomes  Prints every way"), (["help"], 0, b"  bank      "), (["plan", "--help"], 0, b"  --table\n"),
+        (["help", "race"], 0, b"race: "), (["--version"], 0, b""), (["fly"], WORDS, b""), ([""], WORDS, b""), (["examples/hello.pb"], WORDS, b""),
+    ]:
+        told = it.run(*words)
+        tally.expect(told[0] == status and part in told[1] and told[2] == 0, words, "where nothing is built", told)
 
 
 def try_changes(tally: Tally, it: Checkout) -> None:
@@ -154,6 +165,7 @@ def main() -> None:
     with tempfile.TemporaryDirectory(prefix="parbegin-rebuilds-") as name:
         folder = pathlib.Path(name)
         it = copied(folder)
+        try_nothing_built(tally, it)
         try_changes(tally, it)
         try_copies(tally, it, folder)
         try_gate(tally, it)

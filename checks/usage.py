@@ -73,6 +73,8 @@ CALLS = [
     (["outcomes", "--expect", "answer.pb"], DONE, "as expected\n", None),
     (["outcomes", "--expect", "two_prints.pb"], UNEXPECTED, "other prints\n", "parbegin: line 2 of the prints: wanted p.0 print 3, got p.0 print 2\n"),
     (["outcomes", "--expect", "too_few.pb"], UNEXPECTED, "other prints\n", "parbegin: line 2 of the prints: wanted p.0 print 3, got no more\n"),
+    (["outcomes", "--expect", "dos_prints.pb"], REFUSED, "refused K1 at 0", "parbegin: the print lines end with a carriage return: save them"),
+    (["outcomes", "--expect", "other_name.pb"], REFUSED, "refused K1 at 0", "error K1: there is no process `q`\n  --> print line 1, "),
     (["outcomes", "--expect", "--any-order", "two_prints.pb"], UNEXPECTED, "other prints\n", "wanted p.0 print 3, got p.0 print 2\n"),
     (["--quiet", "outcomes", "--expect", "two_prints.pb"], UNEXPECTED, "other prints\n", None),
     (["outcomes", "--expect", "hello.pb"], UNEXPECTED, "not as expected: other prints\n", "parbegin: hello.pb has no line %% with the prints"),
@@ -141,6 +143,8 @@ def fill(folder: pathlib.Path) -> None:
     (folder / "two.pb").write_bytes(hello + b"%%\n" + hello)
     (folder / "crlf.run").write_bytes(b"process p begin print 1 end\r\n%%\r\np.0 3\r\n")
     (folder / "answer.pb").write_text("process p begin print 1 end\n%%\np.0 print 1\n")
+    (folder / "dos_prints.pb").write_bytes(b"process p begin print 1 end\n%%\np.0 print 1\r\n")
+    (folder / "other_name.pb").write_text("process p begin print 1 end\n%%\nq.0 print 1\n")
     (folder / "two_prints.pb").write_text("process p begin print 1; print 2 end\n%%\np.0 print 1\np.0 print 3\n")
     (folder / "too_few.pb").write_text("process p begin print 1 end\n%%\np.0 print 1\np.0 print 3\n")
     (folder / "wanted.txt").write_text("p.0 print 1\n")

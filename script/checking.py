@@ -8,9 +8,10 @@ import subprocess
 import sys
 from collections.abc import Callable, Iterable, Iterator
 from dataclasses import dataclass
+from typing import Tuple, Union
 
 from script import files, helping
-from script.findings import Finding, finding, texts_of
+from script.findings import Finding, Text, Unread, finding, texts_of
 from script.places import DEVICE, WORDS, say, shown
 from script.reports import gcc_lines, json_lines, sarif_document
 from script.standard import drop_output
@@ -98,46 +99,40 @@ class Checker:
             return list(left)
 
 
+# A file with its bytes, or with why it cannot be read.
+Read = Tuple[str, Union[bytes, Unread]]
+
+
 class Source:
     """The files, of which those that can't be read are told of and counted."""
 
     def __init__(self, names: list[str]) -> None:
         self.names, self.not_read = names, 0
 
-    def read(self) -> Iterator[tuple[str, bytes]]:
-        """Yields each file that can be read, with its bytes."""
+    def read(self) -> Iterator[Read]:
+        """Yields each file with its bytes, or with why it can't be read."""
         for name in self.names:
-            given = self.bytes_of(name)
-            if given is None:
+            is_input = name == STANDARD_INPUT
+            try:
+                with open(0 if is_input else name, "rb", closefd=not is_input) as file:
+                    yield name, file.read(files.MOST_READ + 1)
+            except OSError as fault:
+                files.tell_not_read("standard input" if is_input else name, fault)
                 self.not_read += 1
-            else:
-                yield name, given
-
-    def bytes_of(self, name: str) -> bytes | None:
-        """Returns the bytes of a file, or says why it can't be read."""
-        try:
-            if name == STANDARD_INPUT:
-                return files.read_input()
-            file = files.opened(name)
-            if file is None:
-                return None
-            with file:
-                return file.read(files.MOST_READ + 1)
-        except OSError as fault:
-            say(f"{shown(name)}: {fault.strerror}")
-            return None
+                yield name, Unread(name, files.reason_of(fault))
 
 
-def groups(read: Iterable[tuple[str, bytes]]) -> Iterator[list[tuple[str, bytes]]]:
+def groups(read: Iterable[Read]) -> Iterator[list[Read]]:
     """Yields files in groups that one call can check."""
-    group: list[tuple[str, bytes]] = []
+    group: list[Read] = []
     size = 0
     for name, given in read:
-        if group and (len(group) >= MOST_TEXTS or size + len(given) > MOST_BYTES):
+        length = 0 if isinstance(given, Unread) else len(given)
+        if group and (len(group) >= MOST_TEXTS or size + length > MOST_BYTES):
             yield group
             group, size = [], 0
         group.append((name, given))
-        size += len(given) + len(b"\n%%\n")
+        size += length + len(b"\n%%\n")
     if group:
         yield group
 
@@ -173,7 +168,7 @@ class Sums:
 
 def check_as_text(checker: Checker, source: Source, jobs: int, sums: Sums) -> None:
     """Checks each file, and tells of it as the program does, with its name."""
-    for group in groups(source.read()):
+    for group in groups(it for it in source.read() if not isinstance(it[1], Unread)):
         for (name, given), answer in zip(group, checker.ask_all([given for _, given in group], jobs)):
             sums.add(answer)
             tell_text(name, answer)
@@ -182,12 +177,20 @@ def check_as_text(checker: Checker, source: Source, jobs: int, sums: Sums) -> No
                 say(told)
 
 
-def findings_of(group: list[tuple[str, bytes]], checker: Checker, jobs: int, sums: Sums) -> Iterator[Finding]:
-    """Yields what is said of each text of each of these files."""
-    by_file = [texts_of(name, given, files.parts_of(given)) for name, given in group]
+def texts_to_check(name: str, given: bytes | Unread) -> list[Text]:
+    """Returns the texts of a file, none of one that can't be read."""
+    return [] if isinstance(given, Unread) else texts_of(name, given, files.parts_of(given))
+
+
+def findings_of(group: list[Read], checker: Checker, jobs: int, sums: Sums) -> Iterator[Finding | Unread]:
+    """Yields what is said of each text of each of these files, or why a file can't be read."""
+    by_file = [texts_to_check(*it) for it in group]
     texts = [text for texts in by_file for text in texts]
     answers = iter(checker.ask_all([text.given for text in texts], jobs))
-    for of_file in by_file:
+    for (_, given), of_file in zip(group, by_file):
+        if isinstance(given, Unread):
+            yield given
+            continue
         worst = Answer(0, [], b"")
         for text in of_file:
             answer = next(answers)
@@ -199,8 +202,8 @@ def findings_of(group: list[tuple[str, bytes]], checker: Checker, jobs: int, sum
 
 def check_as_data(checker: Checker, source: Source, options: Options, sums: Sums) -> None:
     """Checks each file, and tells of each text in a format for programs."""
-    lines: dict[str, Callable[[Finding], Iterator[str]]] = {"gcc": gcc_lines, "json": json_lines}
-    kept: list[Finding] = []
+    lines: dict[str, Callable[[Finding | Unread], Iterator[str]]] = {"gcc": gcc_lines, "json": json_lines}
+    kept: list[Finding | Unread] = []
     for group in groups(source.read()):
         for found in findings_of(group, checker, options.jobs, sums):
             if options.format in lines:

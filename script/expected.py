@@ -8,7 +8,7 @@ from dataclasses import dataclass, field
 from typing import NamedTuple
 
 from script.files import parts_of, read_input
-from script.places import UNEXPECTED, say
+from script.places import REFUSED, UNEXPECTED, say
 from script.standard import write
 
 PRINT = re.compile(r"\w+\.\d+ print -?\d+")
@@ -97,6 +97,8 @@ def run_expected(start: list[str], words: list[str]) -> int:
     if failed:
         return failed
     told, parts = read_told(ran.stdout.decode(errors="replace").splitlines()), parts_of(given)
+    if ran.returncode == REFUSED and any(b"\r\n" in part for part in parts[1:2]):
+        say("the print lines end with a carriage return: save them with the line ends of Unix: a line feed alone")
     if ran.returncode == UNEXPECTED and told.picks and len(parts) < 3:
         wanted = b"".join(parts[1:]).decode(errors="replace").splitlines()
         differs = difference(wanted, told.printed, "--any-order" in words)

@@ -76,14 +76,25 @@ def tell_missing(name: str) -> None:
     say(f"no such file: {shown(name)}")
 
 
+def reason_of(fault: OSError) -> str:
+    """Returns why a file can't be read."""
+    return "no such file" if isinstance(fault, FileNotFoundError) else fault.strerror or str(fault)
+
+
+def tell_not_read(name: str, fault: OSError) -> None:
+    """Says why a file can't be read."""
+    if isinstance(fault, FileNotFoundError):
+        tell_missing(name)
+    else:
+        say(f"{shown(name)}: {reason_of(fault)}")
+
+
 def opened(name: str) -> BinaryIO | None:
     """Opens a file to read, or says why it can't be."""
     try:
         return open(name, "rb")
-    except FileNotFoundError:
-        tell_missing(name)
     except OSError as fault:
-        say(f"{shown(name)}: {fault.strerror}")
+        tell_not_read(name, fault)
     return None
 
 
@@ -114,8 +125,10 @@ def read_input() -> bytes:
         sys.exit(DEVICE)
 
 
-def give_together(names: list[str]) -> None:
-    """Makes several files, with lines `%%` between them, the standard input, or ends the script."""
+def give_together(names: list[str]) -> list[int]:
+    """Makes several files, with lines `%%` between them, the standard input, or ends the script. Returns how many texts each
+    has."""
+    counts = []
     with tempfile.TemporaryFile() as whole:
         for number, name in enumerate(names):
             file = opened(name)
@@ -123,16 +136,21 @@ def give_together(names: list[str]) -> None:
                 sys.exit(DEVICE)
             with file:
                 given = file.read(MOST_READ + 1)
+            counts.append(len(parts_of(given)))
             if number + 1 < len(names):
                 given += b"%%\n" if not given or given.endswith(b"\n") else b"\n%%\n"
             whole.write(given)
         whole.seek(0)
         os.dup2(whole.fileno(), 0)
+    return counts
 
 
-def tell_numbers(names: list[str]) -> None:
-    """Says which number the text of each file has."""
-    say(", ".join(f"text {number} is {shown(name)}" for number, name in enumerate(names, 1)))
+def tell_numbers(names: list[str], counts: list[int]) -> None:
+    """Says which file each text is, or which of the texts of a file that has several."""
+    texts = []
+    for name, count in zip(names, counts):
+        texts += [shown(name)] if count == 1 else [f"text {part} of {shown(name)}" for part in range(1, count + 1)]
+    say(", ".join(f"text {number} is {text}" for number, text in enumerate(texts, 1)))
 
 
 def parts_of(given: bytes) -> list[bytes]:
@@ -161,7 +179,7 @@ def advice(command: str, words: list[str], name: str, given: bytes) -> str | Non
     """Returns which command reads this, if this one can't, or what is missing."""
     parts = parts_of(given)
     if len(parts) == 1 and b"\n%%\r" in given:
-        return f"the lines of {name} end with a carriage return, the line %% too: save it with the line ends of Unix"
+        return f"the lines of {name} end with a carriage return, the line %% too: save it with the line ends of Unix: a line feed alone"
     if command == "outcomes" and "--expect" in words:
         return advice_on_prints(name, parts)
     if is_object(given) and command in (*OF_TEXTS, *OF_PICKS, "check"):

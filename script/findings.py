@@ -50,6 +50,14 @@ class Finding:
         return self.line == "ok"
 
 
+@dataclass(frozen=True)
+class Unread:
+    """A file that cannot be read, and why."""
+
+    file: str
+    reason: str
+
+
 def texts_of(file: str, given: bytes, parts: list[bytes]) -> list[Text]:
     """Returns the texts of a file, which lines `%%` separate."""
     texts, at, lines = [], 0, 0

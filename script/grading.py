@@ -45,11 +45,13 @@ SUBMISSION = ".pb"
 
 @dataclass(frozen=True)
 class Exercise:
-    """What is wanted of a text: lines, as they stand in the file, and the options with which they are compared."""
+    """What is wanted of a text: lines, as they stand in the file, the options with which they are compared, and how many
+    comments are before the lines."""
 
     name: str
     given: bytes
     options: dict[str, str]
+    comments: int = 0
 
     @property
     def lines(self) -> list[str]:
@@ -71,6 +73,7 @@ class Grade:
     status: int
     told: Told
     message: str
+    reason: str
     differs: Difference | None
 
     @property
@@ -82,16 +85,26 @@ class Grade:
     def came(self) -> str:
         """Returns what came in its place and what went wrong beside the prints, or the reason of a refusal."""
         if self.status == REFUSED:
-            return line_of(self.message)
+            return self.reason
         came = [self.differs.came if self.differs else "", ends_in_words(self.told)]
         return ", ".join(it for it in came if it)
 
 
-def line_of(message: str) -> str:
-    """Returns what a message of the program says of a refusal, in a line, with the line of the text."""
-    head = re.match(r"error \w+: (.*)", message)
-    place = re.search(r"^ *--> .*?\bline (\d+)", message, re.M)
-    return f"{f'line {place[1]}: ' if place else ''}{head[1]}" if head else ""
+# The place of a message: a line of the text, or of the lines that are wanted.
+PLACE = re.compile(r"^ *--> .*?(\bprint )?\bline (\d+)", re.M)
+# What a message says of a text whose process or arm the wanted lines do not name.
+THERE_ARE = re.compile(r"^ *= (?:the processes before the line %% are (.*)|(its (?:only arm|arms) .*))$", re.M)
+
+
+def reason_of(message: str, exercise: Exercise, name: str) -> str:
+    """Returns why a submission is refused, in a line, with the line of the text, or with that of the exercise and its name."""
+    head, place, there_are = re.match(r"error \w+: (.*)", message), PLACE.search(message), THERE_ARE.search(message)
+    if not head:
+        return ""
+    if not (place and place[1]):
+        return f"{f'line {place[2]}: ' if place else ''}{head[1]}"
+    of_text = f"; in {shown(name)} {f'there is {there_are[1]}' if there_are[1] else there_are[2]}" if there_are else ""
+    return f"{shown(os.path.basename(exercise.name))} line {int(place[2]) + exercise.comments}: {head[1]}{of_text}"
 
 
 def read_exercise(name: str, given: bytes, options: dict[str, str]) -> Exercise:
@@ -107,7 +120,7 @@ def read_exercise(name: str, given: bytes, options: dict[str, str]) -> Exercise:
             if taken.others:
                 raise WrongWords(f"unexpected argument '{taken.others[0]}' found, in {shown(name)}")
             own |= taken.options
-    return Exercise(name, b"".join(lines), own | options)
+    return Exercise(name, b"".join(lines), own | options, given.count(b"\n") - b"".join(lines).count(b"\n"))
 
 
 def submissions(folder: str) -> Iterator[str]:
@@ -152,7 +165,8 @@ class Grader:
             differs = difference(self.exercise.lines, told.printed, "--any-order" in self.exercise.options)
         # (a program that a signal ended has a status below 0)
         status = ran.returncode if ran.returncode >= 0 else 128 - ran.returncode
-        return Grade(name, given, status, told, ran.stderr.decode(errors="replace"), differs)
+        message = ran.stderr.decode(errors="replace")
+        return Grade(name, given, status, told, message, reason_of(message, self.exercise, name), differs)
 
 
 def read_words(words: list[str]) -> tuple[Given, str, str]:
@@ -183,9 +197,16 @@ def call(start: list[str], words: list[str]) -> int:
     if are_refused(start[:1], ["outcomes", "--expect", *exercise.words]):
         return WORDS
     if b"\r\n" in exercise.given and not is_quiet:
-        say(f"the lines of {shown(name)} end with a carriage return: save it with the line ends of Unix")
+        say(f"the lines of {shown(name)} end with a carriage return: save it with the line ends of Unix: a line feed alone")
     with workers(jobs) as pool:
         return judge(pool, Grader(start[:1], folder, exercise), names, given, is_quiet)
+
+
+def tell_lines(grades: list[Grade]) -> None:
+    """Says of the first text that is refused by a line of the exercise, as one that names another process, why."""
+    reasons = [it.reason for it in grades if it.told.verdict.startswith("refused K1 ")]
+    if reasons:
+        say(f"{reasons[0]}{f' ({len(reasons) - 1} more are refused by a line of it)' if reasons[1:] else ''}")
 
 
 def judge(pool: Executor, grader: Grader, names: list[str], given: Given, is_quiet: bool) -> int:
@@ -207,5 +228,6 @@ def judge(pool: Executor, grader: Grader, names: list[str], given: Given, is_qui
     if "--html" in given.options:
         failed = write_report(pool, grader, grades, sums(grades, names), given.options["--html"])
     if not is_quiet:
+        tell_lines(grades)
         say(sums(grades, names))
     return max([failed, *[DEVICE] * (len(grades) < len(names)), *(it.status for it in grades)])

@@ -30,6 +30,13 @@ Of files:
                          sarif [default: text]
       --jobs <COUNT>     The most calls of the program side by side [default: one for each processor]
 """
+PLAN = """
+Of several plans, each by itself:
+      --table         A row for each FILE: the bottleneck, an order, and each resource with its capital, the least with which
+                      the text is accepted, and that with which no request for it waits
+      --csv           The same as CSV, with a row for each resource
+      --jobs <COUNT>  The most plans that are made side by side [default: one for each processor]
+"""
 RUN = """
 Of a run that is drawn, as `record` draws it and `replay` makes it:
       --seed <N>         Draw each step by a generator with this seed, from 0 to 18446744073709551615
@@ -97,7 +104,7 @@ def more_help(start: list[str], command: str | None) -> str:
     if command == "debug":
         told = ran_on(start, ["debug"], SESSION)[1].decode(errors="replace") if is_built(tool_of("debug")) else ""
         return DEBUG + told if told else ""
-    return {"check": CHECK, "dap": EDITORS, "lsp": EDITORS, "run": RUN, None: FILES}.get(command, "")
+    return {"check": CHECK, "dap": EDITORS, "lsp": EDITORS, "plan": PLAN, "run": RUN, None: FILES}.get(command, "")
 
 
 def help_on_words(words: list[str]) -> str | None:

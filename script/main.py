@@ -10,7 +10,7 @@ from script import files, helping
 from script.drawn import is_drawn
 from script.own import own_call, run_own
 from script.places import DEVICE, WORDS, say, shown
-from script.program import is_built, program, record_of_gate
+from script.program import is_built, is_nothing_built, program, record_of_gate
 from script.tools import CALLS, COMMANDS, command_of, path_of, tool_of
 
 # What each command waits for at a terminal; any other waits for a text.
@@ -59,6 +59,10 @@ def run_command(start: list[str], command: str, words: list[str]) -> int:
         from script.checking import check
 
         return check(start, words)
+    if command == "plan" and any(word.partition("=")[0] in ("--table", "--csv") for word in words):
+        from script.plans import plan_table
+
+        return plan_table(start, words)
     return run_on_file(start, command, files.sort_words(start, command, words))
 
 
@@ -74,9 +78,9 @@ def run_on_file(start: list[str], command: str, words: files.Words) -> int:
         files.tell_too_many(command, words.named)
         return WORDS
     if len(words.named) > 1:
-        files.give_together(words.named)
+        counts = files.give_together(words.named)
         if "--quiet" not in start:
-            files.tell_numbers(words.named)
+            files.tell_numbers(words.named, counts)
         start_program(start, [command, *words.others])
     name = words.named[0] if words.named else None
     if name and command == "debug" and "--json" not in start:
@@ -190,6 +194,12 @@ def main(words: list[str]) -> int:
             from script.library import library
 
             return library(words[1:])
+        if is_nothing_built():
+            from script.unbuilt import answer
+
+            status = answer(words)
+            if status is not None:
+                return status
         return run_words([program(*called(words))], words)
     except KeyboardInterrupt:
         return 128 + signal.SIGINT

@@ -35,6 +35,11 @@ def is_built(tool: str) -> bool:
     return os.path.exists(path_of(tool)) if is_installed() else not old_ones([tool])
 
 
+def is_nothing_built() -> bool:
+    """Returns whether this is a checkout in which no tool is there, of these sources or of older ones."""
+    return not is_installed() and not any(os.path.exists(path_of(tool)) for tool in COMMANDS_OF)
+
+
 def named(tools: list[str], commands: tuple[str, ...]) -> str:
     """Returns in words what is built: what `run` needs, or the tools by their names."""
     return f"what `{commands[0]}` needs" if len(commands) == 1 else ", ".join(f"parbegin-{tool}" for tool in tools)

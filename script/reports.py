@@ -8,7 +8,7 @@ from collections.abc import Iterable, Iterator
 from typing import Any
 from urllib.parse import quote
 
-from script.findings import Finding, Place
+from script.findings import Finding, Place, Unread
 from script.helping import ran_on
 from script.places import shown
 
@@ -17,9 +17,10 @@ SARIF = "https://json.schemastore.org/sarif-2.1.0.json"
 START = Place(1, 1, "")
 
 
-def gcc_lines(finding: Finding) -> Iterator[str]:
-    """Yields the lines of a finding as compilers write them; none of a text that is accepted."""
-    if finding.is_accepted:
+def gcc_lines(finding: Finding | Unread) -> Iterator[str]:
+    """Yields the lines of a finding as compilers write them; none of a text that is accepted, or of a file that cannot be
+    read, which standard error tells."""
+    if isinstance(finding, Unread) or finding.is_accepted:
         return
     first, *others = finding.places or [Place(finding.text.lines_before + 1, 1, "")]
 
@@ -56,14 +57,24 @@ def json_object(finding: Finding) -> dict[str, Any]:
     return {**given, "places": [place_object(it) for it in finding.places], **lists}
 
 
-def json_lines(finding: Finding) -> Iterator[str]:
-    """Yields the line of a finding."""
-    yield json.dumps(json_object(finding), ensure_ascii=True) + "\n"
+def json_unread(unread: Unread) -> dict[str, Any]:
+    """Returns for JSON that a file cannot be read."""
+    return {"file": unread.file, "accepted": False, "read": False, "message": unread.reason}
 
 
-def location(finding: Finding, place: Place | None) -> dict[str, Any]:
-    """Returns a place for SARIF."""
-    physical: dict[str, Any] = {"artifactLocation": {"uri": quote(os.fsencode(finding.text.file), safe="/")}}
+def json_line(said: dict[str, Any]) -> str:
+    """Returns an object as a line."""
+    return json.dumps(said, ensure_ascii=True) + "\n"
+
+
+def json_lines(said: Finding | Unread) -> Iterator[str]:
+    """Yields the line of a finding, or of a file that cannot be read."""
+    yield json_line(json_unread(said) if isinstance(said, Unread) else json_object(said))
+
+
+def location(file: str, place: Place | None) -> dict[str, Any]:
+    """Returns a place of a file for SARIF."""
+    physical: dict[str, Any] = {"artifactLocation": {"uri": quote(os.fsencode(file), safe="/")}}
     if place:
         physical["region"] = {"startLine": place.line, "startColumn": place.column}
     told: dict[str, Any] = {"physicalLocation": physical}
@@ -76,11 +87,17 @@ def sarif_result(finding: Finding) -> dict[str, Any]:
     first, *others = finding.places or [None]
     result: dict[str, Any] = {
         "ruleId": finding.code, "level": "error", "message": {"text": "\n".join([finding.message, *notes])},
-        "locations": [location(finding, first)],
+        "locations": [location(finding.text.file, first)],
     }
     if others:
-        result["relatedLocations"] = [{"id": at, **location(finding, it)} for at, it in enumerate(others, 1)]
+        result["relatedLocations"] = [{"id": at, **location(finding.text.file, it)} for at, it in enumerate(others, 1)]
     return result
+
+
+def sarif_invocation(unread: list[Unread]) -> dict[str, Any]:
+    """Returns for SARIF how the call went: it has a notification of each file that cannot be read."""
+    told = [{"level": "error", "message": {"text": it.reason}, "locations": [location(it.file, None)]} for it in unread]
+    return {"executionSuccessful": not unread, **({"toolExecutionNotifications": told} if told else {})}
 
 
 def rules(start: list[str], codes: Iterable[str]) -> list[dict[str, Any]]:
@@ -90,13 +107,15 @@ def rules(start: list[str], codes: Iterable[str]) -> list[dict[str, Any]]:
     return [{"id": code, "shortDescription": {"text": words.get(code, code)}} for code in sorted(set(codes))]
 
 
-def sarif_document(start: list[str], findings: list[Finding]) -> str:
+def sarif_document(start: list[str], said: list[Finding | Unread]) -> str:
     """Returns the findings as one SARIF document; texts that are accepted are not in it."""
-    refused = [it for it in findings if not it.is_accepted]
+    refused = [it for it in said if isinstance(it, Finding) and not it.is_accepted]
+    unread = [it for it in said if isinstance(it, Unread)]
     _, version, _ = ran_on(start[:1], ["--version"])
     number = re.search(r"\d+\.\d+(?:\.\d+)?", version.decode(errors="replace"))
     driver = {"name": "parbegin", "rules": rules(start, (it.code for it in refused))}
     if number:
         driver["version"] = number[0]
-    run = {"tool": {"driver": driver}, "columnKind": "utf16CodeUnits", "results": [sarif_result(it) for it in refused]}
+    run = {"tool": {"driver": driver}, "invocations": [sarif_invocation(unread)], "columnKind": "utf16CodeUnits"}
+    run["results"] = [sarif_result(it) for it in refused]
     return json.dumps({"$schema": SARIF, "version": "2.1.0", "runs": [run]}, indent=2) + "\n"

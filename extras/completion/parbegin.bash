@@ -61,7 +61,7 @@ _parbegin() {
     migrate) options="" ;;
     outcomes) options="--states --lend --first-deadlock --prints --fair --expect --any-order --graph --run --deadlock" ;;
     page) options="--seed --lend --from --rows --states" ;;
-    plan) options="--lend" ;;
+    plan) options="--lend --table --csv --jobs" ;;
     record) options="--workers --quantum --steps --seed --lend" ;;
     replay) options="--lend" ;;
     run) options="--workers --quantum --steps --seed --lend" ;;

@@ -1,0 +1,144 @@
+#!/usr/bin/env python3
+"""Plans several files by the script, and compares what is told with what the program says of each.
+
+    checks/plans.py [PROGRAM]     PROGRAM is the one that ./parbegin has built if none is given
+
+The table of plans, its CSV, which text of which file a number is when files are planned together, and that another capital
+changes nothing but what docs/FORMATS.md, "Plans", says. Its status is 0 if
+all is as wanted, and 1 if not.
+"""
+from __future__ import annotations
+
+import csv
+import pathlib
+import subprocess
+import tempfile
+
+from calls import DEADLOCK, DEVICE, DONE, REFUSED, TOP, WORDS, Tally, call, installed
+
+NAMES = ("9-plan/week.pb", "9-plan/roomy.pb", "9-plan/copies.pb", "devices.pb", "4-claims/too_much.pb", "hello.pb")
+ODD = "=odd\nname.pb"
+
+
+class Folder:
+    """The script, as it is installed, and plans."""
+
+    def __init__(self, folder: pathlib.Path) -> None:
+        self.script, self.folder = installed(folder / "installed"), folder
+        for name in NAMES:
+            text = (TOP / "examples" / name).read_bytes()
+            (folder / pathlib.Path(name).name).write_bytes(text)
+        (folder / "wrong.pb").write_text("process p begin x := 1 end\n")
+        (folder / ODD).write_bytes((folder / "hello.pb").read_bytes())
+        lists = (TOP / "examples/9-plan/lists.pb").read_bytes()
+        (folder / "two.pb").write_bytes((folder / "copies.pb").read_bytes() + b"%%\n" + lists)
+        self.names = [*(pathlib.Path(name).name for name in NAMES), "wrong.pb", ODD, "two.pb"]
+
+    def run(self, *words: str) -> tuple[int, str, str]:
+        """Calls `plan`, and returns its status and what it wrote on both."""
+        ran = subprocess.run([self.script, *words], cwd=self.folder, stdin=subprocess.DEVNULL, capture_output=True, check=False)
+        return ran.returncode, ran.stdout.decode(), ran.stderr.decode()
+
+    def own(self, name: str, *words: str) -> tuple[int, list[str]]:
+        """Returns what the program by itself says of a plan."""
+        status, told = call(["plan", *words], (self.folder / name).read_bytes())
+        return status, told.decode().splitlines()
+
+
+def shown(name: str) -> str:
+    return name.replace("\n", "\\n")
+
+
+def try_table(tally: Tally, it: Folder) -> None:
+    """Tries a row for each plan."""
+    status, told, said = it.run("plan", "--table", *it.names)
+    head, *rows = told.splitlines()
+    tally.expect(head.split() == ["plan", "bottleneck", "order", "capital", "(least,", "free)"], "the heads", head)
+    tally.expect([row.split("  ")[0].strip() for row in rows] == [shown(name) for name in it.names], "the rows", told)
+    for name, row in zip(it.names, rows):
+        lines = it.own(name)[1]
+        for line in lines:
+            words = line.split()
+            if words[1:2] == ["capital"]:
+                cell = f"{words[0]} {words[2]} ({words[4]}, {words[6]})"
+                tally.expect(cell in row, name, "lacks", cell, row)
+            elif line in ("no request waits", "no order") or words[0] == "refused":
+                tally.expect(line in row, name, "lacks", line, row)
+            elif words[0] in ("bottleneck", "order") and "claim" not in words:
+                tally.expect(" ".join(words[1:]) in row, name, "lacks", line, row)
+    tally.expect(status == REFUSED, "the status of a table is", status)
+    tally.expect(said == "parbegin: 9 plans: 7 fit, 1 with a claim over its capital, 1 refused\n", "the sums", said)
+    tally.expect(it.run("plan", "--jobs=1", *it.names, "--table") == (status, told, said), "one job says another thing")
+    tally.expect(it.run("--quiet", "plan", "--table", *it.names) == (status, told, ""), "it is not quiet")
+    status, told, said = it.run("plan", "--table", "hello.pb", "nosuch.pb")
+    is_told = said == "parbegin: no such file: nosuch.pb\nparbegin: 2 plans: 1 fit, 1 not read\n"
+    tally.expect(status == DEVICE and told.count("\n") == 2 and is_told, "a missing file", status, told, said)
+    tally.expect(it.run("plan", "--table", "hello.pb")[0] == DONE, "one plan")
+    status, told, said = it.run("plan", "--table", "--lend", "cash", "devices.pb", "week.pb")
+    tally.expect(status == DEADLOCK and said.endswith(": 1 fit, 1 may deadlock\n"), "by the cash alone", status, told, said)
+
+
+def try_csv(tally: Tally, it: Folder) -> None:
+    """Tries a row for each resource of each plan."""
+    status, told, _ = it.run("plan", "--csv", *it.names)
+    head, *rows = csv.reader(told.splitlines())
+    columns = ["plan", "status", "resource", "capital", "least", "free", "bottleneck", "order", "refusal"]
+    tally.expect(status == REFUSED and head == columns, "the columns", head)
+    for name in it.names:
+        own_status, lines = it.own(name)
+        needs = [[words[0], words[2], words[4], words[6]] for words in map(str.split, lines) if words[1:2] == ["capital"]]
+        found = [row[1:6] for row in rows if row[0].removeprefix("./") == shown(name)]
+        tally.expect(found == [[str(own_status), *need] for need in needs or [[""] * 4]], "CSV of", name, found)
+    tally.expect(f"\n./{shown(ODD)}," in told, "a name that looks like a formula", told)
+    tally.expect(["wrong.pb", "1", "", "", "", "", "", "", "refused N3 at 16"] in rows, "CSV of a refused text", told)
+
+
+def try_numbers(tally: Tally, it: Folder) -> None:
+    """Tries which text of which file a number is."""
+    said = it.run("plan", "devices.pb", "hello.pb")[2]
+    tally.expect(said == "parbegin: text 1 is devices.pb, text 2 is hello.pb\n", "two files", said)
+    said = it.run("plan", "two.pb", ODD)[2]
+    wanted = f"parbegin: text 1 is text 1 of two.pb, text 2 is text 2 of two.pb, text 3 is {shown(ODD)}\n"
+    tally.expect(said == wanted, "a file of two texts", said)
+    status, told, said = it.run("plan", "two.pb", "wrong.pb")
+    tally.expect(status == REFUSED and "text 3 refused N3 at 16\n" in told and "text 3 is wrong.pb\n" in said, "a refused text", told, said)
+    tally.expect(it.run("--quiet", "plan", "two.pb", "hello.pb")[2] == "", "the numbers are not quiet")
+
+
+def try_capitals(tally: Tally) -> None:
+    """Tries other capitals: only the capital in the plan is another one, and what is compared with it."""
+    text = (TOP / "examples/9-plan/week.pb").read_bytes()
+    least, free, said = 3, 5, set()
+    for capital in range(1, 8):
+        status, told = call(["plan"], text.replace(b"tape = 4", b"tape = %d" % capital))
+        lines = told.decode().splitlines()
+        tally.expect(status == (REFUSED if capital < least else DONE), "the status with", capital, "tapes is", status)
+        wanted = {f"tape capital {capital} least {least} free {free}", "bottleneck tape" if capital < free else "no request waits"}
+        tally.expect(wanted <= set(lines), "a plan with", capital, "tapes", lines)
+        said.add(tuple(line for line in lines if line not in wanted))
+    tally.expect(len(said) == 1, "another capital changes other lines", said)
+
+
+def try_words(tally: Tally, it: Folder) -> None:
+    """Tries words that are refused."""
+    for words, part in [
+        (["plan", "--table"], "takes files"), (["plan", "--table", "--fly", "hello.pb"], "'--fly'"), (["--json", "plan", "--table", "hello.pb"], "--json"),
+        (["plan", "--table", "--table", "hello.pb"], "multiple times"), (["plan", "--table", "--jobs", "0", "hello.pb"], "'--jobs'"),
+        (["plan", "--table", "--lend", "till", "hello.pb"], "banker or cash"), (["plan", "--table=x", "hello.pb"], "unexpected argument"),
+    ]:
+        status, told, said = it.run(*words)
+        tally.expect(status == WORDS and not told and part in said, words, status, told, said)
+    tally.expect("--table" in it.run("plan", "--help")[1], "help")
+
+
+def main() -> None:
+    tally = Tally()
+    with tempfile.TemporaryDirectory(prefix="parbegin-plans-") as name:
+        it = Folder(pathlib.Path(name))
+        for attempt in (try_table, try_csv, try_numbers, try_words):
+            attempt(tally, it)
+    try_capitals(tally)
+    tally.end("plans")
+
+
+main()
