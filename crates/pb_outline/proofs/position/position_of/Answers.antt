@@ -1,0 +1,15 @@
+use Rattle.std.proofs.Common.{Bool, ap, ◌∙◌, arith}
+use Rattle.pb_outline.specs.Positions.{behind}
+use Rattle.pb_outline.proofs.Offsets.{character_more, line_more, position_more}
+use Rattle.pb_outline.proofs.position.position_of.Goals as goal
+
+pub loop-i-preserved : goal.loop-i-preserved
+loop-i-preserved c =
+    let at = c.loop-i.invariant in
+    let is = c.behind-position.ensures in
+    record {
+      value = position_more c.args.text.now c.loop-i.i c.loop-i.position c.behind-position.result (omega arith) at.value
+          (is ∙ ap (λ (b : Bool). behind c.loop-i.position b) c.ends_line.ensures);
+      line = line_more c.loop-i.position c.behind-position.result _ c.loop-i.i is at.line;
+      character = character_more c.loop-i.position c.behind-position.result _ c.loop-i.i is at.character;
+    }
