@@ -1,6 +1,6 @@
 //! Positions in a text, as editors count.
 
-ghost use Rattle.std.specs.Prelude.{◌≡◌, ◌<◌, ◌^◌, Some, cond, false, length, slice_index_or};
+ghost use Rattle.std.specs.Prelude.{◌≡◌, ◌<◌, ◌≤◌, ◌^◌, Some, cond, false, length, slice_index_or};
 ghost use Rattle.pb_outline.specs.Positions as spec;
 
 /// A position in a text: a line, and a byte in it, both from 0.
@@ -58,7 +58,9 @@ fn behind(position: Position, ends: bool) -> Position
 /// Returns the position of an offset, or of the end of the text if it is past that.
 #[tactic(auto, using(crate::proofs::Offsets::position_min))]
 pub fn position_of(text: &[u8], offset: usize) -> Position
-    ensures { result ≡ spec.position_of text.now offset }
+    ensures value { result ≡ spec.position_of text.now offset }
+    ensures few_lines { result.line ≤ length text.now }
+    ensures few_characters { result.character ≤ length text.now }
 {
     let mut position = BEGINNING;
     for i in 0..offset.min(text.len()) {
