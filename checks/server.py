@@ -95,6 +95,14 @@ def check_positions(editor: Editor) -> None:
     editor.check("a range that is null", editor.published(uri, 2), [])
     found = editor.ask("textDocument/definition", {"textDocument": {"uri": uri}, "position": at(2, 99)})["result"]
     editor.check("past the end of a line", found and found["range"]["start"], at(2, 24))
+    changes = {"textDocument": {"uri": uri, "version": 3}, "contentChanges": [{"text": "process a begin\r\n\r x := 1 end"}]}
+    editor.tell("textDocument/didChange", changes)
+    found = editor.published(uri, 3)
+    editor.check("a fault behind carriage returns", [one["range"] for one in found], [{"start": at(2, 1), "end": at(2, 2)}])
+    asked = {"textDocument": {"uri": uri}, "range": found[0]["range"], "context": {"diagnostics": found}}
+    mends = editor.ask("textDocument/codeAction", asked)["result"]
+    edits = [edit for one in mends for edit in one["edit"]["changes"][uri]]
+    editor.check("its mend", [edit["range"]["start"] for edit in edits], [at(0, 15)])
 
 
 def check_headers(editor: Editor) -> None:

@@ -5,7 +5,7 @@ use pb_diagnostics::actions;
 use std::alloc::Global;
 
 /// Texts, and the actions that mend them.
-const CASES: [(&str, &str); 10] = [
+const CASES: [(&str, &str); 11] = [
     (
         "process a begin prnt 1 end\n",
         "[{\"edit\":{\"changes\":{\"file:///a.pb\":[{\"newText\":\"print\",\"range\":{\"end\":{\"character\":20,\"line\":0},\"start\":{\"character\":16,\"line\":0}}}]}},\"kind\":\"quickfix\",\"title\":\"write `print`\"}]",
@@ -37,6 +37,11 @@ const CASES: [(&str, &str); 10] = [
     (
         "resource tape = 1;\nprocess p\nbegin\n  hold 1 of tape do\n    hold 1 of tape do skip od\n  od\nend\n",
         "[{\"edit\":{\"changes\":{\"file:///a.pb\":[{\"newText\":\"2\",\"range\":{\"end\":{\"character\":17,\"line\":0},\"start\":{\"character\":16,\"line\":0}}}]}},\"kind\":\"quickfix\",\"title\":\"make the capital of tape 2\"}]",
+    ),
+    // A carriage return alone ends a line.
+    (
+        "process a\rbegin x := 1 end\r",
+        "[{\"edit\":{\"changes\":{\"file:///a.pb\":[{\"newText\":\" integer x;\",\"range\":{\"end\":{\"character\":5,\"line\":1},\"start\":{\"character\":5,\"line\":1}}}]}},\"kind\":\"quickfix\",\"title\":\"declare integer x\"}]",
     ),
     ("process a begin skip end\n", "[]"),
     ("process a ? begin skip end\n", "[]"),
