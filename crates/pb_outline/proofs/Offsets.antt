@@ -1,10 +1,10 @@
 -- The positions of the offsets of a text, one after another.
-use Rattle.std.proofs.Common.{◌≡◌, ◌∙◌, ℕ, zero, suc, ◌+◌, ◌<◌, ◌≤◌, List, [], ◌∷◌, length, arith, ap, sym, refl, cond, get_or, min, take, subst}
-use Rattle.std.proofs.Common.{Bool, true, false, not, ◌&&◌, ◌==◌, Option, Some, None}
+use Rattle.std.proofs.Common.{◌≡◌, ◌∙◌, ℕ, zero, suc, ◌+◌, ◌<◌, ◌≤◌, List, [], ◌∷◌, length, arith, ap, sym, refl, cond, get_or, min, subst}
+use Rattle.std.proofs.Common.{Bool, true, false, Option, Some}
 use Rattle.std.specs.List.{fold}
 use Rattle.std.proofs.lemmas.List.{take_min}
 use Rattle.std.proofs.lemmas.List.Sums.{fold_more}
-use Rattle.pb_outline.specs.Positions.{beginning, behind, ends_line, is_up_to, last_below, line_ends, offset_at, position_of}
+use Rattle.pb_outline.specs.Positions.{beginning, behind, ends_line, is_up_to, last_below, line_ends, position_of}
 use Rattle.pb_outline.specs.declared.position.Position.{Position}
 
 -- ---- the ends of lines

@@ -56,7 +56,6 @@ fn behind(position: Position, ends: bool) -> Position
 }
 
 /// Returns the position of an offset, or of the end of the text if it is past that.
-#[tactic(auto, using(crate::proofs::Offsets::position_min))]
 pub fn position_of(text: &[u8], offset: usize) -> Position
     ensures value { result ≡ spec.position_of text.now offset }
     ensures few_lines { result.line ≤ length text.now }

@@ -1,6 +1,6 @@
-use Rattle.std.proofs.Common.{Bool, ap, ◌∙◌, arith}
-use Rattle.pb_outline.specs.Positions.{behind}
-use Rattle.pb_outline.proofs.Offsets.{character_more, line_more, position_more}
+use Rattle.std.proofs.Common.{◌≡◌, Bool, ap, ◌∙◌, arith}
+use Rattle.pb_outline.specs.Positions.{behind, position_of}
+use Rattle.pb_outline.proofs.Offsets.{character_more, line_more, position_min, position_more}
 use Rattle.pb_outline.proofs.position.position_of.Goals as goal
 
 pub loop-i-preserved : goal.loop-i-preserved
@@ -13,3 +13,9 @@ loop-i-preserved c =
       line = line_more c.loop-i.position c.behind-position.result _ c.loop-i.i is at.line;
       character = character_more c.loop-i.position c.behind-position.result _ c.loop-i.i is at.character;
     }
+
+pub returns-clause-value : goal.returns-clause-value
+returns-clause-value c =
+    let text = c.args.text.now in
+    let end : c.loop-i.i ≡ c.min-i-end.result = omega arith in
+    c.loop-i.invariant.value ∙ ap (position_of text) (end ∙ c.min-i-end.ensures) ∙ position_min text c.args.offset
