@@ -2,6 +2,7 @@
 use Rattle.std.proofs.Common.{◌≡◌, ◌⊎◌, ◌<◌, ℕ, ◌+◌, List, [], ◌++◌, length, Bool, Option, Some, None, IfSome, true, true≢false, refl, sym, ap, ◌∙◌, subst, inl, inr, append_assoc, append-nil}
 use Rattle.serde_json.specs.Data.{Data}
 use Rattle.pb_adapter_requests.specs.Requests.{Asked}
+use Rattle.pb_adapter_requests.specs.declared.counting.Counting.{Counting}
 use Rattle.pb_base.specs.Device.{appended}
 use Rattle.pb_base.proofs.DeviceLemmas.{appended-appended}
 use Rattle.pb_command_io.specs.Answers.{Tells}
@@ -75,10 +76,10 @@ launched_known l first bytes s old new given is placed (text, done, session, wro
 
 -- the debugger of what was launched
 pub opened_debugger : (lending : Lending) (verified v : VerifiedCode) (labels shown : List ProcessLabels) (counted cs : List CountedPick)
-    (source text path : List ℕ) (d d' : Debugging) → v ≡ verified → shown ≡ labels → cs ≡ counted → text ≡ source
+    (source text path : List ℕ) (counting : Counting) (d d' : Debugging) → v ≡ verified → shown ≡ labels → cs ≡ counted → text ≡ source
     → d ≡ at_start lending v shown (spread cs) → d' ≡ showing (Some text) d
-    → d' ≡ (says.opened (record { lending = lending; verified = verified; labels = labels; counted = counted; source = source; path = path })).debugger
-opened_debugger lending verified v labels shown counted cs source text path d d' code of picks bytes is is' =
+    → d' ≡ (says.opened (record { lending = lending; verified = verified; labels = labels; counted = counted; source = source; path = path; counting = counting })).debugger
+opened_debugger lending verified v labels shown counted cs source text path counting d d' code of picks bytes is is' =
     is'
     ∙ ap (λ (x : List ℕ). showing (Some x) d) bytes
     ∙ ap (λ (x : Debugging). showing (Some source) x) is

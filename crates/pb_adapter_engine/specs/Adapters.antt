@@ -54,7 +54,7 @@ pub data SaysOfSession (s : Debugged) (first : ℕ) (bytes : List ℕ) : List �
 abbrev pub opened : LaunchedText → Debugged
 opened l = record {
   debugger = showing (Some l.source) (at_start l.lending l.verified l.labels (spread l.counted));
-  client = record { lines = []; events = false; path = l.path };
+  client = record { lines = []; events = false; path = l.path; counting = l.counting };
   over = false;
 }
 

@@ -77,6 +77,7 @@ pub fn debug_launched<I: Input, O: Output>(
         picks,
         source,
         path,
+        counting,
         ..
     } = launched;
     let labels = compiled.labels();
@@ -87,6 +88,7 @@ pub fn debug_launched<I: Input, O: Output>(
                 lines: Vec::new(alloc),
                 events: false,
                 path,
+                counting,
             };
             let mut session = Session::new(shown, client);
             answer_session(alloc, first, &mut session, input, output)
