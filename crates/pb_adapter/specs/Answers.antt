@@ -99,10 +99,10 @@ StepsOn d c seq r told next c' =
 abbrev pub event_if_moved : (seq : ℕ) → (d next : Debugging) → List Data
 event_if_moved seq d next = cond (nat_eq d.position next.position) [] (stopped_data seq next (codes "goto") ∷ [])
 
--- whether some line of a text says that a command is refused
+-- whether some line of a text says that a command is refused; an integer `refused` has a number behind its name
 abbrev pub refuses_from : (start : Bool) → List ℕ → Bool
 refuses_from start [] = false
-refuses_from start (b ∷ bs) = (start && starts_with nat_eq (b ∷ bs) (codes "refused ")) || refuses_from (b == 10) bs
+refuses_from start (b ∷ bs) = (start && starts_with nat_eq (b ∷ bs) (codes "refused G")) || refuses_from (b == 10) bs
 
 -- the text without its last line feed
 abbrev pub without_feed : List ℕ → List ℕ

@@ -36,7 +36,7 @@ fn refuses(text: &[u8]) -> bool
 {
     let mut start = true;
     for i in 0..text.len() {
-        if start && text[i..].starts_with(b"refused ") {
+        if start && text[i..].starts_with(b"refused G") {
             return true;
         }
         start = text[i] == b'\n';

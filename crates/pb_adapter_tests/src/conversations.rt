@@ -13,7 +13,7 @@ struct Case {
     said: &'static [&'static str],
 }
 
-const CASES: [Case; 7] = [
+const CASES: [Case; 8] = [
     // Before a launch.
     Case {
         asked: &[
@@ -232,6 +232,22 @@ const CASES: [Case; 7] = [
             "{\"command\":\"evaluate\",\"message\":\"at 0\\nrefused G1\",\"request_seq\":13,\"seq\":15,\"success\":false,\"type\":\"response\"}",
             "{\"body\":{\"allThreadsStopped\":true,\"description\":\"position 0\",\"reason\":\"goto\",\"threadId\":1},\"event\":\"stopped\",\"seq\":16,\"type\":\"event\"}",
             "{\"body\":null,\"command\":\"disconnect\",\"request_seq\":14,\"seq\":17,\"success\":true,\"type\":\"response\"}",
+        ],
+    },
+    // The value of an integer whose name is `refused` is no refusal.
+    Case {
+        asked: &[
+            "{\"seq\":1,\"type\":\"request\",\"command\":\"launch\",\"arguments\":{\"program\":\"a.pb\",\"text\":\"process p begin integer refused; refused := 7 end\"}}",
+            "{\"seq\":2,\"type\":\"request\",\"command\":\"evaluate\",\"arguments\":{\"expression\":\"vars p\"}}",
+            "{\"seq\":3,\"type\":\"request\",\"command\":\"evaluate\",\"arguments\":{\"expression\":\"vars p\\nvars q\"}}",
+            "{\"seq\":4,\"type\":\"request\",\"command\":\"disconnect\",\"arguments\":{}}",
+        ],
+        said: &[
+            "{\"body\":null,\"command\":\"launch\",\"request_seq\":1,\"seq\":1,\"success\":true,\"type\":\"response\"}",
+            "{\"body\":null,\"event\":\"initialized\",\"seq\":2,\"type\":\"event\"}",
+            "{\"body\":{\"result\":\"refused 0\\n\",\"variablesReference\":0},\"command\":\"evaluate\",\"request_seq\":2,\"seq\":3,\"success\":true,\"type\":\"response\"}",
+            "{\"command\":\"evaluate\",\"message\":\"refused 0\\nrefused G2\",\"request_seq\":3,\"seq\":4,\"success\":false,\"type\":\"response\"}",
+            "{\"body\":null,\"command\":\"disconnect\",\"request_seq\":4,\"seq\":5,\"success\":true,\"type\":\"response\"}",
         ],
     },
 ];
