@@ -1,6 +1,6 @@
 //! From which numbers a client counts lines and columns.
 
-ghost use Rattle.std.specs.Prelude.{◌≡◌, option_map};
+ghost use Rattle.std.specs.Prelude.{◌≡◌, ◌<◌, option_map};
 ghost use Rattle.serde_json.specs.View.{view};
 ghost use Rattle.pb_adapter_requests.specs.Counting as spec;
 ghost use Rattle.pb_adapter_requests.specs.Requests.{request_view};
