@@ -1,7 +1,8 @@
 //! Requests of a client.
 
 use pb_adapter_requests::{
-    Counting, Kind, asked_lines, asks_events, is_given, is_of_text, kind_of, number_of, place_of, request_of, text_of,
+    Counting, Kind, asked_lines, asks_events, is_given, is_of_text, kind_of, number_of, place_of,
+    request_of, text_of,
 };
 use serde_json::Value;
 

@@ -11,4 +11,4 @@ abbrev pub invariant-loop-i : goal.invariant-loop-i
 invariant-loop-i l =
     map view l.list.items
     ≡ list_below (λ i. breakpoint_data (l.own && has_line (labels_view l.labels) (slice_index_or l.lines i 0))
-        (shown_line l.counting (slice_index_or l.lines i 0))) l.i
+    (shown_line l.counting (slice_index_or l.lines i 0))) l.i
