@@ -5,4 +5,4 @@ pub returns : goal.returns
 returns c =
     stop_told (λ told. told.items) c.args.lending c.args.verified.now.code c.args.lines.text.now c.args.picks.now c.in-NotEnabled.number
     c.in-Some.stop.line c.worded.result c.requires.spelled (rw c.in-NotEnabled.is at c.requires.stopped)
-    (c.in-Some.ensures c.args.verified.now.code c.requires.spelled) c.worded.ensures
+    (c.in-Some.ensures c.args.verified.now.code c.requires.spelled) c.worded.ensures.told

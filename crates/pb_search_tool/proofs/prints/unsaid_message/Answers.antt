@@ -4,4 +4,4 @@ use Rattle.pb_search_tool.proofs.prints.unsaid_message.Goals as goal
 pub returns : goal.returns
 returns c =
     print_told (λ told. told.items) _ c.args.lines.text.now c.in-NotPrint.at c.worded.result (rw c.in-NotPrint.is at c.requires)
-    c.worded.ensures
+    c.worded.ensures.told
