@@ -1,5 +1,5 @@
 -- What a call from C comes to.
-use Rattle.std.specs.Prelude.{◌≡◌, ◌⊎◌, ℕ, List, [], Option, Some, None, codes, ◌∷◌, take, min, length, map, Any}
+use Rattle.std.specs.Prelude.{◌≡◌, ◌≢◌, ◌⊎◌, ℕ, List, [], Option, Some, None, codes, ◌∷◌, take, min, length, map, Any}
 use Rattle.std.specs.Borrow.{Bor}
 use Rattle.std.specs.Str.{IsUtf8}
 use Rattle.clap.specs.Walk.{Text, texts}
@@ -7,7 +7,7 @@ use Rattle.pb_answer.specs.Calls.{CallWrites}
 use Rattle.pb_command_io.specs.Answers.{Tells}
 use Rattle.pb_command_io.specs.Inputs.{SaysOfInput}
 use Rattle.pb_command_io.specs.declared.status.Status.{Status}
-use Rattle.pb_command_io.specs.declared.status.Status.TheVariants.{Threads}
+use Rattle.pb_command_io.specs.declared.status.Status.TheVariants.{Device, Threads}
 use Rattle.pb_command_io.specs.Statuses.{status_number}
 use Rattle.pb_options.specs.declared.options.RecordOptions.{RecordOptions}
 use Rattle.pb_options.specs.declared.options.RunOptions.{RunOptions}
@@ -42,12 +42,16 @@ Replies words input reply status =
 abbrev pub Tellings : (List ℕ → List ℕ → Status → Type 0) → (input reply : List ℕ) (status : Status) → Type 0
 Tellings says input reply status = Tells (SaysOfInput says input) (Some []) (Some reply) status
 
+-- the number that is said of a status: that of the program; but 5 where a write failed, which it does only if out of memory
+abbrev pub IsNumberOf : Status → (said : ℕ) → Type 0
+IsNumberOf status said = (status ≢ Device → said ≡ status_number status) × (status ≡ Device → said ≡ 5)
+
 -- there is such a reply, needed bytes long, and as much of it as there is room for is at the front of the output
 pub record IsGiven (IsReply : List ℕ → Status → Type 0) (output : List ℕ) (said needed : ℕ) : Type 0 where
   pub reply : List ℕ
   pub status : Status
   pub replies : IsReply reply status
-  pub number : said ≡ status_number status
+  pub number : IsNumberOf status said
   pub whole : needed ≡ length reply
   pub front : take (min (length output) (length reply)) output ≡ take (length output) reply
 

@@ -8,7 +8,7 @@ ghost use Rattle.pb_c_call.specs.Replies.{IsGiven, IsNotRead, Replies, Tellings}
 ghost use Rattle.pb_plan_engine.specs.PlanLines.{SaysOfPlan};
 
 use crate::alone::answer_alone;
-use crate::reply::{Kept, put_front};
+use crate::reply::{Kept, number_of, put_front};
 use crate::word::{NoWords, Word, texts_of};
 use pb_accept::{check_engine, claims_engine};
 use pb_base::{Lending, MemoryInput};
@@ -18,7 +18,8 @@ use pb_plan_engine::plan_engine;
 use std::alloc::Global;
 
 /// Does what the words of a call say with the bytes of an input, and gives the reply. Its length is written to
-/// `needed`, and as much of it as there is room for to `output`. Returns the exit status that the program has.
+/// `needed`, and as much of it as there is room for to `output`. Returns the exit status that the program has; if memory does
+/// not suffice for the reply, 5 with a first part of it.
 #[unsafe(no_mangle)]
 pub extern "C" fn pb_call(
     alloc: Global,
@@ -42,7 +43,7 @@ pub extern "C" fn pb_call(
     let bytes = reply.as_slice();
     put_front(output, bytes);
     *needed = bytes.len();
-    status.number()
+    number_of(status)
 }
 
 /// Checks the texts that the input holds, which lines `%%` part, as the command `check` does, and gives the
@@ -58,7 +59,7 @@ pub extern "C" fn pb_check(alloc: Global, text: &[u8], output: &mut [u8], needed
     let bytes = reply.as_slice();
     put_front(output, bytes);
     *needed = bytes.len();
-    status.number()
+    number_of(status)
 }
 
 /// Says what each process of a text claims of each resource, as the command `claims` does, and gives the reply
@@ -73,7 +74,7 @@ pub extern "C" fn pb_claims(alloc: Global, text: &[u8], output: &mut [u8], neede
     let bytes = reply.as_slice();
     put_front(output, bytes);
     *needed = bytes.len();
-    status.number()
+    number_of(status)
 }
 
 /// Plans the texts that the input holds, which lines `%%` part, as one program, as the command `plan` does under the
@@ -88,5 +89,5 @@ pub extern "C" fn pb_plan(alloc: Global, texts: &[u8], output: &mut [u8], needed
     let bytes = reply.as_slice();
     put_front(output, bytes);
     *needed = bytes.len();
-    status.number()
+    number_of(status)
 }

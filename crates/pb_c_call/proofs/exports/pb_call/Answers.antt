@@ -10,8 +10,8 @@ returns c =
     let writes = subst (λ (read : List (Bor Text)). Writes read c.new-source.result c.new-reply.result.bytes c.answer_alone-status.new.output.bytes
     c.answer_alone-status.result) c.as_slice.ensures.value c.answer_alone-status.ensures in
     inl (given (Replies (map (λ word. word.text.now) c.args.words.now) c.args.input.now) c.put_front.new.to c.args.output.now
-    c.answer_alone-status.new.output.bytes c.as_slice-bytes.result.now c.answer_alone-status.result c.number-2.result
+    c.answer_alone-status.new.output.bytes c.as_slice-bytes.result.now c.answer_alone-status.result c.number_of.result
     (replied (map (λ word. word.text.now) c.args.words.now) c.args.input.now c.in-Ok.texts.items c.new-source.result c.new-reply.result.bytes
     c.answer_alone-status.new.output.bytes c.answer_alone-status.result c.in-Ok.ensures.read c.new-source.ensures
     (ap (λ (k : KeptBytes). k.bytes) c.new-reply.ensures) writes)
-    c.number-2.ensures c.as_slice-bytes.ensures c.put_front.ensures.length c.put_front.ensures.front)
+    c.number_of.ensures c.as_slice-bytes.ensures c.put_front.ensures.length c.put_front.ensures.front)
