@@ -73,6 +73,29 @@ class Editor:
         return diagnostics
 
 
+def check_headers(editor: Editor) -> None:
+    """Checks headers in other cases and without a blank, and that nothing is said to a response."""
+    assert editor.child.stdin
+    for head in (b"content-length: %d\r\n\r\n", b"CONTENT-LENGTH:%d\r\n\r\n", b"Content-Length:\t %d\r\nContent-Type: x\r\n\r\n"):
+        content = json.dumps({"jsonrpc": "2.0", "id": "head", "method": "textDocument/fly"}).encode()
+        editor.child.stdin.write(head % len(content) + content)
+        editor.child.stdin.flush()
+        editor.check("a header", editor.hear().get("id"), "head")
+    for answer in ({"result": None}, {"error": {"code": -32601, "message": "unknown"}}):
+        editor.child.stdin.write(framed({"jsonrpc": "2.0", "id": 7, **answer}))
+    editor.check("nothing is said to a response", editor.ask("textDocument/fly")["error"]["code"], -32601)
+
+
+def check_broken(editor: Editor, program: str) -> None:
+    """Checks what is said of bytes that are no message."""
+    for given, why in ((b"Content-Length: 123456789\r\n\r\n", "the message is too long"),
+                       (b"Content-Length: 9\r\n\r\n{}", "the input ends within a message"),
+                       (b"Content-Size: 2\r\n\r\n{}", "this is not the header of a message")):
+        ran = subprocess.run([program, "lsp"], input=given, capture_output=True, check=False)
+        said: Message = json.loads(ran.stdout.partition(b"\r\n\r\n")[2])
+        editor.check(f"{given!r}", (said["error"]["code"], said["error"]["message"], ran.returncode), (-32700, why, 1))
+
+
 def told_by_check(program: str, text: bytes) -> tuple[str, str, tuple[int, int] | None] | None:
     """Returns the code, the words and the place that `check` tells of a text, or None if it accepts it."""
     ran = subprocess.run([program, "check"], input=text, capture_output=True, check=False)
@@ -124,6 +147,7 @@ def play(program: str) -> int:
     editor.tell("initialized")
     editor.tell("$/setTrace", {"value": "off"})
     editor.check("an unknown method", editor.ask("textDocument/fly")["error"]["code"], -32601)
+    check_headers(editor)
     looked = 0
     for file in texts():
         text = file.read_bytes()
@@ -150,6 +174,7 @@ def play(program: str) -> int:
     assert editor.child.stdout
     editor.check("nothing comes behind the last message", editor.child.stdout.read(), b"")
     editor.check("the status", editor.child.wait(10), 0)
+    check_broken(editor, program)
     print(f"{looked} texts, {editor.checked} checks, {editor.wrong} wrong")
     return editor.wrong
 

@@ -1,7 +1,7 @@
 //! Conversations with the adapter, as bytes.
 
 use pb_adapter_engine::adapter_engine;
-use pb_base::{MemoryInput, NoMemory};
+use pb_base::{FaultyInput, MemoryInput, NoMemory};
 use pb_command_io::Status;
 use pb_conversations::Said;
 use pb_frames::write_frame;
@@ -223,6 +223,46 @@ fn conversations_are_answered(rt: HostRuntime) -> Result<(), NoMemory> {
     Ok(())
 }
 
+/// Two requests while nothing is launched, and what answers each.
+const FIRST: &str = "{\"seq\":1,\"type\":\"request\",\"command\":\"threads\"}";
+
+const ASKED: &[&str] = &[
+    FIRST,
+    "{\"seq\":2,\"type\":\"request\",\"command\":\"threads\"}",
+];
+
+const SAID_FIRST: &[&str] = &[
+    "{\"command\":\"threads\",\"message\":\"no text is launched\",\"request_seq\":1,\"seq\":1,\"success\":false,\"type\":\"response\"}",
+];
+
+const SAID_BOTH: &[&str] = &[
+    "{\"command\":\"threads\",\"message\":\"no text is launched\",\"request_seq\":1,\"seq\":1,\"success\":false,\"type\":\"response\"}",
+    "{\"command\":\"threads\",\"message\":\"no text is launched\",\"request_seq\":2,\"seq\":2,\"success\":false,\"type\":\"response\"}",
+];
+
+#[test]
+fn what_was_read_before_a_fault_is_answered(rt: HostRuntime) -> Result<(), NoMemory> {
+    let asked = framed(rt.alloc(), ASKED)?;
+    let first = framed(rt.alloc(), &[FIRST])?.as_slice().len() as u64;
+    let none: &[&str] = &[];
+    for (passing, answered) in [
+        (0, none),
+        (3, none),
+        (first.saturating_sub(1), none),
+        (first, SAID_FIRST),
+        (first.saturating_add(30), SAID_FIRST),
+        (first.saturating_mul(2), SAID_BOTH),
+    ] {
+        let wanted = framed(rt.alloc(), answered)?;
+        let mut said = Said::new(rt.alloc());
+        let mut input = FaultyInput::new(asked.as_slice(), passing, 1);
+        let status = adapter_engine(rt.alloc(), &mut input, &mut said);
+        assert!(rt; status == Status::Device);
+        assert!(rt; said.as_slice() == wanted.as_slice());
+    }
+    Ok(())
+}
+
 #[test]
 fn what_is_no_message_ends_the_conversation(rt: HostRuntime) -> Result<(), NoMemory> {
     for (bytes, why) in [
@@ -232,6 +272,10 @@ fn what_is_no_message_ends_the_conversation(rt: HostRuntime) -> Result<(), NoMem
         ),
         (
             "Content-Length: 99999999\r\n\r\n",
+            "the message is too long",
+        ),
+        (
+            "content-length:123456789\r\n\r\n",
             "the message is too long",
         ),
         (
