@@ -12,16 +12,10 @@ import json
 import pathlib
 import subprocess
 import tempfile
-from typing import Any
 
-from calls import DEVICE, DONE, REFUSED, TOP, WORDS, Tally, call, installed
+from calls import DEVICE, DONE, REFUSED, WORDS, Tally, call, installed
+from schemas import fits, tell_if_missing
 
-try:
-    import jsonschema
-except ImportError:
-    jsonschema = None
-
-SCHEMAS = TOP / "docs/schema"
 FINE = b"process p begin skip end\n"
 FILES = {
     "fine.pb": FINE,
@@ -58,15 +52,6 @@ class Script:
         """Calls the script, and returns its status and what it wrote on both."""
         ran = subprocess.run([self.script, *words], cwd=self.folder, input=given, capture_output=True, check=False)
         return ran.returncode, ran.stdout.decode(), ran.stderr.decode()
-
-
-def fits(tally: Tally, name: str, value: Any) -> None:
-    """Compares a value with a schema."""
-    if not jsonschema:
-        return
-    schema = json.loads((SCHEMAS / f"{name}.schema.json").read_text())
-    found = [it.message for it in jsonschema.Draft202012Validator(schema).iter_errors(value)]
-    tally.expect(not found, f"{name}.schema.json:", found)
 
 
 def own_lines(name: str) -> list[str]:
@@ -168,8 +153,7 @@ def main() -> None:
         it = Script(pathlib.Path(folder))
         for attempt in (try_text, try_gcc, try_json, try_sarif, try_many, try_words):
             attempt(tally, it)
-    if not jsonschema:
-        print("not compared with docs/schema/, since Python has no module jsonschema")
+    tell_if_missing()
     tally.end("check formats")
 
 

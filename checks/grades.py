@@ -97,6 +97,10 @@ def try_exercises(tally: Tally, it: Class) -> None:
     it.write("cash.txt", f"// --lend cash\n{WANTED}")
     tally.expect("keys.pb: not as expected" in it.run("handed_in", "cash.txt")[1], "the lender of an exercise")
     tally.expect("keys.pb: as expected" in it.run("--lend", "banker", "handed_in", "cash.txt")[1], "the lender of the call")
+    it.write("required.txt", f"// With arms.\nhas a parbegin\n{WANTED}")
+    told = it.run("--csv", "handed_in", "required.txt")[1]
+    for row in ("halves.pb,0,as expected,,", "keys.pb,10,not as expected: has a parbegin,,", "hurry.pb,10,not as expected: other prints,p.0 print 2,p.0 print 1"):
+        tally.expect(f"\n{row}\n" in told, "what is required beside the prints", row, told)
     it.write("dos.txt", WANTED.replace("\n", "\r\n"))
     status, told, said = it.run("order", "dos.txt")
     is_told = "the lines of dos.txt end with a carriage return: save it with the line ends of Unix: a line feed alone" in said
@@ -160,7 +164,7 @@ def try_report(tally: Tally, it: Class) -> None:
     for name, (_, verdict, page) in zip(it.names(), linked):
         own_status, lines = it.judged(name)
         tally.expect(verdict == lines[-1], "a verdict of a report", verdict)
-        has_run = own_status == UNEXPECTED and "reached by" in lines
+        has_run = own_status == UNEXPECTED and ("reached by" in lines or lines[-1].endswith(" does not end"))
         tally.expect(bool(page) == has_run, name, "has a page:", page)
         if page:
             try_page(tally, (it.folder / unquote(page)).read_text(), lines, name)

@@ -53,6 +53,7 @@ LINES: list[tuple[str, dict[str, Any]]] = [
     ("text <of_text> refused <code>", {"kind": "refused"}), ("text <of_text> refused <code> at <at>", {"kind": "refused"}),
     ("text <of_text> refused <code> <text>", {"kind": "refused"}),
     ("outcome <number>", {"kind": "outcome"}), ("deadlock <number>", {"kind": "deadlock"}),
+    ("endless", {"kind": "endless"}), ("round", {"kind": "round"}),
     ("<process>.<arm> <count>", {"kind": "picks"}),
     ("<outcomes> outcomes?", {"kind": "outcomes", "deadlocks": 0, "endless": False}),
     ("<outcomes> outcomes?, some runs do not end", {"kind": "outcomes", "deadlocks": 0, "endless": True}),
@@ -62,6 +63,7 @@ LINES: list[tuple[str, dict[str, Any]]] = [
     ("more than <limit> picks(?:, there may be others)?", {"kind": "others", "of": "picks"}),
     ("first deadlock, there may be others", {"kind": "others", "of": "deadlocks"}),
     ("every fair run ends", {"kind": "every fair run ends"}), ("some fair runs do not end", {"kind": "some fair runs do not end"}),
+    ("every run ends", {"kind": "every run ends"}), ("some runs do not end", {"kind": "some runs do not end"}),
     ("more than <limit> configurations for fair runs", {"kind": "others", "of": "fair runs"}),
     ("no outcome <number>", {"kind": "no outcome"}), ("no deadlock <number>", {"kind": "no deadlock"}),
     ("as expected", {"kind": "as expected"}), ("not as expected: <text>", {"kind": "not as expected"}), ("<text>", {"kind": "line"}),
@@ -149,7 +151,7 @@ def forms_of(words: list[str], status: int) -> list[tuple[re.Pattern[str], dict[
     """Returns the forms of the lines of a call."""
     record, debug, bank, explain = FORMS_OF_COMMANDS
     picks = words[0] == "record" or words[0] == "outcomes" and any(it.startswith(("--run", "--deadlock")) for it in words) \
-        and "--expect" not in words
+        and not {"--expect", "--endless"} & set(words)
     if picks:
         return record if status in (DONE, DEADLOCK) else FORMS
     return {"debug": debug, "bank": bank, "explain": explain}.get(words[0], FORMS)
@@ -167,7 +169,7 @@ def objects_of(text: str, forms: list[tuple[re.Pattern[str], dict[str, Any]]]) -
             continue
         it = object_of(line, forms)
         assert it is not None, line
-        within = forms is FORMS and it["kind"] in ("outcome", "deadlock")
+        within = forms is FORMS and it["kind"] in ("outcome", "deadlock", "endless", "round")
         made.append(it | {key: [] for key in LISTS} if within else it)
     return made
 
@@ -182,6 +184,8 @@ def fault_of(value: Any, schema: dict[str, Any]) -> str | None:
     if "oneOf" in schema:
         fitting = sum(fault_of(value, one) is None for one in schema["oneOf"])
         return None if fitting == 1 else f"{fitting} forms fit {value}"
+    if "anyOf" in schema and all(fault_of(value, one) for one in schema["anyOf"]):
+        return f"{value} fits no form"
     if "const" in schema and value != schema["const"] or "enum" in schema and value not in schema["enum"]:
         return f"{value} is another value"
     kind = schema.get("type")
@@ -253,6 +257,9 @@ def calls() -> list[tuple[list[str], bytes]]:
     made.append((["debug"], (TOP / "examples/devices.pb").read_bytes() + b"%%\na.0 1\n%%\nto 1\nwhy a.0\nwhy b.0\nprev\npick b.0\n"))
     for words in (["explain"], ["explain", "N3"], ["explain", "O1"], ["explain", "V9"]):
         made.append((words, b""))
+    required = b"resource tape = 2; process p begin hold 1 of tape do skip od end\n%%\nclaims at least "
+    for given in (b"2 tape\n", b"1 tape\nhas a parbegin\n", b"1 tape\nhas a hold\np.0 print 1\n", b"1 tape\nhas a hold\n", b"1 disk\n"):
+        made.append((["outcomes", "--expect"], required + given))
     for given in (names, nothing):
         for words in (["run"], ["claims"], ["plan"], ["outcomes"], ["outcomes", "--prints"], ["outcomes", "--lend", "cash"]):
             made.append((words, given))

@@ -55,7 +55,7 @@ def wanted(name):
     if re.fullmatch(r"B\d+", name):
         return ""
     file = FOLDER / f"{name}.txt"
-    return file.read_text() if file.is_file() else None
+    return file.read_text(encoding="utf-8") if file.is_file() else None
 
 
 def compare(tally, name, line, folder, full):
@@ -78,7 +78,7 @@ def main():
         (pathlib.Path(folder) / "parbegin").symlink_to(program())
         for code, line in examples():
             if writes and wanted(code) != "":
-                (FOLDER / f"{code}.txt").write_text(shell(line, folder)[2])
+                (FOLDER / f"{code}.txt").write_text(shell(line, folder)[2], encoding="utf-8")
             compare(tally, code, line, folder, full)
         for name, line in inputs():
             compare(tally, name, line, folder, full)

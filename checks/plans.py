@@ -3,21 +3,28 @@
 
     checks/plans.py [PROGRAM]     PROGRAM is the one that ./parbegin has built if none is given
 
-The table of plans, its CSV, which text of which file a number is when files are planned together, and that another capital
-changes nothing but what docs/FORMATS.md, "Plans", says. Its status is 0 if
-all is as wanted, and 1 if not.
+The table of plans, its CSV, which text of which file a number is when files are planned together, the places of a circle and
+of a refusal in each format, and that another capital changes nothing but what docs/FORMATS.md, "Plans", says. What is written
+as JSON and as SARIF must fit docs/schema/, if Python has the module jsonschema. Its status is 0 if all is as wanted, and 1 if
+not.
 """
 from __future__ import annotations
 
 import csv
+import json
 import pathlib
+import re
 import subprocess
 import tempfile
 
 from calls import DEADLOCK, DEVICE, DONE, REFUSED, TOP, WORDS, Tally, call, installed
+from schemas import fits, tell_if_missing
 
 NAMES = ("9-plan/week.pb", "9-plan/roomy.pb", "9-plan/copies.pb", "devices.pb", "4-claims/too_much.pb", "hello.pb")
 ODD = "=odd\nname.pb"
+NEST = re.compile(r"(\w+) of text (\d+) holds (\w+) line (\d+) around (\w+) line (\d+)")
+# A circle goes through these, of which the first has the texts 1 and 2, and the other one the text 3.
+TOGETHER = ("two.pb", "hello.pb")
 
 
 class Folder:
@@ -119,12 +126,73 @@ def try_capitals(tally: Tally) -> None:
     tally.expect(len(said) == 1, "another capital changes other lines", said)
 
 
+def nests(it: Folder) -> list[tuple[str, str, str, int, str, int]]:
+    """Returns the holds of the circle of two.pb, as the program tells them, by lines of the file: the process, its text, and each
+    resource with its line."""
+    first = it.own("two.pb", "--lend", "cash")[1]
+    before = [0, (it.folder / "copies.pb").read_bytes().count(b"\n") + 1]
+    found = [line.groups() for line in map(NEST.fullmatch, first) if line]
+    return [(p, n, outer, int(at) + before[int(n) - 1], inner, int(inside) + before[int(n) - 1]) for p, n, outer, at, inner, inside in found]
+
+
+def try_gcc(tally: Tally, it: Folder) -> None:
+    """Tries the places of a circle and of refusals, as compilers write them."""
+    for lend, status, kind in (("cash", DEADLOCK, "error"), ("banker", DONE, "warning")):
+        ended, told, said = it.run("plan", "--format", "gcc", f"--lend={lend}", *TOGETHER)
+        head, *notes = told.splitlines()
+        wanted = []
+        for process, _, outer, at, inner, inside in nests(it):
+            wanted += [f"two.pb:{at}:1: note: {process} holds {outer}", f"two.pb:{inside}:1: note: {process} asks for {inner}"]
+        is_told = head.startswith(wanted[0].partition(" ")[0] + f" {kind}: circle: nested holds of ")
+        tally.expect(is_told and notes == wanted and len(notes) == 4, "a circle by gcc", told, wanted)
+        tally.expect((ended, said) == (status, ""), "a circle ends with", ended, said)
+    tally.expect(it.run("plan", "--format=gcc", "week.pb") == (DONE, "", ""), "a plan with nothing to tell")
+    status, told, _ = it.run("plan", "two.pb", "wrong.pb", "--format", "gcc")
+    tally.expect(status == REFUSED and told.startswith("wrong.pb:1:17: error: N3: "), "a refused text by gcc", told)
+    status, told, _ = it.run("plan", "--format", "gcc", "hello.pb", "too_much.pb")
+    wanted = ["too_much.pb:5:20: error: C1: ", "too_much.pb:5:20: note: ", "too_much.pb:5:38: note: "]
+    tally.expect(status == REFUSED and all(line in told for line in wanted), "a claim over its capital by gcc", told)
+    status, told, said = it.run("plan", "--format", "gcc", "two.pb", "nosuch.pb")
+    tally.expect((status, told, said) == (DEVICE, "", "parbegin: no such file: nosuch.pb\n"), "a missing file by gcc", status, told, said)
+
+
+def try_json(tally: Tally, it: Folder) -> None:
+    """Tries the objects of a plan, with files."""
+    status, told, _ = it.run("plan", "--format", "json", "--lend", "cash", *TOGETHER)
+    said = [json.loads(line) for line in told.splitlines()]
+    found = [(one["process"], str(one["text"]), one["outer"], one["outer_line"], one["inner"], one["inner_line"]) for one in said if one["kind"] == "nest"]
+    tally.expect(status == DEADLOCK and found == nests(it), "a circle in JSON", found)
+    places = {(one["file"], one["text"]) for one in said if one["kind"] in ("claim", "nest")}
+    tally.expect({("two.pb", 1), ("two.pb", 2)} <= places, "the files in JSON", places)
+    for names in (["two.pb", "wrong.pb"], ["too_much.pb", ODD], ["nosuch.pb", "hello.pb"], ["."], TOGETHER):
+        status, told, _ = it.run("plan", "--format=json", *names)
+        for line in told.splitlines():
+            fits(tally, "plan", json.loads(line))
+        last = json.loads(told.splitlines()[-1])
+        kinds = {REFUSED: "refused", DEVICE: "not read", DONE: "nest"}
+        tally.expect(last["kind"] == kinds[status] and (status == DONE or last["file"] == names[names[0] == "two.pb"]), "JSON of", names, last)
+
+
+def try_sarif(tally: Tally, it: Folder) -> None:
+    """Tries a document of a plan."""
+    for names, status, codes in ((TOGETHER, DONE, ["circle"]), (("hello.pb", "wrong.pb"), REFUSED, ["N3"]), (("too_much.pb",), REFUSED, ["C1", "circle"]),
+                                 (("hello.pb",), DONE, []), (("nosuch.pb",), DEVICE, [])):
+        ended, told, _ = it.run("plan", "--format", "sarif", *names)
+        document = json.loads(told)
+        fits(tally, "sarif", document)
+        run = document["runs"][0]
+        tally.expect(ended == status and [one["ruleId"] for one in run["results"]] == codes, "SARIF of", names, run["results"])
+        tally.expect(run["invocations"][0]["executionSuccessful"] == (status != DEVICE), "the invocation of", names)
+
+
 def try_words(tally: Tally, it: Folder) -> None:
     """Tries words that are refused."""
     for words, part in [
         (["plan", "--table"], "takes files"), (["plan", "--table", "--fly", "hello.pb"], "'--fly'"), (["--json", "plan", "--table", "hello.pb"], "--json"),
         (["plan", "--table", "--table", "hello.pb"], "multiple times"), (["plan", "--table", "--jobs", "0", "hello.pb"], "'--jobs'"),
-        (["plan", "--table", "--lend", "till", "hello.pb"], "banker or cash"), (["plan", "--table=x", "hello.pb"], "unexpected argument"),
+        (["plan", "--table", "--lend", "till", "hello.pb"], "banker or cash"), (["plan", "--format", "xml", "hello.pb"], "--format wants"),
+        (["plan", "--format", "gcc", "--lend", "till", "hello.pb"], "banker or cash"), (["plan", "--table", "--format", "gcc", "hello.pb"], "'--format'"),
+        (["--json", "plan", "--format", "json", "hello.pb"], "--json"), (["plan", "--table=x", "hello.pb"], "unexpected argument"),
     ]:
         status, told, said = it.run(*words)
         tally.expect(status == WORDS and not told and part in said, words, status, told, said)
@@ -135,9 +203,10 @@ def main() -> None:
     tally = Tally()
     with tempfile.TemporaryDirectory(prefix="parbegin-plans-") as name:
         it = Folder(pathlib.Path(name))
-        for attempt in (try_table, try_csv, try_numbers, try_words):
+        for attempt in (try_table, try_csv, try_numbers, try_gcc, try_json, try_sarif, try_words):
             attempt(tally, it)
     try_capitals(tally)
+    tell_if_missing()
     tally.end("plans")
 
 

@@ -73,6 +73,61 @@ class Editor:
         return diagnostics
 
 
+# Two lines that end in a carriage return alone, and one that ends in both; the resource stands in the last one.
+RETURNS = "resource r = 1;\rprocess a begin\r\nhold 1 of r do skip od end"
+
+
+def at(line: int, character: int) -> Message:
+    return {"line": line, "character": character}
+
+
+def check_positions(editor: Editor) -> None:
+    """Checks where names are found in a text with carriage returns, and past the end of a line."""
+    uri = "file:///returns.pb"
+    editor.tell("textDocument/didOpen", {"textDocument": {"uri": uri, "languageId": "parbegin", "version": 1, "text": RETURNS}})
+    editor.check("a text with carriage returns", editor.published(uri, 1), [])
+    for place, wanted in ((at(2, 10), at(0, 9)), (at(0, 10), at(0, 9)), (at(1, 8), at(1, 8))):
+        found = editor.ask("textDocument/definition", {"textDocument": {"uri": uri}, "position": place})["result"]
+        editor.check(f"what stands at {place}", found and found["range"]["start"], wanted)
+    text = "process a begin\nprint 1 end\nprocess b begin integer x; print x"
+    changes = {"textDocument": {"uri": uri, "version": 2}, "contentChanges": [{"range": None, "text": f"{text}\nend"}]}
+    editor.tell("textDocument/didChange", changes)
+    editor.check("a range that is null", editor.published(uri, 2), [])
+    found = editor.ask("textDocument/definition", {"textDocument": {"uri": uri}, "position": at(2, 99)})["result"]
+    editor.check("past the end of a line", found and found["range"]["start"], at(2, 24))
+    changes = {"textDocument": {"uri": uri, "version": 3}, "contentChanges": [{"text": "process a begin\r\n\r x := 1 end"}]}
+    editor.tell("textDocument/didChange", changes)
+    found = editor.published(uri, 3)
+    editor.check("a fault behind carriage returns", [one["range"] for one in found], [{"start": at(2, 1), "end": at(2, 2)}])
+    asked = {"textDocument": {"uri": uri}, "range": found[0]["range"], "context": {"diagnostics": found}}
+    mends = editor.ask("textDocument/codeAction", asked)["result"]
+    edits = [edit for one in mends for edit in one["edit"]["changes"][uri]]
+    editor.check("its mend", [edit["range"]["start"] for edit in edits], [at(0, 15)])
+
+
+def check_headers(editor: Editor) -> None:
+    """Checks headers in other cases and without a blank, and that nothing is said to a response."""
+    assert editor.child.stdin
+    for head in (b"content-length: %d\r\n\r\n", b"CONTENT-LENGTH:%d\r\n\r\n", b"Content-Length:\t %d\r\nContent-Type: x\r\n\r\n"):
+        content = json.dumps({"jsonrpc": "2.0", "id": "head", "method": "textDocument/fly"}).encode()
+        editor.child.stdin.write(head % len(content) + content)
+        editor.child.stdin.flush()
+        editor.check("a header", editor.hear().get("id"), "head")
+    for answer in ({"result": None}, {"error": {"code": -32601, "message": "unknown"}}):
+        editor.child.stdin.write(framed({"jsonrpc": "2.0", "id": 7, **answer}))
+    editor.check("nothing is said to a response", editor.ask("textDocument/fly")["error"]["code"], -32601)
+
+
+def check_broken(editor: Editor, program: str) -> None:
+    """Checks what is said of bytes that are no message."""
+    for given, why in ((b"Content-Length: 123456789\r\n\r\n", "the message is too long"),
+                       (b"Content-Length: 9\r\n\r\n{}", "the input ends within a message"),
+                       (b"Content-Size: 2\r\n\r\n{}", "this is not the header of a message")):
+        ran = subprocess.run([program, "lsp"], input=given, capture_output=True, check=False)
+        said: Message = json.loads(ran.stdout.partition(b"\r\n\r\n")[2])
+        editor.check(f"{given!r}", (said["error"]["code"], said["error"]["message"], ran.returncode), (-32700, why, 1))
+
+
 def told_by_check(program: str, text: bytes) -> tuple[str, str, tuple[int, int] | None] | None:
     """Returns the code, the words and the place that `check` tells of a text, or None if it accepts it."""
     ran = subprocess.run([program, "check"], input=text, capture_output=True, check=False)
@@ -124,6 +179,8 @@ def play(program: str) -> int:
     editor.tell("initialized")
     editor.tell("$/setTrace", {"value": "off"})
     editor.check("an unknown method", editor.ask("textDocument/fly")["error"]["code"], -32601)
+    check_headers(editor)
+    check_positions(editor)
     looked = 0
     for file in texts():
         text = file.read_bytes()
@@ -150,6 +207,7 @@ def play(program: str) -> int:
     assert editor.child.stdout
     editor.check("nothing comes behind the last message", editor.child.stdout.read(), b"")
     editor.check("the status", editor.child.wait(10), 0)
+    check_broken(editor, program)
     print(f"{looked} texts, {editor.checked} checks, {editor.wrong} wrong")
     return editor.wrong
 

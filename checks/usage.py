@@ -73,10 +73,19 @@ CALLS = [
     (["outcomes", "--expect", "answer.pb"], DONE, "as expected\n", None),
     (["outcomes", "--expect", "two_prints.pb"], UNEXPECTED, "other prints\n", "parbegin: line 2 of the prints: wanted p.0 print 3, got p.0 print 2\n"),
     (["outcomes", "--expect", "too_few.pb"], UNEXPECTED, "other prints\n", "parbegin: line 2 of the prints: wanted p.0 print 3, got no more\n"),
-    (["outcomes", "--expect", "dos_prints.pb"], REFUSED, "refused K1 at 0", "parbegin: the print lines end with a carriage return: save them"),
+    (["outcomes", "--expect", "dos_prints.pb"], REFUSED, "refused K1 at 0", "error K1: this line ends with a carriage return\n  --> print line 1, "),
     (["outcomes", "--expect", "other_name.pb"], REFUSED, "refused K1 at 0", "error K1: there is no process `q`\n  --> print line 1, "),
+    (["outcomes", "--expect", "required.pb"], UNEXPECTED, "other prints\n", "parbegin: line 1 of the prints: wanted p.0 print 3, got p.0 print 1\n"),
+    (["outcomes", "--expect", "unmet.pb"], UNEXPECTED, "not as expected: has a parbegin\n", None),
+    (["outcomes", "--expect", "no_resource.pb"], REFUSED, "refused K1 at 11", "  --> print line 2, "),
     (["outcomes", "--expect", "--any-order", "two_prints.pb"], UNEXPECTED, "other prints\n", "wanted p.0 print 3, got p.0 print 2\n"),
     (["--quiet", "outcomes", "--expect", "two_prints.pb"], UNEXPECTED, "other prints\n", None),
+    (["outcomes", "--endless", "spins.pb"], DONE, "endless\nreached by\n", None),
+    (["outcomes", "--endless", "--fair", "spins.pb"], DONE, "every fair run ends\n", None),
+    (["outcomes", "--endless", "hello.pb"], DONE, "every run ends\n", None),
+    (["--json", "outcomes", "--endless", "spins.pb"], DONE, '{"kind":"round",', None),
+    (["outcomes", "--expect", "spins_wanted.pb"], UNEXPECTED, "some run does not end\n", "parbegin: a run that does not end: p.0 1, and then again and again p.1 5\n"),
+    (["outcomes", "--expect", "--fair", "spins_wanted.pb"], DONE, "as expected\n", None),
     (["outcomes", "--expect", "hello.pb"], UNEXPECTED, "not as expected: other prints\n", "parbegin: hello.pb has no line %% with the prints"),
     (["hello.pb"], WORDS, None, "hello.pb is a file, and a command comes before it: parbegin run hello.pb"),
     (["page", "--help"], DONE, "--states <N>", None),
@@ -146,7 +155,14 @@ def fill(folder: pathlib.Path) -> None:
     (folder / "dos_prints.pb").write_bytes(b"process p begin print 1 end\n%%\np.0 print 1\r\n")
     (folder / "other_name.pb").write_text("process p begin print 1 end\n%%\nq.0 print 1\n")
     (folder / "two_prints.pb").write_text("process p begin print 1; print 2 end\n%%\np.0 print 1\np.0 print 3\n")
+    spins = "process p begin integer x; parbegin while x = 0 do skip od; x := 1 parend; print x end\n"
+    (folder / "spins.pb").write_text(spins)
+    (folder / "spins_wanted.pb").write_text(f"{spins}%%\np.0 print 1\n")
     (folder / "too_few.pb").write_text("process p begin print 1 end\n%%\np.0 print 1\np.0 print 3\n")
+    held = "resource tape = 2; process p begin hold 2 of tape do print 1 od end\n%%\nhas a hold\n"
+    (folder / "required.pb").write_text(f"{held}claims at least 2 tape\np.0 print 3\n")
+    (folder / "unmet.pb").write_text(f"{held}has a parbegin\nclaims at least 3 tape\np.0 print 3\n")
+    (folder / "no_resource.pb").write_text(f"{held}claims at least 1 disk\np.0 print 1\n")
     (folder / "wanted.txt").write_text("p.0 print 1\n")
     (folder / "wrong.pb").write_text("process p begin x := 1 end\n")
     (folder / "folder").mkdir()

@@ -1,4 +1,4 @@
-"""`outcomes --expect`: the verdict, the run that is not as expected, and where its prints differ from those wanted."""
+"""`outcomes --expect`: the verdict, the run that is not as expected, and where its prints differ from those wanted, or how it goes round."""
 from __future__ import annotations
 
 import re
@@ -8,14 +8,20 @@ from dataclasses import dataclass, field
 from typing import NamedTuple
 
 from script.files import parts_of, read_input
-from script.places import REFUSED, UNEXPECTED, say
+from script.places import UNEXPECTED, say
 from script.standard import write
 
 PRINT = re.compile(r"\w+\.\d+ print -?\d+")
 PICK = re.compile(r"\w+\.\d+ \d+")
 OVER = re.compile(r"(\w+) (faulted|waits)")
+# A line before the print lines, which requires something of the text.
+REQUIRES = re.compile(r"(claims|has) ")
 # The line by which the program says what it found.
 VERDICT = re.compile(r"as expected|not as expected: .*|refused \w+.*|more than \d+ .*|memory")
+# The verdicts of a text of which each run that ends is as expected.
+ENDLESS = ("not as expected: some run does not end", "not as expected: some fair run does not end")
+# The most pick lines of each part of a run that never ends that are said.
+MOST_SAID = 8
 # What is said of prints that end before those that are wanted do, and of wanted ones that end before.
 NO_MORE = "no more"
 
@@ -29,6 +35,23 @@ class Difference(NamedTuple):
 
     def __str__(self) -> str:
         return f"line {self.number} of the prints: wanted {self.wanted}, got {self.came}"
+
+
+class Circle(NamedTuple):
+    """A run that never ends, by pick lines: those that lead into a circle, and those that go round it."""
+
+    lead: list[str]
+    around: list[str]
+
+    def __str__(self) -> str:
+        before = f"{some_of(self.lead)}, and then " if self.lead else ""
+        return f"a run that does not end: {before}again and again {some_of(self.around)}"
+
+
+def some_of(picks: list[str]) -> str:
+    """Returns the first pick lines as a list in a sentence, and how many there are more."""
+    more = f" and {len(picks) - MOST_SAID} lines more" if len(picks) > MOST_SAID else ""
+    return ", ".join(picks[:MOST_SAID]) + more
 
 
 @dataclass
@@ -54,6 +77,23 @@ def read_told(lines: list[str]) -> Told:
         elif over:
             told.ends[over[1]] = over[2]
     return told
+
+
+def circle_of(start: list[str], words: list[str], text: bytes) -> Circle | None:
+    """Returns a run of a text that never ends, as `outcomes --endless` tells it, with the other words of a call of
+    `outcomes --expect`."""
+    others = [word for word in words if word not in ("--expect", "--any-order", "--endless")]
+    call = [*start, "outcomes", "--endless", *others]
+    lines = subprocess.run(call, input=text, capture_output=True, check=False).stdout.decode(errors="replace").splitlines()
+    if "round" not in lines:
+        return None
+    at = lines.index("round")
+    return Circle(lines[lines.index("reached by") + 1 : at], lines[at + 1 : -1])
+
+
+def prints_of(lines: list[str]) -> list[str]:
+    """Returns the lines behind a line `%%` that are to be printed."""
+    return [line for line in lines if not REQUIRES.match(line)]
 
 
 def difference(wanted: list[str], printed: list[str], in_any_order: bool) -> Difference | None:
@@ -97,11 +137,13 @@ def run_expected(start: list[str], words: list[str]) -> int:
     if failed:
         return failed
     told, parts = read_told(ran.stdout.decode(errors="replace").splitlines()), parts_of(given)
-    if ran.returncode == REFUSED and any(b"\r\n" in part for part in parts[1:2]):
-        say("the print lines end with a carriage return: save them with the line ends of Unix: a line feed alone")
     if ran.returncode == UNEXPECTED and told.picks and len(parts) < 3:
-        wanted = b"".join(parts[1:]).decode(errors="replace").splitlines()
+        wanted = prints_of(b"".join(parts[1:]).decode(errors="replace").splitlines())
         differs = difference(wanted, told.printed, "--any-order" in words)
         if differs:
             say(differs)
+    if told.verdict in ENDLESS:
+        circle = circle_of(start, words, parts[0])
+        if circle is not None:
+            say(circle)
     return ran.returncode if ran.returncode >= 0 else 128 - ran.returncode

@@ -18,7 +18,7 @@ OF_TEXTS = ("run", "claims", "plan", "emit", "record", "outcomes")
 OF_OBJECTS = ("exec", "migrate")
 OF_PICKS = ("replay", "draw")
 # Options of the program that have no value.
-WITHOUT_VALUE = ("--quiet", "--json", "--help", "--live", "--first-deadlock", "--prints", "--fair", "--expect", "--any-order", "--graph")
+WITHOUT_VALUE = ("--quiet", "--json", "--help", "--live", "--first-deadlock", "--prints", "--fair", "--expect", "--any-order", "--endless", "--graph")
 # Commands that an editor starts, and what its messages begin with.
 OF_MESSAGES = ("dap", "lsp")
 MESSAGE = b"Content-Length:"
@@ -125,24 +125,27 @@ def read_input() -> bytes:
         sys.exit(DEVICE)
 
 
+def joined(inputs: list[bytes]) -> bytes:
+    """Returns inputs with lines `%%` between them."""
+    *others, last = inputs
+    return b"".join(it + (b"%%\n" if not it or it.endswith(b"\n") else b"\n%%\n") for it in others) + last
+
+
 def give_together(names: list[str]) -> list[int]:
     """Makes several files, with lines `%%` between them, the standard input, or ends the script. Returns how many texts each
     has."""
-    counts = []
+    inputs = []
+    for name in names:
+        file = opened(name)
+        if file is None:
+            sys.exit(DEVICE)
+        with file:
+            inputs.append(file.read(MOST_READ + 1))
     with tempfile.TemporaryFile() as whole:
-        for number, name in enumerate(names):
-            file = opened(name)
-            if file is None:
-                sys.exit(DEVICE)
-            with file:
-                given = file.read(MOST_READ + 1)
-            counts.append(len(parts_of(given)))
-            if number + 1 < len(names):
-                given += b"%%\n" if not given or given.endswith(b"\n") else b"\n%%\n"
-            whole.write(given)
+        whole.write(joined(inputs))
         whole.seek(0)
         os.dup2(whole.fileno(), 0)
-    return counts
+    return [len(parts_of(given)) for given in inputs]
 
 
 def tell_numbers(names: list[str], counts: list[int]) -> None:

@@ -1,22 +1,26 @@
-"""What `check` says of a text, taken from the program's line and from its message."""
+"""What `check` or `plan` says of a text, taken from the program's line and from its message."""
 from __future__ import annotations
 
 import re
 from dataclasses import dataclass, field
 
 HEAD = re.compile(r"error (\w+): (.*)")
-PLACE = re.compile(r" *--> (?:(?P<what>.*): )?(?:text \d+, )?line (?P<line>\d+), column (?P<column>\d+)")
+PLACE = re.compile(r" *--> (?:(?P<what>.*): )?(?:text (?P<text>\d+), )?line (?P<line>\d+), column (?P<column>\d+)")
 NOTE = re.compile(r" *= (?:(expected|hint): )?(.*)")
 LINE = re.compile(r"refused (\w+)(?: at (\d+))?")
 
 
 @dataclass(frozen=True)
 class Place:
-    """A place of a file, in lines and bytes from 1, and what is there, if more is to be said than the message."""
+    """A place of a file, in lines and bytes from 1, and what is there, if more is to be said than the message.
+
+    The file is that of the text of the finding if none is named.
+    """
 
     line: int
     column: int
     what: str
+    file: str = ""
 
 
 @dataclass(frozen=True)
@@ -32,7 +36,7 @@ class Text:
 
 @dataclass(frozen=True)
 class Finding:
-    """What is said of a text: the line of the answer, and of a refusal its code, words and places."""
+    """What is said of a text: the line of the answer, and of a refusal or a warning its code, words and places."""
 
     text: Text
     line: str
@@ -43,6 +47,7 @@ class Finding:
     expected: list[str] = field(default_factory=list)
     hints: list[str] = field(default_factory=list)
     notes: list[str] = field(default_factory=list)
+    level: str = "error"
 
     @property
     def is_accepted(self) -> bool:

@@ -8,7 +8,7 @@ from collections.abc import Iterator
 from concurrent.futures import Executor
 from dataclasses import dataclass
 
-from script.expected import Difference, Told, difference, ends_in_words, read_told
+from script.expected import ENDLESS, Difference, Told, circle_of, difference, ends_in_words, prints_of, read_told
 from script.files import MOST_READ, opened
 from script.gradebook import lines_of, sums, write_report
 from script.helping import are_refused
@@ -23,8 +23,9 @@ HELP = """Judge the texts of a folder, each against one exercise
 Usage: parbegin grade [OPTIONS] FOLDER EXERCISE
 
 FOLDER has the submissions: all files below it whose names end in .pb. EXERCISE is a file with the lines that each run
-has to print, as `outcomes --expect` reads them behind a line %%. Lines before them that begin with // are comments, and
-one that begins so and goes on with an option has options of the exercise, as in `// --any-order`.
+has to print, as `outcomes --expect` reads them behind a line %%, and before these any that require something of the text, as
+`has a parbegin`. Lines before them that begin with // are comments, and one that begins so and goes on with an option has
+options of the exercise, as in `// --any-order`.
 
 Options:
       --any-order    As for `outcomes --expect`
@@ -162,7 +163,10 @@ class Grader:
         ran = subprocess.run(words, input=given + b"%%\n" + self.exercise.given, capture_output=True, check=False)
         told, differs = read_told(ran.stdout.decode(errors="replace").splitlines()), None
         if ran.returncode == UNEXPECTED and told.picks:
-            differs = difference(self.exercise.lines, told.printed, "--any-order" in self.exercise.options)
+            differs = difference(prints_of(self.exercise.lines), told.printed, "--any-order" in self.exercise.options)
+        if told.verdict in ENDLESS:
+            circle = circle_of(self.start, list(self.exercise.words), given)
+            told.picks = [*circle.lead, *circle.around] if circle is not None else []
         # (a program that a signal ended has a status below 0)
         status = ran.returncode if ran.returncode >= 0 else 128 - ran.returncode
         message = ran.stderr.decode(errors="replace")

@@ -31,6 +31,10 @@ Of files:
       --jobs <COUNT>     The most calls of the program side by side [default: one for each processor]
 """
 PLAN = """
+With places, for editors and code hosts:
+      --format <FORMAT>  How a refusal, a claim over its capital and a circle are told: text, gcc (FILE:LINE:COLUMN: ..), json
+                         (the objects of --json, with files) or sarif [default: text]
+
 Of several plans, each by itself:
       --table         A row for each FILE: the bottleneck, an order, and each resource with its capital, the least with which
                       the text is accepted, and that with which no request for it waits

@@ -63,7 +63,16 @@ def run_command(start: list[str], command: str, words: list[str]) -> int:
         from script.plans import plan_table
 
         return plan_table(start, words)
+    if command == "plan" and is_in_format(words):
+        from script.plan_formats import plan_in_format
+
+        return plan_in_format(start, words)
     return run_on_file(start, command, files.sort_words(start, command, words))
+
+
+def is_in_format(words: list[str]) -> bool:
+    """Returns whether words ask for a format that the script makes."""
+    return any(word.partition("=")[0] == "--format" for word in words)
 
 
 def run_on_file(start: list[str], command: str, words: files.Words) -> int:

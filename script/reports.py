@@ -1,4 +1,4 @@
-"""The formats in which `check` tells its findings: as lines of a compiler, as JSON Lines, and as SARIF 2.1.0."""
+"""The formats in which `check` and `plan` tell their findings: as lines of a compiler, as JSON Lines, and as SARIF 2.1.0."""
 from __future__ import annotations
 
 import json
@@ -13,6 +13,8 @@ from script.helping import ran_on
 from script.places import shown
 
 SARIF = "https://json.schemastore.org/sarif-2.1.0.json"
+# What `explain` says nothing of.
+RULES = {"circle": "nested holds of scarce resources make a circle"}
 # A refusal that is of the whole text is told at its start, so that an editor goes to the file.
 START = Place(1, 1, "")
 
@@ -25,9 +27,9 @@ def gcc_lines(finding: Finding | Unread) -> Iterator[str]:
     first, *others = finding.places or [Place(finding.text.lines_before + 1, 1, "")]
 
     def line(place: Place, kind: str, text: str) -> str:
-        return f"{shown(finding.text.file)}:{place.line}:{place.column}: {kind}: {text}\n"
+        return f"{shown(place.file or finding.text.file)}:{place.line}:{place.column}: {kind}: {text}\n"
 
-    yield line(first, "error", f"{finding.code}: {finding.message}")
+    yield line(first, finding.level, f"{finding.code}: {finding.message}")
     for place in ([first] if first.what else []) + others:
         yield line(place, "note", place.what or "here too")
     for note in finding.notes:
@@ -43,18 +45,23 @@ def place_object(place: Place) -> dict[str, Any]:
     return {"line": place.line, "column": place.column, **({"what": place.what} if place.what else {})}
 
 
-def json_object(finding: Finding) -> dict[str, Any]:
-    """Returns a finding for JSON, as docs/schema/check.json describes it."""
-    given: dict[str, Any] = {"file": finding.text.file, "text": finding.text.number, "accepted": finding.is_accepted}
-    if finding.is_accepted:
-        return given
-    given |= {"code": finding.code, "refusal": finding.line, "message": finding.message}
+def message_object(finding: Finding) -> dict[str, Any]:
+    """Returns for JSON the words of a finding, its places, and what else it says."""
+    given: dict[str, Any] = {"message": finding.message}
     if finding.offset is not None:
         given["offset"] = finding.offset
     if finding.places:
         given |= {"line": finding.places[0].line, "column": finding.places[0].column}
     lists = {"expected": finding.expected, "hints": finding.hints, "notes": finding.notes}
     return {**given, "places": [place_object(it) for it in finding.places], **lists}
+
+
+def json_object(finding: Finding) -> dict[str, Any]:
+    """Returns a finding for JSON, as docs/schema/check.json describes it."""
+    given: dict[str, Any] = {"file": finding.text.file, "text": finding.text.number, "accepted": finding.is_accepted}
+    if finding.is_accepted:
+        return given
+    return {**given, "code": finding.code, "refusal": finding.line, **message_object(finding)}
 
 
 def json_unread(unread: Unread) -> dict[str, Any]:
@@ -74,7 +81,8 @@ def json_lines(said: Finding | Unread) -> Iterator[str]:
 
 def location(file: str, place: Place | None) -> dict[str, Any]:
     """Returns a place of a file for SARIF."""
-    physical: dict[str, Any] = {"artifactLocation": {"uri": quote(os.fsencode(file), safe="/")}}
+    named = place.file if place and place.file else file
+    physical: dict[str, Any] = {"artifactLocation": {"uri": quote(os.fsencode(named), safe="/")}}
     if place:
         physical["region"] = {"startLine": place.line, "startColumn": place.column}
     told: dict[str, Any] = {"physicalLocation": physical}
@@ -86,7 +94,7 @@ def sarif_result(finding: Finding) -> dict[str, Any]:
     notes = [*finding.notes, *(f"expected: {it}" for it in finding.expected), *(f"hint: {it}" for it in finding.hints)]
     first, *others = finding.places or [None]
     result: dict[str, Any] = {
-        "ruleId": finding.code, "level": "error", "message": {"text": "\n".join([finding.message, *notes])},
+        "ruleId": finding.code, "level": finding.level, "message": {"text": "\n".join([finding.message, *notes])},
         "locations": [location(finding.text.file, first)],
     }
     if others:
@@ -103,7 +111,7 @@ def sarif_invocation(unread: list[Unread]) -> dict[str, Any]:
 def rules(start: list[str], codes: Iterable[str]) -> list[dict[str, Any]]:
     """Returns what SARIF says of these codes: the words of `explain`."""
     _, told, _ = ran_on([*start[:1]], ["explain"])
-    words = dict(re.findall(r"^(\w+): (.*)$", told.decode(errors="replace"), re.M))
+    words = {**RULES, **dict(re.findall(r"^(\w+): (.*)$", told.decode(errors="replace"), re.M))}
     return [{"id": code, "shortDescription": {"text": words.get(code, code)}} for code in sorted(set(codes))]
 
 

@@ -59,9 +59,9 @@ _parbegin() {
         ;;
     grade) options="--any-order --fair --lend --states --jobs --csv --html" ;;
     migrate) options="" ;;
-    outcomes) options="--states --lend --first-deadlock --prints --fair --expect --any-order --graph --run --deadlock" ;;
+    outcomes) options="--states --lend --first-deadlock --prints --fair --expect --any-order --endless --graph --run --deadlock" ;;
     page) options="--seed --lend --from --rows --states" ;;
-    plan) options="--lend --table --csv --jobs" ;;
+    plan) options="--lend --format --table --csv --jobs" ;;
     record) options="--workers --quantum --steps --seed --lend" ;;
     replay) options="--lend" ;;
     run) options="--workers --quantum --steps --seed --lend" ;;

@@ -116,8 +116,9 @@ typedef struct pb_word {
 
 /* Does what `parbegin` does with these words and this input, but for `run`, `exec`, and `record` without a seed, which
  * start threads: these get the status 7 and an empty reply. (`record --seed N`, and `replay` of what it writes, is a
- * run without threads.) Returns the exit status. `needed` is the length of the reply, of which as much is written as
- * there is room for: if needed > room, call again with more. */
+ * run without threads.) Returns the exit status; it is 5, and never 6, if memory does not suffice, and then the reply may be a
+ * first part. `needed` is the length of the reply, of which as much is written as there is room for: if needed > room, call
+ * again with more. */
 PB_NONNULL uint8_t pb_call(const pb_word *words, size_t count, const uint8_t *input, size_t length, uint8_t *output,
                            size_t room, size_t *needed);
 

@@ -7,8 +7,7 @@ use Rattle.pb_answer.specs.Calls.{CallWrites}
 use Rattle.pb_command_io.specs.Answers.{Tells}
 use Rattle.pb_command_io.specs.Inputs.{SaysOfInput}
 use Rattle.pb_command_io.specs.declared.status.Status.{Status}
-use Rattle.pb_command_io.specs.Statuses.{status_number}
-use Rattle.pb_c_call.specs.Replies.{IsGiven, KeptBytes, RefusesThreads, Replies, Tellings}
+use Rattle.pb_c_call.specs.Replies.{IsGiven, KeptBytes, number_said, RefusesThreads, Replies, Tellings}
 
 -- what a command writes of some words, for these bytes, behind those that were written before
 abbrev pub Writes : List (Bor Text) → (input old new : List ℕ) → Status → Type 0
@@ -32,7 +31,7 @@ told says input source old new status from nothing tells =
     (subst (λ (i : List ℕ). Tells (SaysOfInput says i) (Some old) (Some new) status) from tells)
 
 pub given : (IsReply : List ℕ → Status → Type 0) (output room new bytes : List ℕ) (status : Status) (said : ℕ) → IsReply new status
-    → said ≡ status_number status → bytes ≡ new → length output ≡ length room
+    → said ≡ number_said status → bytes ≡ new → length output ≡ length room
     → take (min (length room) (length bytes)) output ≡ take (length room) bytes
     → IsGiven IsReply output said (length bytes)
 given IsReply output room new bytes status said replies number all long front =

@@ -7,7 +7,7 @@ use Rattle.pb_answer.specs.Calls.{CallWrites}
 use Rattle.pb_command_io.specs.Answers.{Tells}
 use Rattle.pb_command_io.specs.Inputs.{SaysOfInput}
 use Rattle.pb_command_io.specs.declared.status.Status.{Status}
-use Rattle.pb_command_io.specs.declared.status.Status.TheVariants.{Threads}
+use Rattle.pb_command_io.specs.declared.status.Status.TheVariants.{Device, Memory, Threads}
 use Rattle.pb_command_io.specs.Statuses.{status_number}
 use Rattle.pb_options.specs.declared.options.RecordOptions.{RecordOptions}
 use Rattle.pb_options.specs.declared.options.RunOptions.{RunOptions}
@@ -15,9 +15,10 @@ use Rattle.pb_words.specs.declared.words.Options.TheVariants.{Exec, Record, Run}
 use Rattle.pb_words.specs.Read.{WordsSay}
 use Rattle.pb_c_call.specs.declared.word.Word.{Word}
 
--- the bytes that an output in memory was given, and how many writes of it have failed
+-- the bytes that an output in memory was given, for how many it has memory, and how many writes of it have failed
 pub record KeptBytes : Type 0 where
   pub bytes : List ℕ
+  pub room : ℕ
   pub failures : ℕ
 
 -- the words say a command that starts threads: `run`, `exec`, or `record` without a seed
@@ -42,12 +43,18 @@ Replies words input reply status =
 abbrev pub Tellings : (List ℕ → List ℕ → Status → Type 0) → (input reply : List ℕ) (status : Status) → Type 0
 Tellings says input reply status = Tells (SaysOfInput says input) (Some []) (Some reply) status
 
+-- the number that a call returns for a status: that of the program, but that of out of memory if a write failed, since the
+-- output is in memory and there is no device
+abbrev pub number_said : Status → ℕ
+number_said Device = status_number Memory
+number_said status = status_number status
+
 -- there is such a reply, needed bytes long, and as much of it as there is room for is at the front of the output
 pub record IsGiven (IsReply : List ℕ → Status → Type 0) (output : List ℕ) (said needed : ℕ) : Type 0 where
   pub reply : List ℕ
   pub status : Status
   pub replies : IsReply reply status
-  pub number : said ≡ status_number status
+  pub number : said ≡ number_said status
   pub whole : needed ≡ length reply
   pub front : take (min (length output) (length reply)) output ≡ take (length output) reply
 

@@ -1,14 +1,14 @@
 //! The C functions. What C owes for each of them: pointers to memory of the types that are named, which nothing
 //! else uses during the call.
 
-ghost use Rattle.std.specs.Prelude.{◌⊎◌, map};
+ghost use Rattle.std.specs.Prelude.{◌≢◌, ◌⊎◌, map};
 ghost use Rattle.pb_accept.specs.Checks.{SaysOfChecks};
 ghost use Rattle.pb_accept.specs.ClaimLines.{SaysOfClaims};
 ghost use Rattle.pb_c_call.specs.Replies.{IsGiven, IsNotRead, Replies, Tellings};
 ghost use Rattle.pb_plan_engine.specs.PlanLines.{SaysOfPlan};
 
 use crate::alone::answer_alone;
-use crate::reply::{Kept, put_front};
+use crate::reply::{Kept, number_of, put_front};
 use crate::word::{NoWords, Word, texts_of};
 use pb_accept::{check_engine, claims_engine};
 use pb_base::{Lending, MemoryInput};
@@ -18,7 +18,8 @@ use pb_plan_engine::plan_engine;
 use std::alloc::Global;
 
 /// Does what the words of a call say with the bytes of an input, and gives the reply. Its length is written to
-/// `needed`, and as much of it as there is room for to `output`. Returns the exit status that the program has.
+/// `needed`, and as much of it as there is room for to `output`. Returns the exit status of the program; if out of
+/// memory for the reply, it returns 5 and gives a first part of it.
 #[unsafe(no_mangle)]
 pub extern "C" fn pb_call(
     alloc: Global,
@@ -27,8 +28,9 @@ pub extern "C" fn pb_call(
     output: &mut [u8],
     needed: &mut usize,
 ) -> u8
-    ensures { IsGiven (Replies (map (λ word. word.text.now) words.now) input.now) output.new result needed.new
+    ensures given { IsGiven (Replies (map (λ word. word.text.now) words.now) input.now) output.new result needed.new
         ⊎ IsNotRead words.now result needed.new }
+    ensures no_device { result ≢ 6 }
 {
     *needed = 0;
     let texts = match texts_of(alloc, words) {
@@ -42,14 +44,15 @@ pub extern "C" fn pb_call(
     let bytes = reply.as_slice();
     put_front(output, bytes);
     *needed = bytes.len();
-    status.number()
+    number_of(status)
 }
 
 /// Checks the texts that the input holds, which lines `%%` part, as the command `check` does, and gives the
 /// reply as `pb_call` does.
 #[unsafe(no_mangle)]
 pub extern "C" fn pb_check(alloc: Global, text: &[u8], output: &mut [u8], needed: &mut usize) -> u8
-    ensures { IsGiven (Tellings SaysOfChecks text.now) output.new result needed.new }
+    ensures given { IsGiven (Tellings SaysOfChecks text.now) output.new result needed.new }
+    ensures no_device { result ≢ 6 }
 {
     let mut source = MemoryInput::new(text);
     let mut reply = Kept::new(alloc);
@@ -58,14 +61,15 @@ pub extern "C" fn pb_check(alloc: Global, text: &[u8], output: &mut [u8], needed
     let bytes = reply.as_slice();
     put_front(output, bytes);
     *needed = bytes.len();
-    status.number()
+    number_of(status)
 }
 
 /// Says what each process of a text claims of each resource, as the command `claims` does, and gives the reply
 /// as `pb_call` does.
 #[unsafe(no_mangle)]
 pub extern "C" fn pb_claims(alloc: Global, text: &[u8], output: &mut [u8], needed: &mut usize) -> u8
-    ensures { IsGiven (Tellings SaysOfClaims text.now) output.new result needed.new }
+    ensures given { IsGiven (Tellings SaysOfClaims text.now) output.new result needed.new }
+    ensures no_device { result ≢ 6 }
 {
     let mut source = MemoryInput::new(text);
     let mut reply = Kept::new(alloc);
@@ -73,14 +77,15 @@ pub extern "C" fn pb_claims(alloc: Global, text: &[u8], output: &mut [u8], neede
     let bytes = reply.as_slice();
     put_front(output, bytes);
     *needed = bytes.len();
-    status.number()
+    number_of(status)
 }
 
 /// Plans the texts that the input holds, which lines `%%` part, as one program, as the command `plan` does under the
 /// banker, and gives the reply as `pb_call` does.
 #[unsafe(no_mangle)]
 pub extern "C" fn pb_plan(alloc: Global, texts: &[u8], output: &mut [u8], needed: &mut usize) -> u8
-    ensures { IsGiven (Tellings (SaysOfPlan Lending.ByBanker) texts.now) output.new result needed.new }
+    ensures given { IsGiven (Tellings (SaysOfPlan Lending.ByBanker) texts.now) output.new result needed.new }
+    ensures no_device { result ≢ 6 }
 {
     let mut source = MemoryInput::new(texts);
     let mut reply = Kept::new(alloc);
@@ -88,5 +93,5 @@ pub extern "C" fn pb_plan(alloc: Global, texts: &[u8], output: &mut [u8], needed
     let bytes = reply.as_slice();
     put_front(output, bytes);
     *needed = bytes.len();
-    status.number()
+    number_of(status)
 }

@@ -83,6 +83,7 @@ outcomes_command =
     (with_rule
     (with_rule
     (with_rule
+    (with_rule
     (with_rule (new_app (codes "outcomes")) (number_rule_or (codes "states") 1 4000000 (codes "1000000")))
     (word_rule_or (codes "lend") (codes "banker")))
     (flag_rule (codes "first-deadlock")))
@@ -90,6 +91,7 @@ outcomes_command =
     (flag_rule (codes "fair")))
     (flag_rule (codes "expect")))
     (flag_rule (codes "any-order")))
+    (flag_rule (codes "endless")))
     (flag_rule (codes "graph")))
     (number_rule (codes "run") 1 4000000))
     (number_rule (codes "deadlock") 1 4000000)

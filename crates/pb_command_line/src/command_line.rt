@@ -275,6 +275,9 @@ fn outcomes_of_text<'a>(alloc: Global) -> Result<Command<'a>, AllocError>
     let outcomes = with_flag(alloc, outcomes, "expect", expect);
     let any_order = "With --expect: those lines may be printed in any order";
     let outcomes = with_flag(alloc, outcomes, "any-order", any_order);
+    let endless =
+        "Print picks that lead into a circle and picks that go round it, if some run never ends; with --fair only fair runs count";
+    let outcomes = with_flag(alloc, outcomes, "endless", endless);
     let graph =
         "Print all schedules as a document for a page; of the other options only --states and --lend then count";
     let outcomes = with_flag(alloc, outcomes, "graph", graph);

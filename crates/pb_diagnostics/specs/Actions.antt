@@ -2,16 +2,12 @@
 use Rattle.std.specs.Prelude.{◌≡◌, ℕ, All, List, codes}
 use Rattle.serde_json.specs.Data.{Data, array, item, member, no_items, no_members, object, string}
 use Rattle.serde_json.specs.View.{items_of}
-use Rattle.pb_diagnostics.specs.Ranges.{position_data, range_with}
 use Rattle.pb_mends.specs.Mends.{Edit, Mends}
-use Rattle.pb_message_excerpts.specs.Places.{IsPlace}
-use Rattle.pb_message_excerpts.specs.declared.place.Place.{Place}
+use Rattle.pb_server_names.specs.Values.{range_data}
 
 -- the range of a text that an edit replaces
-abbrev pub IsEditRange : (text : List ℕ) → Edit → Data → Type 0
-IsEditRange text edit d =
-    (start : Place) × (end : Place) × IsPlace text edit.start start × IsPlace text edit.end end
-    × (d ≡ range_with (position_data start) (position_data end))
+abbrev pub edit_range : (text : List ℕ) → Edit → Data
+edit_range text edit = range_data text edit.start edit.end
 
 -- other bytes in a range
 abbrev pub text_edit : (range : Data) → (bytes : List ℕ) → Data
@@ -31,10 +27,8 @@ action_data title edit = object (member (codes "edit") edit
 pub record IsAction (uri text : List ℕ) (d : Data) : Type 0 where
   pub edit : Edit
   pub mends : Mends text edit
-  pub range : Data
-  pub of : IsEditRange text edit range
   pub title : List ℕ
-  pub is : d ≡ action_data title (workspace_edit uri (text_edit range edit.bytes))
+  pub is : d ≡ action_data title (workspace_edit uri (text_edit (edit_range text edit) edit.bytes))
 
 -- a list of such actions
 abbrev pub AnswersActions : (uri text : List ℕ) → Data → Type 0

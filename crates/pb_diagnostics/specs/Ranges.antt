@@ -1,22 +1,12 @@
 -- Ranges of a text, by lines and characters from 0. A character is a UTF-16 unit, which a byte is up to a fault of bytes.
-use Rattle.std.specs.Prelude.{◌≡◌, ◌≢◌, ◌⊎◌, ℕ, ◌+◌, ◌-◌, min, nat_eq, List, length, Bool, Option, None, Some, codes}
+use Rattle.std.specs.Prelude.{◌≡◌, ◌≢◌, ◌⊎◌, ℕ, ◌+◌, min, nat_eq, List, length, Bool, Option, None, Some}
 use Rattle.std.specs.List.{find}
-use Rattle.serde_json.specs.Data.{Data, number, object, unsigned, no_members, member}
+use Rattle.serde_json.specs.Data.{Data}
 use Rattle.pb_lexer.specs.Cutting.{AreTokensOf, Refuses}
 use Rattle.pb_lexer.specs.Tokens.{Token}
 use Rattle.pb_lexer.specs.declared.fault.LexFault.{LexFault}
 use Rattle.pb_lexer.specs.declared.fault.LexFault.TheVariants as lex
-use Rattle.pb_message_excerpts.specs.Places.{IsPlace}
-use Rattle.pb_message_excerpts.specs.declared.place.Place.{Place}
-
--- a place of a text, as a position
-abbrev pub position_data : Place → Data
-position_data place = object (member (codes "character") (number (unsigned (place.column - 1)))
-    (member (codes "line") (number (unsigned (place.line - 1))) no_members))
-
--- a range, by where it starts and stops
-abbrev pub range_with : (start stop : Data) → Data
-range_with start stop = object (member (codes "end") stop (member (codes "start") start no_members))
+use Rattle.pb_server_names.specs.Values.{range_data}
 
 -- where a token ends; without one, the other offset
 abbrev pub end_of : Option Token → (other : ℕ) → ℕ
@@ -40,6 +30,4 @@ IsStop text at stop =
 
 -- the range of a text that begins at this offset
 abbrev pub IsRange : (text : List ℕ) → (at : ℕ) → Data → Type 0
-IsRange text at d =
-    (start : Place) × (end : Place) × (stop : ℕ) × IsPlace text at start × IsStop text at stop × IsPlace text stop end
-    × (d ≡ range_with (position_data start) (position_data end))
+IsRange text at d = (stop : ℕ) × IsStop text at stop × (d ≡ range_data text at stop)

@@ -4,25 +4,21 @@ ghost use Rattle.std.specs.Prelude.{◌≡◌, IfOk, false, string_bytes};
 ghost use Rattle.serde_json.specs.View.{view};
 ghost use Rattle.serde_json.specs.Written.{has_float};
 ghost use Rattle.pb_diagnostics.specs.Actions as spec;
-ghost use Rattle.pb_diagnostics.specs.Actions.{AnswersActions, IsAction, IsEditRange};
+ghost use Rattle.pb_diagnostics.specs.Actions.{AnswersActions, IsAction};
 ghost use Rattle.pb_mends.specs.Mends.{Mends, edit_of};
 
-use crate::range::{between, position};
 use pb_base::NoMemory;
 use pb_mends::{Mend, propose_mends};
-use pb_message_excerpts::place_of;
+use pb_server_names::range_value;
 use serde_json::{Value, json};
 use std::alloc::{AllocError, Global};
 
 /// Returns the range that an edit replaces.
 fn edit_range(alloc: Global, text: &[u8], mend: &Mend) -> Result<Value, AllocError>
-    requires { Mends text.now (edit_of mend.now) }
-    ensures range { IfOk result (λ v. IsEditRange text.now (edit_of mend.now) (view v)) }
+    ensures range { IfOk result (λ v. view v ≡ spec.edit_range text.now (edit_of mend.now)) }
     ensures float_free { IfOk result (λ v. has_float (view v) ≡ false) }
 {
-    let start = position(alloc, place_of(text, mend.start))?;
-    let end = position(alloc, place_of(text, mend.end))?;
-    between(alloc, start, end)
+    range_value(alloc, text, mend.start, mend.end)
 }
 
 /// Returns other bytes in a range.

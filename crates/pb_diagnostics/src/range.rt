@@ -1,35 +1,18 @@
 //! Ranges of a text.
 
-ghost use Rattle.std.specs.Prelude.{◌≡◌, ◌≤◌, IfOk, false, length};
+ghost use Rattle.std.specs.Prelude.{◌≡◌, ◌≤◌, ℕ, IfOk, false, length};
 ghost use Rattle.serde_json.specs.View.{view};
 ghost use Rattle.serde_json.specs.Written.{has_float};
 ghost use Rattle.pb_diagnostics.specs.Ranges as spec;
-ghost use Rattle.pb_diagnostics.specs.Ranges.{IsRange, IsStop, position_data, range_with};
+ghost use Rattle.pb_diagnostics.specs.Ranges.{IsRange, IsStop};
 ghost use Rattle.pb_lexer.specs.Tokens.{tokens as tokens_view};
-ghost use Rattle.pb_message_excerpts.specs.Places.{IsPlace};
-ghost use Rattle.pb_message_excerpts.specs.declared.place.Place.{Place as AnyPlace};
+ghost use Rattle.pb_server_names.specs.Values.{range_data};
 
 use pb_base::NoMemory;
 use pb_lexer::{LexFault, Token, lex};
-use pb_message_excerpts::{Place, place_of};
-use serde_json::{Value, json};
-use std::alloc::{AllocError, Global};
-
-/// Returns a place by line and character.
-pub(crate) fn position(alloc: Global, place: Place) -> Result<Value, AllocError>
-    ensures { IfOk result (λ v. view v ≡ position_data place) }
-{
-    let line = place.line.saturating_sub(1);
-    let character = place.column.saturating_sub(1);
-    json!(in alloc; {"line": line, "character": character})
-}
-
-/// Returns a range between two positions.
-pub(crate) fn between(alloc: Global, start: Value, stop: Value) -> Result<Value, AllocError>
-    ensures { IfOk result (λ v. view v ≡ range_with (view start) (view stop)) }
-{
-    json!(in alloc; {"start": start, "end": stop})
-}
+use pb_server_names::range_value;
+use serde_json::Value;
+use std::alloc::Global;
 
 /// Returns where the token ends that begins at an offset; else what is given.
 fn token_end(tokens: &[Token<'_>], at: usize, other: usize) -> usize
@@ -46,8 +29,7 @@ fn token_end(tokens: &[Token<'_>], at: usize, other: usize) -> usize
 /// Returns where a range ends that begins at an offset.
 fn stop_of(alloc: Global, text: &[u8], at: usize) -> Result<usize, NoMemory>
     requires { at ≤ length text.now }
-    ensures stop { IfOk result (λ stop. IsStop text.now at stop) }
-    ensures within { IfOk result (λ stop. stop ≤ length text.now) }
+    ensures { IfOk result (λ stop. IsStop text.now at stop) }
 {
     let next = at.saturating_add(1);
     match lex(alloc, text) {
@@ -64,7 +46,5 @@ pub fn range_at(alloc: Global, text: &[u8], at: usize) -> Result<Value, NoMemory
     ensures float_free { IfOk result (λ v. has_float (view v) ≡ false) }
 {
     let stop = stop_of(alloc, text, at)?;
-    let start = position(alloc, place_of(text, at))?;
-    let end = position(alloc, place_of(text, stop))?;
-    Ok(between(alloc, start, end)?)
+    Ok(range_value(alloc, text, at, stop)?)
 }

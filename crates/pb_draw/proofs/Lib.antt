@@ -1,9 +1,11 @@
+pub mod AccessSteps
 pub mod ArmOrder
 pub mod ArmSteps
 pub mod Curves
 pub mod LaneSteps
 pub mod MarkOrder
+pub mod Nesting
+pub mod OpenHolds
 pub mod PickMarks
 pub mod Standings
-pub mod Stores
 pub mod Walks

@@ -1,11 +1,12 @@
 -- The marks of a run are in the order of its picks.
-use Rattle.std.proofs.Common.{◌≡◌, ℕ, Bool, zero, suc, ◌<◌, List, [], ◌∷◌, ◌++◌, length, Option, Some, None, refl, sym, ap, inl, inr, subst, arith}
+use Rattle.std.proofs.Common.{◌≡◌, ℕ, zero, suc, ◌<◌, ◌≤◌, List, [], ◌∷◌, ◌++◌, length, length-append, Option, Some, None, refl, sym, ap, inl, inr, subst, arith}
 use Rattle.std.specs.Prelude.{slice_get}
 use Rattle.std.proofs.lemmas.List.{append-nil}
 use Rattle.pb_base.specs.declared.pick.Pick.{Pick}
 use Rattle.pb_code.specs.Whole.{Code, ProcessLabels}
 use Rattle.pb_draw.specs.Marks.{AreInOrder, happening_at, line_before, mark_list, marks_before}
 use Rattle.pb_draw.specs.declared.drawing.Happening.{Happening}
+use Rattle.pb_draw.specs.declared.drawing.Integers.{Integers}
 use Rattle.pb_draw.specs.declared.drawing.Mark.{Mark}
 use Rattle.pb_machine.proofs.BuiltLists.{at_push}
 
@@ -51,7 +52,7 @@ order_push marks x n early here ordered = λ i j a b lt one two.
           omega (arith, same, here, first))
     ]
 
-both : (integers : Bool) (code : Code) (labels : List ProcessLabels) (picks : List Pick) (n : ℕ)
+both : (integers : Integers) (code : Code) (labels : List ProcessLabels) (picks : List Pick) (n : ℕ)
     → AreBefore n (marks_before integers code labels picks n) × AreInOrder (marks_before integers code labels picks n)
 both integers code labels picks zero = (λ i m there. cc, λ i j a b lt one two. cc)
 both integers code labels picks (suc n) =
@@ -67,5 +68,22 @@ both integers code labels picks (suc n) =
     go marks (Some what) (Some pick) source early ordered =
         (early_push marks _ n early refl, order_push marks _ n early refl ordered)
 
-pub marks_in_order : (integers : Bool) (code : Code) (labels : List ProcessLabels) (picks : List Pick) (n : ℕ) → AreInOrder (marks_before integers code labels picks n)
+pub marks_in_order : (integers : Integers) (code : Code) (labels : List ProcessLabels) (picks : List Pick) (n : ℕ) → AreInOrder (marks_before integers code labels picks n)
 marks_in_order integers code labels picks n = (both integers code labels picks n).1
+
+-- there is at most one mark for each pick
+pub marks_few : (integers : Integers) (code : Code) (labels : List ProcessLabels) (picks : List Pick) (n : ℕ)
+    → length (marks_before integers code labels picks n) ≤ n
+marks_few integers code labels picks zero = omega arith
+marks_few integers code labels picks (suc n) =
+    let marks = marks_before integers code labels picks n in
+    let last = mark_list (happening_at integers code picks n) (slice_get picks n) (line_before code labels picks n) n in
+    let few : length marks ≤ n = marks_few integers code labels picks n in
+    let one = one_at_most (happening_at integers code picks n) (slice_get picks n) (line_before code labels picks n) n in
+    let all = length-append marks last in
+    omega (arith, few, one, all)
+  where
+    one_at_most : (what : Option Happening) (pick : Option Pick) (source : Option ℕ) (i : ℕ) → length (mark_list what pick source i) ≤ 1
+    one_at_most None pick source i = omega arith
+    one_at_most (Some what) None source i = omega arith
+    one_at_most (Some what) (Some pick) source i = omega arith

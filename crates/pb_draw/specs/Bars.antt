@@ -1,5 +1,5 @@
--- The holds of a run: a bar from each grant up to where it is given back.
-use Rattle.std.specs.Prelude.{ℕ, ◌+◌, ◌-◌, cond, ◌==◌, List, [], ◌∷◌, ◌++◌, Option, Some, None}
+-- The holds of a run: a bar from each grant up to where it is given back, with how deep it is in other holds of its arm.
+use Rattle.std.specs.Prelude.{◌≡◌, ◌<◌, ℕ, ◌+◌, ◌-◌, nat_lt, Bool, true, cond, ◌&&◌, ◌==◌, List, [], ◌∷◌, ◌++◌, Option, Some, None, slice_get}
 use Rattle.pb_base.specs.declared.event.Event.{Event}
 use Rattle.pb_base.specs.declared.event.Event.TheVariants.{Granted, Returned, Printed, Faulted, Finished}
 use Rattle.pb_base.specs.declared.pick.Pick.{Pick}
@@ -20,9 +20,10 @@ hold_turn arm (Printed pick value) = Other
 hold_turn arm (Faulted pick kind) = cond (arm.process == pick.process) Breaks Other
 hold_turn arm (Finished process) = Other
 
--- an assignment is nothing to it
+-- a read and an assignment are nothing to it
 abbrev pub turn_in : Pick → Happening → Turn
 turn_in arm (happening.Did event) = hold_turn arm event
+turn_in arm (happening.Read x value) = Other
 turn_in arm (happening.Assigned x value) = Other
 
 -- the number of the pick by which an arm gives back a hold that it has before these marks, with `inner`
@@ -36,21 +37,46 @@ given_back arm inner (m ∷ marks) = elim (turn_in arm m.what) [
   | Other ↦ given_back arm inner marks
 ]
 
--- the bar of a mark, before these further marks: a grant has one, from its pick on
-abbrev pub bar_of : (at : ℕ) → Event → List Mark → List Bar
-bar_of at (Granted pick bundle) later =
-    record { pick = pick; bundle = bundle; taken = at; returned = given_back pick 0 later } ∷ []
-bar_of at (Returned pick bundle) later = []
-bar_of at (Printed pick value) later = []
-bar_of at (Faulted pick kind) later = []
-bar_of at (Finished process) later = []
+-- a pick is before the one that gives a hold back, if one does
+abbrev pub is_before : (at : ℕ) → (returned : Option ℕ) → Bool
+is_before at None = true
+is_before at (Some returned) = nat_lt at returned
 
--- an assignment has none
-abbrev pub bar_for : (at : ℕ) → Happening → List Mark → List Bar
-bar_for at (happening.Did event) later = bar_of at event later
-bar_for at (happening.Assigned x value) later = []
+-- a hold is of this arm, and open at a pick: neither that pick nor one before it gives it back
+abbrev pub is_open : (arm : Pick) → (at : ℕ) → Bar → Bool
+is_open arm at bar = are_same bar.pick arm && is_before at bar.returned
 
--- a bar for each grant among these marks, up to the pick that gives it back
+-- how many of these holds are of this arm and open at a pick
+abbrev pub open_holds : (arm : Pick) → (at : ℕ) → List Bar → ℕ
+open_holds arm at [] = 0
+open_holds arm at (bar ∷ bars) = cond (is_open arm at bar) 1 0 + open_holds arm at bars
+
+-- the bar of a mark, behind these earlier bars and before these further marks: a grant has one, from its pick on. Its depth
+-- is the number of the earlier holds of its arm that are open at that pick
+abbrev pub bar_of : (earlier : List Bar) → (at : ℕ) → Event → List Mark → List Bar
+bar_of earlier at (Granted pick bundle) later =
+    record { pick = pick; bundle = bundle; taken = at; returned = given_back pick 0 later; depth = open_holds pick at earlier } ∷ []
+bar_of earlier at (Returned pick bundle) later = []
+bar_of earlier at (Printed pick value) later = []
+bar_of earlier at (Faulted pick kind) later = []
+bar_of earlier at (Finished process) later = []
+
+-- a read and an assignment have none
+abbrev pub bar_for : (earlier : List Bar) → (at : ℕ) → Happening → List Mark → List Bar
+bar_for earlier at (happening.Did event) later = bar_of earlier at event later
+bar_for earlier at (happening.Read x value) later = []
+bar_for earlier at (happening.Assigned x value) later = []
+
+-- a bar for each grant among these marks, up to the pick that gives it back, behind these earlier bars
+abbrev pub bars_from : (earlier : List Bar) → List Mark → List Bar
+bars_from earlier [] = []
+bars_from earlier (m ∷ marks) =
+    bar_for earlier m.at m.what marks ++ bars_from (earlier ++ bar_for earlier m.at m.what marks) marks
+
 abbrev pub bars_of : List Mark → List Bar
-bars_of [] = []
-bars_of (m ∷ marks) = bar_for m.at m.what marks ++ bars_of marks
+bars_of marks = bars_from [] marks
+
+-- of two holds of an arm of which the earlier is open when the later is taken, the later is deeper
+abbrev pub AreNested : List Bar → Type 0
+AreNested bars = (j k : ℕ) (a b : Bar) → j < k → slice_get bars j ≡ Some a → slice_get bars k ≡ Some b
+    → are_same a.pick b.pick ≡ true → is_before b.taken a.returned ≡ true → a.depth < b.depth

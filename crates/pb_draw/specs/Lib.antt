@@ -1,5 +1,5 @@
+pub mod Accesses
 pub mod Arms
-pub mod Assignments
 pub mod Bars
 pub mod Cash
 pub mod Curves

@@ -4,12 +4,13 @@ ghost use Rattle.std.specs.Prelude.{◌≡◌, ◌≤◌, ◌*◌, All, IfOk, le
 ghost use Rattle.pb_base.specs.declared.limits.TheConstants.{MAX_ARMS, MAX_PROCESSES};
 ghost use Rattle.pb_code.specs.View.{labels_view};
 ghost use Rattle.pb_draw.specs.Arms.{AreDifferent};
+ghost use Rattle.pb_draw.specs.Bars.{AreNested};
 ghost use Rattle.pb_draw.specs.Drawings.{IsDrawing};
 ghost use Rattle.pb_draw.specs.Marks.{AreInOrder, IsNamed};
 ghost use Rattle.pb_history.specs.Entries.{picks_of};
 ghost use Rattle.pb_history.specs.Positions.{AreEnabledBy};
 
-use crate::assignments::{are_drawn, assignments_of};
+use crate::accesses::{accesses_of, integers_drawn};
 use crate::bars::bars_of;
 use crate::cash::cash_curves;
 use crate::lanes::lanes_of;
@@ -26,8 +27,19 @@ use std::alloc::Global;
 pub enum Happening {
     /// An event.
     Did(Event),
+    /// An integer of its process, by its number, is read, and is this.
+    Read { integer: u8, value: i64 },
     /// An integer of its process, by its number, is assigned to, and is this then.
     Assigned { integer: u8, value: i64 },
+}
+
+/// What of the integers is drawn.
+#[derive(Clone, Copy)]
+pub struct Integers {
+    /// The picks that assign to one.
+    pub assignments: bool,
+    /// The picks that read one.
+    pub reads: bool,
 }
 
 /// What a pick shows, the number of that pick, counted from 0, and the source line of its arm before it, if the place
@@ -41,13 +53,14 @@ pub struct Mark {
 }
 
 /// A hold of an arm, with the number of the pick that takes it and that of the pick that gives it back, if
-/// one does.
+/// one does, and the number of holds of the arm that are open when it is taken.
 #[derive(Clone, Copy)]
 pub struct Bar {
     pub pick: Pick,
     pub bundle: Bundle,
     pub taken: u32,
     pub returned: Option<u32>,
+    pub depth: u32,
 }
 
 /// The state of an arm.
@@ -98,7 +111,11 @@ pub struct Drawing {
     pub picks: u32,
     /// How many picks assign to an integer.
     pub assignments: u32,
-    /// Each event, and each assignment if they are few enough to be drawn, in the order of the picks.
+    /// How many picks read an integer.
+    pub reads: u32,
+    /// Which of these are few enough to be drawn.
+    pub integers: Integers,
+    /// Each event, and each assignment and each read if these are drawn, in the order of the picks.
     pub marks: Vec<Mark>,
     /// Each hold, in the order in which they begin.
     pub bars: Vec<Bar>,
@@ -122,6 +139,7 @@ pub fn draw(
     ensures drawing { IfOk result (IsDrawing lending verified.now.code (labels_view labels.now) (picks_of trace.now.entries)) }
     ensures named { IfOk result (λ d. All (λ m. IsNamed verified.now.code.names m.what) d.marks.items) }
     ensures ordered { IfOk result (λ d. AreInOrder d.marks.items) }
+    ensures nested { IfOk result (λ d. AreNested d.bars.items) }
     ensures different { IfOk result (λ d. AreDifferent (map (λ lane. lane.pick) d.lanes.items)) }
     ensures rows { IfOk result (λ d. length d.lanes.items ≤ MAX_PROCESSES * MAX_ARMS) }
     ensures curves { IfOk result (λ d. length d.curves.items ≡ length verified.now.code.capital) }
@@ -129,15 +147,17 @@ pub fn draw(
     // Called for its contract alone, which the proof needs.
     let _ = verified.code();
     let picks = trace.len();
-    let assignments = assignments_of(alloc, verified, lending, trace)?;
-    let integers = are_drawn(assignments);
+    let counts = accesses_of(alloc, verified, lending, trace)?;
+    let integers = integers_drawn(counts.assignments, counts.reads);
     let marks = marks_of(alloc, verified, labels, lending, integers, trace)?;
     let bars = bars_of(alloc, marks.as_slice())?;
     let lanes = lanes_of(alloc, verified, lending, trace)?;
     let curves = cash_curves(alloc, verified, lending, trace)?;
     Ok(Drawing {
         picks,
-        assignments,
+        assignments: counts.assignments,
+        reads: counts.reads,
+        integers,
         marks,
         bars,
         lanes,

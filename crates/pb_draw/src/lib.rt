@@ -1,7 +1,7 @@
 //! What runs show over their picks: events, holds, the state of each arm, and the cash of each resource.
 #![tactic(auto)]
 
-mod assignments;
+mod accesses;
 mod bars;
 mod cash;
 mod drawing;
@@ -9,7 +9,7 @@ mod lanes;
 mod marks;
 mod walk;
 
-pub use assignments::MAX_ASSIGNMENTS;
+pub use accesses::MAX_ACCESSES;
 pub use drawing::{
-    Bar, CashCurve, CashStep, Drawing, Happening, Lane, LaneStep, Mark, Standing, draw,
+    Bar, CashCurve, CashStep, Drawing, Happening, Integers, Lane, LaneStep, Mark, Standing, draw,
 };

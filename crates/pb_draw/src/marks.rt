@@ -1,16 +1,17 @@
-//! The events and the assignments of a run, each at its pick, with the line of its arm.
+//! The events, the reads and the assignments of a run, each at its pick, with the line of its arm.
 
-ghost use Rattle.std.specs.Prelude.{◌≡◌, ◌++◌, IfOk, OnOk, Some, None, cond, length, option_and_then, slice_get};
+ghost use Rattle.std.specs.Prelude.{◌≡◌, ◌++◌, IfOk, OnOk, Some, length, slice_get};
 ghost use Rattle.pb_code.specs.View.{labels_view};
-ghost use Rattle.pb_debug_positions.specs.Searches.{line_in, value_in};
-ghost use Rattle.pb_draw.specs.Assignments.{stored_in};
-ghost use Rattle.pb_draw.specs.Marks.{assigned, happening_of, mark_list, marks_before};
+ghost use Rattle.pb_debug_positions.specs.Searches as searches;
+ghost use Rattle.pb_debug_positions.specs.Searches.{line_in};
+ghost use Rattle.pb_draw.specs.Marks as spec;
+ghost use Rattle.pb_draw.specs.Marks.{mark_list, marks_before};
 ghost use Rattle.pb_history.specs.Entries.{picks_of};
 ghost use Rattle.pb_history.specs.Positions.{AreEnabledBy};
 ghost use Rattle.pb_machine.specs.Views.{machine_view};
 
-use crate::assignments::stored_of;
-use crate::drawing::{Happening, Mark};
+use crate::accesses::{Access, access_of};
+use crate::drawing::{Happening, Integers, Mark};
 use crate::walk::advance;
 use pb_base::{Event, Lending, NoMemory, Pick};
 use pb_code::Labels;
@@ -46,6 +47,10 @@ fn add_mark(
         Some(Happening::Did(event)) => {
             marks.push(mark_of(at, pick, Happening::Did(event), line))?;
         }
+        Some(Happening::Read { integer, value }) => {
+            let what = Happening::Read { integer, value };
+            marks.push(mark_of(at, pick, what, line))?;
+        }
         Some(Happening::Assigned { integer, value }) => {
             let what = Happening::Assigned { integer, value };
             marks.push(mark_of(at, pick, what, line))?;
@@ -55,35 +60,88 @@ fn add_mark(
     Ok(())
 }
 
-/// Returns the integer to which the next step of the arm of a pick assigns, if assignments are drawn and it does.
-fn assigned_by(integers: bool, verified: &Verified, machine: &Machine, pick: Pick) -> Option<u8>
-    ensures { result ≡ cond integers (stored_in (slice_get verified.now.code.processes pick.process)
-        (slice_get (machine_view machine.now).processes pick.process) pick.arm) None }
+/// Returns an integer of the process of a pick in a machine, if it is there.
+fn value_in(machine: &Machine, pick: Pick, integer: u8) -> Option<i64>
+    ensures { result ≡ searches.value_in (slice_get (machine_view machine.now).processes pick.process) integer }
 {
-    if integers {
-        stored_of(verified, machine, pick)
-    } else {
-        None
-    }
+    value_of(machine, usize::from(pick.process), usize::from(integer))
 }
 
-/// Returns what a pick shows: its event, or else its assignment to this integer, if there is one. The machine is behind
-/// that pick.
-fn happening(
-    event: Option<Event>,
-    integer: Option<u8>,
+/// Returns the read of an integer that is this.
+fn read(integer: u8, value: Option<i64>) -> Option<Happening>
+    ensures { result ≡ spec.read integer value }
+{
+    let value = value?;
+    Some(Happening::Read { integer, value })
+}
+
+/// Returns the assignment to an integer that is this then.
+fn assigned(integer: u8, value: Option<i64>) -> Option<Happening>
+    ensures { result ≡ spec.assigned integer value }
+{
+    let value = value?;
+    Some(Happening::Assigned { integer, value })
+}
+
+/// Returns the read that a pick makes, if it is one and reads are drawn. The machine is before that pick.
+fn read_by(
+    integers: Integers,
+    access: Option<Access>,
     machine: &Machine,
     pick: Pick,
 ) -> Option<Happening>
-    ensures { result ≡ happening_of event (option_and_then
-        (λ x. assigned x (value_in (slice_get (machine_view machine.now).processes pick.process) x)) integer) }
+    ensures { result ≡ spec.read_by integers (λ x. searches.value_in (slice_get (machine_view machine.now).processes pick.process) x) access }
+{
+    match access {
+        Some(Access::Reads(x)) => {
+            if integers.reads {
+                read(x, value_in(machine, pick, x))
+            } else {
+                None
+            }
+        }
+        Some(Access::Assigns(_)) => None,
+        None => None,
+    }
+}
+
+/// Returns the assignment that a pick makes, if it is one and assignments are drawn. The machine is behind that pick.
+fn assigned_by(
+    integers: Integers,
+    access: Option<Access>,
+    machine: &Machine,
+    pick: Pick,
+) -> Option<Happening>
+    ensures { result ≡ spec.assigned_by integers (λ x. searches.value_in (slice_get (machine_view machine.now).processes pick.process) x) access }
+{
+    match access {
+        Some(Access::Reads(_)) => None,
+        Some(Access::Assigns(x)) => {
+            if integers.assignments {
+                assigned(x, value_in(machine, pick, x))
+            } else {
+                None
+            }
+        }
+        None => None,
+    }
+}
+
+/// Returns what a pick shows: its event, or else its read or its assignment, if there is one.
+fn happening(
+    event: Option<Event>,
+    read: Option<Happening>,
+    assigned: Option<Happening>,
+) -> Option<Happening>
+    ensures { result ≡ spec.happening_of event (spec.or_else read assigned) }
 {
     if let Some(event) = event {
         return Some(Happening::Did(event));
     }
-    let integer = integer?;
-    let value = value_of(machine, usize::from(pick.process), usize::from(integer))?;
-    Some(Happening::Assigned { integer, value })
+    match read {
+        Some(read) => Some(read),
+        None => assigned,
+    }
 }
 
 /// Returns the source line of the arm of a pick, if it is live and its place has one.
@@ -99,13 +157,14 @@ fn line_of(labels: &Labels, machine: &Machine, pick: Pick) -> Option<u32>
     )
 }
 
-/// Returns a mark for each event of the run, at the pick that shows it, and for each assignment if these are drawn.
+/// Returns a mark for each event of the run, at the pick that shows it, and for each read and each assignment if these are
+/// drawn.
 pub(crate) fn marks_of(
     alloc: Global,
     verified: &Verified,
     labels: &Labels,
     lending: Lending,
-    integers: bool,
+    integers: Integers,
     trace: &Trace,
 ) -> Result<Vec<Mark>, NoMemory>
     requires { AreEnabledBy lending verified.now.code (picks_of trace.now.entries) }
@@ -117,9 +176,11 @@ pub(crate) fn marks_of(
     for at in 0..trace.len() {
         let pick = trace.pick(at);
         let line = line_of(labels, &machine, pick);
-        let integer = assigned_by(integers, verified, &machine, pick);
+        let access = access_of(verified, &machine, pick);
+        let read = read_by(integers, access, &machine, pick);
         let event = advance(verified, trace, &mut machine, at);
-        let what = happening(event, integer, &machine, pick);
+        let assigned = assigned_by(integers, access, &machine, pick);
+        let what = happening(event, read, assigned);
         add_mark(&mut marks, at, pick, what, line)?;
     }
     Ok(marks)

@@ -1,10 +1,13 @@
 -- What `draw` says of an input, and with which status.
-use Rattle.std.specs.Prelude.{◌≡◌, ◌<◌, ◌≤◌, ℕ, Bool, true, false, List, codes, length, map}
+use Rattle.std.specs.Prelude.{◌≡◌, ◌⊎◌, ◌<◌, ◌≤◌, ℕ, Bool, true, false, List, [], codes, length, map}
 use Rattle.pb_base.specs.declared.lending.Lending.{Lending}
 use Rattle.pb_base.specs.Steppers.{State}
+use Rattle.pb_circles.specs.Circles.{IsCircle}
+use Rattle.pb_circles.specs.declared.link.Link.{Link}
 use Rattle.pb_code.specs.Code.{CodeProcess}
 use Rattle.pb_code.specs.Whole.{Code, ProcessLabels}
 use Rattle.pb_codegen.specs.Compiled.{IsCompiled}
+use Rattle.pb_draw.specs.Bars.{AreNested}
 use Rattle.pb_draw.specs.Drawings.{IsDrawing}
 use Rattle.pb_draw_picture.specs.Marks.{AreFromLeft}
 use Rattle.pb_draw_picture.specs.Pictures.{IsLayout}
@@ -31,16 +34,23 @@ use Rattle.pb_options.specs.declared.options.DrawOptions.{DrawOptions}
 abbrev pub size_of : DrawOptions → Size
 size_of options = record { width = options.width; scale = options.scale }
 
+-- the links of a circular wait; none, only if there is no such wait
+abbrev pub IsSomeCircle : Code → State CodeProcess → List Link → Type 0
+IsSomeCircle code s links = IsCircle code s links ⊎ ((links ≡ []) × ((circle : List Link) → IsCircle code s circle → ⊥))
+
 -- a text is the picture of these entries as SVG, as large as it is asked to be: the layout of what their run shows under
--- this lending, and whether it ends in a deadlock. Its rows are one below the other, and of two marks the earlier is
--- further left
-pub record IsPictured (lending : Lending) (size : Size) (code : Code) (labels : List ProcessLabels) (entries : List Entry) (deadlock : Bool)
-    (text : List ℕ) : Type 0 where
+-- this lending, and whether it ends in a deadlock, with a circular wait then. Its rows are one below the other, a hold inside
+-- another of its arm is drawn below it, and of two marks the earlier is further left
+pub record IsPictured (lending : Lending) (size : Size) (code : Code) (labels : List ProcessLabels) (entries : List Entry)
+    (end : State CodeProcess) (deadlock : Bool) (text : List ℕ) : Type 0 where
+  pub circle : List Link
+  pub waits : IsSomeCircle code end circle
   pub drawing : Drawing
   pub picture : Picture
   pub drawn : IsDrawing lending code labels (picks_of entries) drawing
-  pub laid_out : IsLayout code.names labels code.capital drawing deadlock picture
-  pub stacked : AreStacked laid_out.places TOP drawing.lanes.items laid_out.places.bottom
+  pub laid_out : IsLayout code.names labels code.capital drawing deadlock circle picture
+  pub stacked : AreStacked laid_out.places drawing.bars.items TOP drawing.lanes.items laid_out.places.bottom
+  pub nested : AreNested drawing.bars.items
   pub rising : AreFromLeft (map sign_of picture.ticks.items)
   pub written : text ≡ svg size picture
 
@@ -55,7 +65,7 @@ pub record IsDrawn (lending : Lending) (size : Size) (code : Code) (labels : Lis
     (text : List ℕ) (status : Status) : Type 0 where
   pub ending : Ending
   pub ends : IsEnding lending code end ending
-  pub picture : IsPictured lending size code labels entries (is_stuck ending) text
+  pub picture : IsPictured lending size code labels entries end (is_stuck ending) text
   pub told : IsEndStatus end ending status
 
 -- the line in place of a picture that is too large

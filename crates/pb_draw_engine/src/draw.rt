@@ -1,14 +1,14 @@
 //! The command `draw`, over any input and output.
 
 ghost use Rattle.std.specs.Prelude.{◌≡◌, ◌≤◌, IfOk, IfSome, length};
-ghost use Rattle.pb_draw_engine.specs.Draws.{Fits, IsDrawn, IsShown, SaysOfDraw, SaysOfDrawnLines, is_stuck, size_of};
+ghost use Rattle.pb_draw_engine.specs.Draws.{Fits, IsDrawn, IsShown, IsSomeCircle, SaysOfDraw, SaysOfDrawnLines, is_stuck, size_of};
 ghost use Rattle.pb_code.specs.View.{labels_view};
 ghost use Rattle.pb_command_io.specs.Answers.{Tells};
 ghost use Rattle.pb_command_io.specs.Faults.{TellsFaults, TellsWriteFaults};
 ghost use Rattle.pb_command_io.specs.Inputs.{SaysOfInput};
 ghost use Rattle.pb_history.specs.Entries.{picks_of};
 ghost use Rattle.pb_history.specs.Positions.{AreEnabledBy};
-ghost use Rattle.pb_machine.specs.Views.{IsMachineBy, machine_view};
+ghost use Rattle.pb_machine.specs.Views.{IsMachine, IsMachineBy, machine_view};
 ghost use Rattle.pb_options.specs.Lends.{lending_for};
 
 use pb_accept::{
@@ -16,6 +16,7 @@ use pb_accept::{
 };
 use pb_base::limits::{MAX_INPUT, MAX_PICKS};
 use pb_base::{Input, Lending, NoMemory, Output};
+use pb_circles::{Link, find_circle};
 use pb_code::Labels;
 use pb_command_io::{Reply, Status, read_input, tell, two_parts};
 use pb_draw::draw;
@@ -153,6 +154,7 @@ fn drawn(
         r.text.items r.status) }
 {
     let code = verified.code();
+    let circle = circle_of(alloc, verified, machine)?;
     let faulted = status_at(machine);
     let ending = ending_of(machine, verified);
     let drawing = draw(alloc, verified, labels, lending, trace)?;
@@ -163,12 +165,24 @@ fn drawn(
         &code.capital,
         &drawing,
         is_stuck(ending),
+        circle.as_slice(),
     )?;
     let text = write_svg(alloc, size, &picture)?;
     Ok(Reply {
         text,
         status: end_status(ending, faulted),
     })
+}
+
+/// Returns the links of a circular wait, if there is one, and else none.
+fn circle_of(alloc: Global, verified: &Verified, machine: &Machine) -> Result<Vec<Link>, NoMemory>
+    requires { IsMachine verified.now machine.now }
+    ensures { IfOk result (λ links. IsSomeCircle verified.now.code (machine_view machine.now) links.items) }
+{
+    match find_circle(alloc, verified, machine)? {
+        Some(circle) => Ok(circle),
+        None => Ok(Vec::new(alloc)),
+    }
 }
 
 /// Returns how large these options ask a picture to be.

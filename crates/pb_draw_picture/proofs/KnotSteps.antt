@@ -1,11 +1,10 @@
 -- The events of an axis are those of its marks.
 use Rattle.std.proofs.Common.{◌≡◌, ◌<◌, ◌≤◌, ℕ, zero, suc, ◌+◌, ◌-◌, max, List, [], ◌∷◌, ◌++◌, length, refl, sym, ap, ◌∙◌, subst, drop, Some, append_assoc, arith}
 use Rattle.std.specs.Prelude.{slice_get}
-use Rattle.std.proofs.lemmas.Grind.{common_steps}
 use Rattle.pb_base.specs.Lines.{NameTable}
 use Rattle.pb_code.specs.Whole.{ProcessLabels}
 use Rattle.pb_draw.specs.declared.drawing.Mark.{Mark}
-use Rattle.pb_draw_picture.specs.Axis.{AreKnots, AreKnotsFrom, IsKnot, last, one_more, same, squeezed, width_of}
+use Rattle.pb_draw_picture.specs.Axis.{AreKnots, AreKnotsFrom, last, one_more, same, squeezed, width_of}
 use Rattle.pb_draw_picture.specs.declared.knot.Knot.{Knot}
 
 -- behind the first i marks: with the events of the others these are those of all

@@ -18,6 +18,7 @@ use Rattle.pb_draw_picture.specs.declared.sizes.TheConstants.{MIDDLE}
 sign_x : (names : NameTable) (labels : List ProcessLabels) (x y : ℕ) (pick : Pick) (source : Option ℕ) (what : Happening)
     → (sign_for names labels x y pick source what).x ≡ x
 sign_x names labels x y pick source (happening.Did event) = refl
+sign_x names labels x y pick source (happening.Read integer value) = refl
 sign_x names labels x y pick source (happening.Assigned integer value) = refl
 
 pub signs_rise : (names : NameTable) (labels : List ProcessLabels) (places : Places) (marks : List Mark) → IsAxis marks places.x

@@ -1,5 +1,5 @@
 -- The bars of the holds: of each hold one, with its bundle.
-use Rattle.std.specs.Prelude.{ℕ, ◌+◌, List, [], ◌∷◌, Option, Some, None}
+use Rattle.std.specs.Prelude.{ℕ, ◌+◌, List, [], ◌∷◌, Option, Some, None, map}
 use Rattle.pb_base.specs.Lines.{NameTable}
 use Rattle.pb_base.specs.declared.pair.Pair.{Pair}
 use Rattle.pb_draw.specs.declared.drawing.Bar.{Bar}
@@ -22,25 +22,23 @@ colour_of [] = 0
 colour_of (pair ∷ bundle) = pair.resource
 
 -- the bar of a hold: from the position behind the pick that takes it to that behind the pick that gives it back
-abbrev pub hold_at : Places → (k : ℕ) → Bar → Rect
-hold_at places k bar =
-    rect_to (Hold (colour_of bar.bundle)) (places.x (bar.taken + 1)) (end_of places (behind bar.returned)) (hold_y places bar.pick k) BAR
+abbrev pub hold_at : Places → Bar → Rect
+hold_at places bar =
+    rect_to (Hold (colour_of bar.bundle)) (places.x (bar.taken + 1)) (end_of places (behind bar.returned)) (hold_y places bar) BAR
 
 -- its bundle is written in it
-abbrev pub bundle_at : NameTable → Places → (k : ℕ) → Bar → Text
-bundle_at names places k bar = record {
+abbrev pub bundle_at : NameTable → Places → Bar → Text
+bundle_at names places bar = record {
   kind = Bundle;
   x = places.x (bar.taken + 1) + BUNDLE_RIGHT;
-  y = hold_y places bar.pick k + BUNDLE_DOWN;
+  y = hold_y places bar + BUNDLE_DOWN;
   text = bundle_text names bar.bundle;
 }
 
--- the bars of holds, numbered from k on
-abbrev pub holds_from : Places → (k : ℕ) → List Bar → List Rect
-holds_from places k [] = []
-holds_from places k (bar ∷ bars) = hold_at places k bar ∷ holds_from places (k + 1) bars
+-- the bars of holds
+abbrev pub holds : Places → List Bar → List Rect
+holds places bars = map (hold_at places) bars
 
 -- and their bundles
-abbrev pub bundles_from : NameTable → Places → (k : ℕ) → List Bar → List Text
-bundles_from names places k [] = []
-bundles_from names places k (bar ∷ bars) = bundle_at names places k bar ∷ bundles_from names places (k + 1) bars
+abbrev pub bundles : NameTable → Places → List Bar → List Text
+bundles names places bars = map (bundle_at names places) bars

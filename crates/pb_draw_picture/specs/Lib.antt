@@ -1,6 +1,7 @@
 pub mod Axis
 pub mod Curves
 pub mod Grounds
+pub mod Heads
 pub mod Holds
 pub mod Lanes
 pub mod Marks

@@ -7,7 +7,7 @@ use Rattle.pb_draw_picture.specs.declared.picture.LabelKind.TheVariants.{Name, A
 use Rattle.pb_draw_picture.specs.declared.picture.RectKind.{RectKind}
 use Rattle.pb_draw_picture.specs.declared.picture.RectKind.TheVariants.{Gap, Going, Short, KeptBack, Hold, Cash, Level}
 use Rattle.pb_draw_picture.specs.declared.picture.TickKind.{TickKind}
-use Rattle.pb_draw_picture.specs.declared.picture.TickKind.TheVariants.{Grant, Return, Print, Fault, End, Assign}
+use Rattle.pb_draw_picture.specs.declared.picture.TickKind.TheVariants.{Grant, Return, Print, Fault, End, Read, Assign}
 use Rattle.pb_draw_picture.specs.declared.picture.Label.{Label}
 use Rattle.pb_draw_picture.specs.declared.picture.Picture.{Picture}
 use Rattle.pb_draw_picture.specs.declared.picture.Rect.{Rect}
@@ -42,13 +42,14 @@ label_word Amount = codes "amount"
 label_word Note = codes "note"
 label_word Deadlock = codes "deadlock"
 
--- the word for what an event is
+-- the word for what a mark stands for
 abbrev pub tick_word : TickKind → List ℕ
 tick_word Grant = codes "grant"
 tick_word Return = codes "return"
 tick_word Print = codes "print"
 tick_word Fault = codes "fault"
 tick_word End = codes "end"
+tick_word Read = codes "read"
 tick_word Assign = codes "assign"
 
 -- the outline of a mark, from its place on
@@ -58,6 +59,7 @@ outline Return = codes "m0-6v12l-7-6z"
 outline Print = codes "m-4 0a4 4 0 1 0 8 0a4 4 0 1 0-8 0z"
 outline Fault = codes "m-5-5l10 10m0-10l-10 10"
 outline End = codes "m-4-4h8v8h-8z"
+outline Read = codes "m-4 0l4-4l4 4l-4 4z"
 outline Assign = codes "m-4 0l4-4l4 4l-4 4z"
 
 -- a rectangle
@@ -91,7 +93,7 @@ tick_text t =
 
 -- what each kind of shape looks like
 unfoldable pub style : List ℕ
-style = codes "\">\n<title>A run, pick by pick</title>\n<style>\ntext{font:11px monospace;fill:#000}\npath{fill:#000}\n.name{font-weight:bold}\n.number,.silent,.note,.again,.wait text{fill:#555;font-size:10px}\n.amount{font-size:10px}\n.paper{fill:#fff}\n.gap{fill:#eee}\n.going{fill:#999}\n.short{fill:url(#hatch);stroke:#000;stroke-width:.5}\n.kept{fill:url(#dots);stroke:#000;stroke-width:.5}\n.hatch{stroke:#000}\n.deadlock{fill:#c00;font-weight:bold}\n.hold{stroke:#000;stroke-width:.5}\n.level{fill:#333}\n.r0{fill:#bfe1f6}\n.r1{fill:#f7dca3}\n.r2{fill:#a3dccb}\n.r3{fill:#edcbdd}\n.r4{fill:#f9f5b9}\n.r5{fill:#8fb8dc}\n.r6{fill:#f1c4a6}\n.r7{fill:#d9d9d9}\n.print path{fill:#fff;stroke:#000;stroke-width:1.5}\n.fault path{stroke:#c00;stroke-width:2.5}\n.assign path{fill:#fff;stroke:#000}\n@media (prefers-color-scheme:dark){\ntext{fill:#eee}\npath{fill:#eee}\n.number,.silent,.note,.again,.wait text{fill:#aaa}\n.paper{fill:#1b1b1b}\n.gap{fill:#333}\n.going{fill:#888}\n.short,.kept{stroke:#eee}\n.hatch{stroke:#eee}\n.deadlock{fill:#f66}\n.hold{stroke:#eee}\n.level{fill:#ddd}\n.r0{fill:#1f5f86}\n.r1{fill:#7a5600}\n.r2{fill:#00604a}\n.r3{fill:#74405d}\n.r4{fill:#6b6600}\n.r5{fill:#00436a}\n.r6{fill:#7d3800}\n.r7{fill:#555}\n.print path,.assign path{fill:#1b1b1b;stroke:#eee}\n.fault path{stroke:#f66}\n}\n</style>\n<defs><pattern id=\"hatch\" width=\"5\" height=\"5\" patternUnits=\"userSpaceOnUse\"><path class=\"hatch\" d=\"M0 5L5 0\"/></pattern><pattern id=\"dots\" width=\"8\" height=\"8\" patternUnits=\"userSpaceOnUse\"><path d=\"M2 4a2 2 0 1 0 4 0a2 2 0 1 0-4 0z\"/></pattern></defs>\n<rect class=\"paper\" width=\"100%\" height=\"100%\"/>\n"
+style = codes "\">\n<title>A run, pick by pick</title>\n<style>\ntext{font:11px monospace;fill:#000}\npath{fill:#000}\n.name{font-weight:bold}\n.number,.silent,.note,.again,.wait text{fill:#555;font-size:10px}\n.amount{font-size:10px}\n.paper{fill:#fff}\n.gap{fill:#eee}\n.going{fill:#999}\n.short{fill:url(#hatch);stroke:#000;stroke-width:.5}\n.kept{fill:url(#dots);stroke:#000;stroke-width:.5}\n.hatch{stroke:#000}\n.deadlock{fill:#c00;font-weight:bold}\n.hold{stroke:#000;stroke-width:.5}\n.level{fill:#333}\n.r0{fill:#bfe1f6}\n.r1{fill:#f7dca3}\n.r2{fill:#a3dccb}\n.r3{fill:#edcbdd}\n.r4{fill:#f9f5b9}\n.r5{fill:#8fb8dc}\n.r6{fill:#f1c4a6}\n.r7{fill:#d9d9d9}\n.print path{fill:#fff;stroke:#000;stroke-width:1.5}\n.fault path{stroke:#c00;stroke-width:2.5}\n.read path{fill:#fff;stroke:#000}\n@media (prefers-color-scheme:dark){\ntext{fill:#eee}\npath{fill:#eee}\n.number,.silent,.note,.again,.wait text{fill:#aaa}\n.paper{fill:#1b1b1b}\n.gap{fill:#333}\n.going{fill:#888}\n.short,.kept{stroke:#eee}\n.hatch{stroke:#eee}\n.deadlock{fill:#f66}\n.hold{stroke:#eee}\n.level{fill:#ddd}\n.r0{fill:#1f5f86}\n.r1{fill:#7a5600}\n.r2{fill:#00604a}\n.r3{fill:#74405d}\n.r4{fill:#6b6600}\n.r5{fill:#00436a}\n.r6{fill:#7d3800}\n.r7{fill:#555}\n.print path,.read path{fill:#1b1b1b;stroke:#eee}\n.fault path{stroke:#f66}\n}\n</style>\n<defs><pattern id=\"hatch\" width=\"5\" height=\"5\" patternUnits=\"userSpaceOnUse\"><path class=\"hatch\" d=\"M0 5L5 0\"/></pattern><pattern id=\"dots\" width=\"8\" height=\"8\" patternUnits=\"userSpaceOnUse\"><path d=\"M2 4a2 2 0 1 0 4 0a2 2 0 1 0-4 0z\"/></pattern></defs>\n<rect class=\"paper\" width=\"100%\" height=\"100%\"/>\n"
 
 -- how wide a picture is shown: a percentage of the width that is asked for, or of its own
 abbrev pub shown_width : Size → Picture → ℕ

@@ -45,11 +45,16 @@ integer_in (Some labels) x = name_of labels.integers x
 abbrev pub integer_text : List ProcessLabels → (p x : ℕ) → List ℕ
 integer_text labels p x = integer_in (slice_get labels p) x
 
--- an assignment: `x 1`
-abbrev pub assigned_text : List ProcessLabels → (p x : ℕ) → ℤ → List ℕ
-assigned_text labels p x value = integer_text labels p x ++ codes " " ++ signed_decimal value
+-- an integer that is read or assigned to, with its value: `x 1`
+abbrev pub value_text : List ProcessLabels → (p x : ℕ) → ℤ → List ℕ
+value_text labels p x value = integer_text labels p x ++ codes " " ++ signed_decimal value
 
--- and as the title of its mark: `P.a x := 1`
+-- a read as the title of its mark: `P.a read x 1`
+abbrev pub read_line : NameTable → List ProcessLabels → Pick → (x : ℕ) → ℤ → List ℕ
+read_line names labels pick x value =
+    pick_text names pick ++ codes " read " ++ integer_text labels pick.process x ++ codes " " ++ signed_decimal value
+
+-- and an assignment: `P.a x := 1`
 abbrev pub assignment_line : NameTable → List ProcessLabels → Pick → (x : ℕ) → ℤ → List ℕ
 assignment_line names labels pick x value =
     pick_text names pick ++ codes " " ++ integer_text labels pick.process x ++ codes " := " ++ signed_decimal value
@@ -57,7 +62,8 @@ assignment_line names labels pick x value =
 -- what is written of what a pick shows, for which there is room
 abbrev pub caption_of : NameTable → List ProcessLabels → Pick → (source : Option ℕ) → Happening → List ℕ
 caption_of names labels pick source (happening.Did event) = caption names source event
-caption_of names labels pick source (happening.Assigned x value) = assigned_text labels pick.process x value
+caption_of names labels pick source (happening.Read x value) = value_text labels pick.process x value
+caption_of names labels pick source (happening.Assigned x value) = value_text labels pick.process x value
 
 -- `, P` for each of these processes
 abbrev pub listed_text : NameTable → List ℕ → List ℕ

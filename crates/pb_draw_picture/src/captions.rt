@@ -24,7 +24,7 @@ pub(crate) fn number_text(alloc: Global, number: u64, words: &[u8]) -> Result<Ve
 }
 
 /// Appends the name with a number to `text`, if there is one.
-fn put_name(text: &mut Vec<u8>, names: &[Vec<u8>], i: usize) -> Result<(), NoMemory>
+pub(crate) fn put_name(text: &mut Vec<u8>, names: &[Vec<u8>], i: usize) -> Result<(), NoMemory>
     ensures { OnOk result (text.new.items ≡ text.old.items ++ name_of (map (λ name. name.items) names.now) i) }
 {
     match names.get(i) {
@@ -150,15 +150,15 @@ fn put_integer(text: &mut Vec<u8>, labels: &Labels, p: usize, x: usize) -> Resul
     }
 }
 
-/// Returns an assignment, `x 1`.
-pub(crate) fn assigned_text(
+/// Returns an integer that is read or assigned to, with its value, `x 1`.
+pub(crate) fn integer_text(
     alloc: Global,
     labels: &Labels,
     pick: Pick,
     x: u8,
     value: i64,
 ) -> Result<Vec<u8>, NoMemory>
-    ensures { IfOk result (λ text. text.items ≡ spec.assigned_text (labels_view labels.now) pick.process x value) }
+    ensures { IfOk result (λ text. text.items ≡ spec.value_text (labels_view labels.now) pick.process x value) }
 {
     let mut text = Vec::new(alloc);
     put_integer(&mut text, labels, usize::from(pick.process), usize::from(x))?;
@@ -184,6 +184,24 @@ pub(crate) fn assignment_line(
     Ok(text)
 }
 
+/// Returns a read with its arm, `P.a read x 1`.
+pub(crate) fn read_line(
+    alloc: Global,
+    names: &Names,
+    labels: &Labels,
+    pick: Pick,
+    x: u8,
+    value: i64,
+) -> Result<Vec<u8>, NoMemory>
+    ensures { IfOk result (λ text. text.items ≡ spec.read_line (names_view names.now) (labels_view labels.now) pick x value) }
+{
+    let mut text = arm_text(alloc, names, pick)?;
+    put(&mut text, b" read ")?;
+    put_integer(&mut text, labels, usize::from(pick.process), usize::from(x))?;
+    put_number(&mut text, b" ", value)?;
+    Ok(text)
+}
+
 /// Returns what is written of what a pick shows, for which there is room.
 pub(crate) fn caption_of(
     alloc: Global,
@@ -198,9 +216,10 @@ pub(crate) fn caption_of(
 {
     match what {
         Happening::Did(event) => caption(alloc, names, line, event),
-        Happening::Assigned { integer, value } => assigned_text(
-            alloc, labels, pick, *integer, *value,
-        ),
+        Happening::Read { integer, value } => integer_text(alloc, labels, pick, *integer, *value),
+        Happening::Assigned { integer, value } => {
+            integer_text(alloc, labels, pick, *integer, *value)
+        }
     }
 }
 

@@ -7,7 +7,7 @@ ghost use Rattle.pb_draw_picture.specs.Axis.{AreKnots, IsAxis, IsChain};
 ghost use Rattle.pb_draw_picture.specs.Axis as axis;
 ghost use Rattle.pb_draw_picture.specs.Places as spec;
 ghost use Rattle.pb_draw.specs.Arms.{AreDifferent};
-ghost use Rattle.pb_draw_picture.specs.Rows.{AreStacked, AreWithin};
+ghost use Rattle.pb_draw_picture.specs.Rows.{AreStacked, HaveNoLine};
 
 use crate::axis::{axis_of, x_of};
 use crate::knot::Knot;
@@ -16,17 +16,15 @@ use crate::rows::{rows_of, track_of};
 use crate::sizes::{BETWEEN, CHARACTER, HOLD, LOWEST, MAX_NAME, MAX_ROWS, NAME_SIDE, TOP, TRACK};
 use pb_base::{Names, NoMemory, Pick};
 use pb_code::Labels;
-use pb_draw::Drawing;
+use pb_draw::{Bar, Drawing};
 use std::alloc::Global;
 
-/// The axis, the position at which it ends, the rows of the arms, the depth of each hold by its number, and
-/// where the rows end.
+/// The axis, the position at which it ends, the rows of the arms, and where the rows end.
 #[derive(Drop)]
 pub(crate) struct Grid {
     pub knots: Vec<Knot>,
     pub end: u64,
     pub rows: Vec<Row>,
-    pub depths: Vec<u32>,
     pub bottom: u64,
 }
 
@@ -68,23 +66,21 @@ impl Grid {
         track_of(&self.rows, pick)
     }
 
-    /// Returns below how many others a hold is.
-    fn depth(&self, k: usize) -> u32
-        ensures { result ≡ (spec.places_of self.now).depth k }
-    {
-        match self.depths.get(k) {
-            Some(depth) => *depth,
-            None => 0,
-        }
-    }
-
     /// Returns where the bar of a hold is.
-    pub(crate) fn hold_y(&self, pick: Pick, k: usize) -> u64
-        ensures y { result ≡ spec.hold_y (spec.places_of self.now) pick k }
+    pub(crate) fn hold_y(&self, bar: &Bar) -> u64
+        ensures y { result ≡ spec.hold_y (spec.places_of self.now) bar.now }
         ensures high { result ≤ 2 ^ 63 + 2 ^ 40 }
     {
-        self.line(pick) + TRACK + BETWEEN + u64::from(self.depth(k)) * HOLD
+        self.line(bar.pick) + TRACK + BETWEEN + depth_of(bar) * HOLD
     }
+}
+
+/// Returns in how many others of its arm a hold is.
+fn depth_of(bar: &Bar) -> u64
+    ensures depth { result ≡ bar.now.depth }
+    ensures few { result ≤ 2 ^ 32 }
+{
+    u64::from(bar.depth)
 }
 
 /// Returns how many characters the longest of some names has.
@@ -121,8 +117,8 @@ pub(crate) fn grid_of(
     ensures end { IfOk result (λ grid. grid.end ≡ drawing.now.picks + 1) }
     ensures bottom { IfOk result (λ grid. grid.bottom ≤ LOWEST) }
     ensures rows { IfOk result (λ grid. AreDifferent (map (λ lane. lane.pick) drawing.now.lanes.items)
-        → length drawing.now.lanes.items ≤ MAX_ROWS → AreStacked (spec.places_of grid) TOP drawing.now.lanes.items grid.bottom) }
-    ensures within { IfOk result (λ grid. AreWithin (spec.places_of grid) drawing.now.lanes.items drawing.now.bars.items) }
+        → length drawing.now.lanes.items ≤ MAX_ROWS → AreStacked (spec.places_of grid) drawing.now.bars.items TOP drawing.now.lanes.items grid.bottom) }
+    ensures others { IfOk result (λ grid. HaveNoLine (spec.places_of grid) drawing.now.lanes.items) }
 {
     let knots = axis_of(
         alloc,
@@ -132,12 +128,11 @@ pub(crate) fn grid_of(
         drawing.picks,
         left_of(names),
     )?;
-    let rows = rows_of(alloc, drawing)?;
+    let (rows, bottom) = rows_of(alloc, &drawing.lanes, &drawing.bars)?;
     Ok(Grid {
         knots,
         end: u64::from(drawing.picks) + 1,
-        rows: rows.rows,
-        depths: rows.depths,
-        bottom: rows.end,
+        rows,
+        bottom,
     })
 }

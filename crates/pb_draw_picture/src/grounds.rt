@@ -1,6 +1,6 @@
 //! The grounds of the stretches that are shortened, and what is said below a picture.
 
-ghost use Rattle.std.specs.Prelude.{◌≡◌, ◌≤◌, ◌++◌, ◌^◌, IfOk, OnOk, map};
+ghost use Rattle.std.specs.Prelude.{◌≡◌, ◌≤◌, ◌++◌, ◌^◌, IfOk, OnOk, cond, map};
 ghost use Rattle.pb_draw_picture.specs.Grounds as spec;
 ghost use Rattle.pb_draw_picture.specs.Shapes.{text_of};
 
@@ -9,13 +9,13 @@ use crate::knot::Knot;
 use crate::picture::{Label, LabelKind, Rect, RectKind};
 use crate::shapes::rect_to;
 use crate::sizes::{
-    DEADLOCK_DOWN, GAP_TEXT, GAP_TOP, LINE_NOTE_DOWN, MARGIN, MARK_NOTE_DOWN, MAX_SILENT, NOTE_DOWN,
+    GAP_TEXT, GAP_TOP, LEFT_OUT_DOWN, LINE_NOTE_DOWN, MARGIN, MARK_NOTE_DOWN, MAX_SILENT, NOTE_DOWN,
 };
 use pb_base::NoMemory;
+use pb_draw::Integers;
 use std::alloc::Global;
 
-/// What is said below a picture: how time goes, what lines are, what bars and marks are, and that the run ends in a
-/// deadlock.
+/// What is said below a picture: how time goes, what lines are, and what bars and marks are.
 pub(crate) const NOTE: &[u8] =
     b"time goes from left to right, pick by pick, with the numbers of picks above. grey: shortened";
 
@@ -23,9 +23,14 @@ pub(crate) const LINE_NOTE: &[u8] =
     b"line: an arm. hatched: asks for more than is there. dotted: kept back, else those named could not finish";
 
 pub(crate) const MARK_NOTE: &[u8] =
-    b"bar: what it holds. triangle: taken or given back, circle: print, cross: fault, square: end, diamond: assigned";
+    b"bar: a hold. triangle: grant or return, circle: print, cross: fault, square: end, diamond: assigned, open: read";
 
-pub(crate) const DEADLOCK_NOTE: &[u8] = b"deadlock: no arm can go on";
+/// What is said below it if reads, or reads and assignments, are left out.
+pub(crate) const READS_NOTE: &[u8] =
+    b"more than 100 picks assign to an integer or read one: reads are not drawn";
+
+pub(crate) const INTEGERS_NOTE: &[u8] =
+    b"more than 100 picks assign to an integer: assignments and reads are not drawn";
 
 /// Adds the ground of the stretch behind an event, if it is shortened.
 fn add_gap(rects: &mut Vec<Rect>, knot: &Knot, bottom: u64) -> Result<(), NoMemory>
@@ -85,11 +90,11 @@ pub(crate) fn silents_of(alloc: Global, knots: &[Knot]) -> Result<Vec<Label>, No
 }
 
 /// Returns a text that is known.
-fn note_at(alloc: Global, kind: LabelKind, y: u64, text: &[u8]) -> Result<Label, NoMemory>
-    ensures { IfOk result (λ l. text_of l ≡ record { kind = kind; x = MARGIN; y = y; text = text.now }) }
+fn note_at(alloc: Global, y: u64, text: &[u8]) -> Result<Label, NoMemory>
+    ensures { IfOk result (λ l. text_of l ≡ record { kind = LabelKind.Note; x = MARGIN; y = y; text = text.now }) }
 {
     Ok(Label {
-        kind,
+        kind: LabelKind::Note,
         x: MARGIN,
         y,
         text: Vec::from_slice(alloc, text)?,
@@ -117,32 +122,46 @@ fn mark_note() -> &'static [u8]
     MARK_NOTE
 }
 
-/// Returns what is said of a run that ends in a deadlock.
-fn deadlock_note() -> &'static [u8]
-    ensures { result.now ≡ spec.deadlock_note }
+/// Returns what is said if reads are left out.
+fn reads_note() -> &'static [u8]
+    ensures { result.now ≡ spec.reads_note }
 {
-    DEADLOCK_NOTE
+    READS_NOTE
 }
 
-/// Adds that a run ends in a deadlock, if it does.
-fn add_deadlock(
+/// Returns what is said if reads and assignments are left out.
+fn integers_note() -> &'static [u8]
+    ensures { result.now ≡ spec.integers_note }
+{
+    INTEGERS_NOTE
+}
+
+/// Returns what is said if reads are left out, and assignments are drawn or not.
+fn left_out_note(assignments: bool) -> &'static [u8]
+    ensures { result.now ≡ cond assignments spec.reads_note spec.integers_note }
+{
+    if assignments {
+        reads_note()
+    } else {
+        integers_note()
+    }
+}
+
+/// Adds what of the integers is left out, if something is.
+fn add_left_out(
     alloc: Global,
     foot: u64,
-    deadlock: bool,
+    integers: Integers,
     labels: &mut Vec<Label>,
 ) -> Result<(), NoMemory>
     requires { foot ≤ 2 ^ 63 }
-    ensures { OnOk result (map text_of labels.new.items ≡ map text_of labels.old.items ++ spec.deadlock_notes foot deadlock) }
+    ensures { OnOk result (map text_of labels.new.items ≡ map text_of labels.old.items ++ spec.left_out foot integers) }
 {
-    if deadlock {
-        let note = note_at(
-            alloc,
-            LabelKind::Deadlock,
-            foot + DEADLOCK_DOWN,
-            deadlock_note(),
-        )?;
-        labels.push(note)?;
+    if integers.reads {
+        return Ok(());
     }
+    let words = left_out_note(integers.assignments);
+    labels.push(note_at(alloc, foot + LEFT_OUT_DOWN, words)?)?;
     Ok(())
 }
 
@@ -150,14 +169,14 @@ fn add_deadlock(
 pub(crate) fn add_notes(
     alloc: Global,
     foot: u64,
-    deadlock: bool,
+    integers: Integers,
     labels: &mut Vec<Label>,
 ) -> Result<(), NoMemory>
     requires { foot ≤ 2 ^ 63 }
-    ensures { OnOk result (map text_of labels.new.items ≡ map text_of labels.old.items ++ spec.notes foot deadlock) }
+    ensures { OnOk result (map text_of labels.new.items ≡ map text_of labels.old.items ++ spec.notes foot integers) }
 {
-    labels.push(note_at(alloc, LabelKind::Note, foot + NOTE_DOWN, time_note())?)?;
-    labels.push(note_at(alloc, LabelKind::Note, foot + LINE_NOTE_DOWN, line_note())?)?;
-    labels.push(note_at(alloc, LabelKind::Note, foot + MARK_NOTE_DOWN, mark_note())?)?;
-    add_deadlock(alloc, foot, deadlock, labels)
+    labels.push(note_at(alloc, foot + NOTE_DOWN, time_note())?)?;
+    labels.push(note_at(alloc, foot + LINE_NOTE_DOWN, line_note())?)?;
+    labels.push(note_at(alloc, foot + MARK_NOTE_DOWN, mark_note())?)?;
+    add_left_out(alloc, foot, integers, labels)
 }

@@ -37,9 +37,9 @@ fn colour_of(bundle: &Bundle) -> usize
 }
 
 /// Returns the bar of a hold.
-fn hold_at(grid: &Grid, k: usize, bar: &Bar) -> Rect
+fn hold_at(grid: &Grid, bar: &Bar) -> Rect
     requires { IsChain grid.now.knots.items }
-    ensures { result ≡ spec.hold_at (places_of grid.now) k bar.now }
+    ensures { result ≡ spec.hold_at (places_of grid.now) bar.now }
 {
     let x = grid.x(u64::from(bar.taken) + 1);
     let to = grid.x_or_end(behind(bar.returned));
@@ -47,7 +47,7 @@ fn hold_at(grid: &Grid, k: usize, bar: &Bar) -> Rect
         RectKind::Hold(colour_of(&bar.bundle)),
         x,
         to,
-        grid.hold_y(bar.pick, k),
+        grid.hold_y(bar),
         BAR,
     )
 }
@@ -55,31 +55,25 @@ fn hold_at(grid: &Grid, k: usize, bar: &Bar) -> Rect
 /// Adds the bars of holds.
 pub(crate) fn add_holds(rects: &mut Vec<Rect>, grid: &Grid, bars: &[Bar]) -> Result<(), NoMemory>
     requires { IsChain grid.now.knots.items }
-    ensures { OnOk result (rects.new.items ≡ rects.old.items ++ spec.holds_from (places_of grid.now) 0 bars.now) }
+    ensures { OnOk result (rects.new.items ≡ rects.old.items ++ spec.holds (places_of grid.now) bars.now) }
 {
-    for k in 0..bars.len() {
-        let hold = hold_at(grid, k, &bars[k]);
+    for i in 0..bars.len() {
+        let hold = hold_at(grid, &bars[i]);
         rects.push(hold)?;
     }
     Ok(())
 }
 
 /// Returns the bundle of a hold, in its bar.
-fn bundle_at(
-    alloc: Global,
-    names: &Names,
-    grid: &Grid,
-    k: usize,
-    bar: &Bar,
-) -> Result<Label, NoMemory>
+fn bundle_at(alloc: Global, names: &Names, grid: &Grid, bar: &Bar) -> Result<Label, NoMemory>
     requires { IsChain grid.now.knots.items }
-    ensures { IfOk result (λ l. text_of l ≡ spec.bundle_at (names_view names.now) (places_of grid.now) k bar.now) }
+    ensures { IfOk result (λ l. text_of l ≡ spec.bundle_at (names_view names.now) (places_of grid.now) bar.now) }
 {
     let text = bundle_text(alloc, names, &bar.bundle)?;
     Ok(Label {
         kind: LabelKind::Bundle,
         x: grid.x(u64::from(bar.taken) + 1) + BUNDLE_RIGHT,
-        y: grid.hold_y(bar.pick, k) + BUNDLE_DOWN,
+        y: grid.hold_y(bar) + BUNDLE_DOWN,
         text,
     })
 }
@@ -94,10 +88,10 @@ pub(crate) fn add_bundles(
 ) -> Result<(), NoMemory>
     requires { IsChain grid.now.knots.items }
     ensures { OnOk result (map text_of labels.new.items ≡
-        map text_of labels.old.items ++ spec.bundles_from (names_view names.now) (places_of grid.now) 0 bars.now) }
+        map text_of labels.old.items ++ spec.bundles (names_view names.now) (places_of grid.now) bars.now) }
 {
-    for k in 0..bars.len() {
-        let bundle = bundle_at(alloc, names, grid, k, &bars[k])?;
+    for i in 0..bars.len() {
+        let bundle = bundle_at(alloc, names, grid, &bars[i])?;
         labels.push(bundle)?;
     }
     Ok(())

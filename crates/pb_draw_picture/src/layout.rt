@@ -12,13 +12,15 @@ ghost use Rattle.pb_draw_picture.specs.Shapes.{text_of};
 use crate::curves::{add_curve_texts, add_curves};
 use crate::grid::{Grid, grid_of};
 use crate::grounds::{add_notes, gaps_of, silents_of};
+use crate::heads::{add_head, head_of, width_for};
 use crate::holds::{add_bundles, add_holds};
 use crate::lanes::{add_lines, add_names};
 use crate::marks::{add_numbers, marks_of};
 use crate::picture::{Label, Picture, Rect};
-use crate::sizes::{BOTTOM, CURVE_ROW, LOWEST, MIN_WIDTH, RIGHT};
+use crate::sizes::{BOTTOM, CURVE_ROW, LOWEST};
 use crate::waits::waits_of;
 use pb_base::{Capital, Names, NoMemory};
+use pb_circles::Link;
 use pb_code::Labels;
 use pb_draw::Drawing;
 use std::alloc::Global;
@@ -61,30 +63,27 @@ fn labels_of(
     capital: &Capital,
     grid: &Grid,
     drawing: &Drawing,
-    deadlock: bool,
+    head: Vec<u8>,
 ) -> Result<Vec<Label>, NoMemory>
     requires chain { IsChain grid.now.knots.items }
     requires bottom { grid.now.bottom ≤ LOWEST }
     requires curves { length drawing.now.curves.items ≡ length capital.now }
     ensures { IfOk result (λ labels.
-        spec.AreTexts (names_view names.now) capital.now drawing.now deadlock (places_of grid.now) grid.now.knots.items (map text_of labels.items)) }
+        spec.AreTexts (names_view names.now) capital.now drawing.now head.items (places_of grid.now) grid.now.knots.items (map text_of labels.items)) }
 {
     let mut labels = silents_of(alloc, &grid.knots)?;
     add_numbers(alloc, grid, &drawing.marks, &mut labels)?;
     add_names(alloc, names, grid, &drawing.lanes, &mut labels)?;
     add_bundles(alloc, names, grid, &drawing.bars, &mut labels)?;
     add_curve_texts(alloc, names, grid, capital, &drawing.curves, &mut labels)?;
-    add_notes(
-        alloc,
-        foot_of_all(grid, capital, drawing),
-        deadlock,
-        &mut labels,
-    )?;
+    let foot = foot_of_all(grid, capital, drawing);
+    add_notes(alloc, foot, drawing.integers, &mut labels)?;
+    add_head(head, &mut labels)?;
     Ok(labels)
 }
 
 /// Returns the picture of a drawing, with the names, the labels and the capital of its code, and whether its run ends in a
-/// deadlock.
+/// deadlock, with the circular wait that is told then.
 pub fn lay_out(
     alloc: Global,
     names: &Names,
@@ -92,19 +91,22 @@ pub fn lay_out(
     capital: &Capital,
     drawing: &Drawing,
     deadlock: bool,
+    circle: &[Link],
 ) -> Result<Picture, NoMemory>
     requires named { All (λ m. IsNamed (names_view names.now) m.what) drawing.now.marks.items }
     requires curves { length drawing.now.curves.items ≡ length capital.now }
     requires resources { length (names_view names.now).resources ≡ length capital.now }
-    ensures { IfOk result (spec.IsLayout (names_view names.now) (labels_view labels.now) capital.now drawing.now deadlock) }
+    ensures { IfOk result (spec.IsLayout (names_view names.now) (labels_view labels.now) capital.now drawing.now deadlock circle.now) }
 {
     let grid = grid_of(alloc, names, labels, drawing)?;
     let rects = rects_of(alloc, capital, &grid, drawing)?;
     let waits = waits_of(alloc, names, &grid, &drawing.lanes)?;
-    let texts = labels_of(alloc, names, capital, &grid, drawing, deadlock)?;
+    let head = head_of(alloc, names, deadlock, circle)?;
+    let width = width_for(grid.right(), head.as_slice());
+    let texts = labels_of(alloc, names, capital, &grid, drawing, head)?;
     let ticks = marks_of(alloc, names, labels, &grid, &drawing.marks)?;
     Ok(Picture {
-        width: (grid.right() + RIGHT).max(MIN_WIDTH),
+        width,
         height: foot_of_all(&grid, capital, drawing) + BOTTOM,
         rects,
         waits,

@@ -6,6 +6,7 @@ mod captions;
 mod curves;
 mod grid;
 mod grounds;
+mod heads;
 mod holds;
 mod knot;
 mod lanes;

@@ -1,4 +1,4 @@
-//! The marks of events and assignments, and the numbers of their picks.
+//! The marks of events, reads and assignments, and the numbers of their picks.
 
 ghost use Rattle.std.specs.Prelude.{◌≡◌, ◌≤◌, ◌++◌, ◌+◌, ◌^◌, [], All, IfOk, OnOk, length, map};
 ghost use Rattle.pb_base.specs.Lines.{HasNames, names_view};
@@ -10,7 +10,7 @@ ghost use Rattle.pb_draw_picture.specs.Places.{places_of};
 ghost use Rattle.pb_draw_picture.specs.Shapes.{sign_of, text_of};
 ghost use Rattle.std.specs.Fmt.{decimal};
 
-use crate::captions::{assigned_text, assignment_line, label_of, number_text};
+use crate::captions::{assignment_line, integer_text, label_of, number_text, read_line};
 use crate::grid::Grid;
 use crate::picture::{Label, LabelKind, Tick, TickKind};
 use crate::sizes::{LABEL_LEFT, LABEL_UP, MIDDLE, NUMBER_Y};
@@ -32,8 +32,23 @@ fn kind_of(event: &Event) -> TickKind
     }
 }
 
+/// Returns a mark at a place, with its title and with the text beside it.
+fn mark_at(kind: TickKind, x: u64, y: u64, title: Vec<u8>, label: Vec<u8>) -> Tick
+    ensures { sign_of result ≡ spec.sign_at kind x y title.items label.items }
+{
+    Tick {
+        kind,
+        x,
+        y,
+        title,
+        label,
+        label_x: x.saturating_sub(LABEL_LEFT),
+        label_y: y.saturating_sub(LABEL_UP),
+    }
+}
+
 /// Returns the mark of an event of a source line at a place.
-fn mark_at(
+fn event_at(
     alloc: Global,
     names: &Names,
     x: u64,
@@ -42,19 +57,30 @@ fn mark_at(
     event: &Event,
 ) -> Result<Tick, NoMemory>
     requires { HasNames (names_view names.now) event.now }
-    ensures { IfOk result (λ t. sign_of t ≡ spec.sign_at (names_view names.now) x y line event.now) }
+    ensures { IfOk result (λ t. sign_of t ≡ spec.event_at (names_view names.now) x y line event.now) }
 {
     let title = event_line(alloc, names, event)?;
     let label = label_of(alloc, names, line, event)?;
-    Ok(Tick {
-        kind: kind_of(event),
-        x,
-        y,
-        title,
-        label,
-        label_x: x.saturating_sub(LABEL_LEFT),
-        label_y: y.saturating_sub(LABEL_UP),
-    })
+    Ok(mark_at(kind_of(event), x, y, title, label))
+}
+
+/// Returns the mark of a read at a place.
+fn read_at(
+    alloc: Global,
+    names: &Names,
+    labels: &Labels,
+    x: u64,
+    y: u64,
+    pick: Pick,
+    integer: u8,
+    value: i64,
+) -> Result<Tick, NoMemory>
+    ensures { IfOk result (λ t. sign_of t
+        ≡ spec.read_at (names_view names.now) (labels_view labels.now) x y pick integer value) }
+{
+    let title = read_line(alloc, names, labels, pick, integer, value)?;
+    let label = integer_text(alloc, labels, pick, integer, value)?;
+    Ok(mark_at(TickKind::Read, x, y, title, label))
 }
 
 /// Returns the mark of an assignment at a place.
@@ -72,16 +98,8 @@ fn assign_at(
         ≡ spec.assign_at (names_view names.now) (labels_view labels.now) x y pick integer value) }
 {
     let title = assignment_line(alloc, names, labels, pick, integer, value)?;
-    let label = assigned_text(alloc, labels, pick, integer, value)?;
-    Ok(Tick {
-        kind: TickKind::Assign,
-        x,
-        y,
-        title,
-        label,
-        label_x: x.saturating_sub(LABEL_LEFT),
-        label_y: y.saturating_sub(LABEL_UP),
-    })
+    let label = integer_text(alloc, labels, pick, integer, value)?;
+    Ok(mark_at(TickKind::Assign, x, y, title, label))
 }
 
 /// Returns the mark of what a pick shows, at a place.
@@ -98,7 +116,10 @@ fn mark_for(
         ≡ spec.sign_for (names_view names.now) (labels_view labels.now) x y mark.now.pick mark.now.line mark.now.what) }
 {
     match &mark.what {
-        Happening::Did(event) => mark_at(alloc, names, x, y, mark.line, event),
+        Happening::Did(event) => event_at(alloc, names, x, y, mark.line, event),
+        Happening::Read { integer, value } => {
+            read_at(alloc, names, labels, x, y, mark.pick, *integer, *value)
+        }
         Happening::Assigned { integer, value } => {
             assign_at(alloc, names, labels, x, y, mark.pick, *integer, *value)
         }
@@ -112,7 +133,7 @@ fn behind(mark: &Mark) -> u64
     u64::from(mark.at) + 1
 }
 
-/// Returns the marks of events and assignments.
+/// Returns the marks of events, reads and assignments.
 pub(crate) fn marks_of(
     alloc: Global,
     names: &Names,

@@ -74,7 +74,7 @@ pub struct Label {
     pub text: Vec<u8>,
 }
 
-/// What a mark stands for: the kind of an event, or an assignment.
+/// What a mark stands for: the kind of an event, a read, or an assignment.
 #[derive(Clone, Copy, Debug, PartialEq, Eq)]
 pub enum TickKind {
     Grant,
@@ -82,16 +82,17 @@ pub enum TickKind {
     Print,
     Fault,
     End,
+    Read,
     Assign,
 }
 
-/// The mark of an event or of an assignment.
+/// The mark of an event, of a read or of an assignment.
 #[derive(Drop)]
 pub struct Tick {
     pub kind: TickKind,
     pub x: u64,
     pub y: u64,
-    /// The line of the event, or the assignment, which a viewer shows when it is pointed at.
+    /// The line of the event, the read or the assignment, which a viewer shows when it is pointed at.
     pub title: Vec<u8>,
     /// What is written beside the mark, if anything.
     pub label: Vec<u8>,

@@ -1,14 +1,14 @@
 //! The rows of a picture: one for each arm that is ever live.
 
-ghost use Rattle.std.specs.Prelude.{◌≡◌, ◌<◌, ◌≤◌, ◌+◌, ◌*◌, ◌^◌, IfOk, length, slice_index_or};
+ghost use Rattle.std.specs.Prelude.{◌≡◌, ◌≤◌, ◌+◌, ◌*◌, ◌^◌, IfOk, length};
 ghost use Rattle.pb_draw_picture.specs.Rows as spec;
 ghost use Rattle.pb_draw_picture.specs.Lanes as lanes;
 ghost use Rattle.pb_draw_picture.specs.Places as places;
 
 use crate::row::Row;
 use crate::sizes::{ABOVE, BELOW, BETWEEN, HOLD, LOWEST, ROW_MOST, TOP, TRACK};
-use pb_base::{Event, NoMemory, Pick};
-use pb_draw::{Bar, Drawing, Happening, Lane, LaneStep, Mark, Standing};
+use pb_base::{NoMemory, Pick};
+use pb_draw::{Bar, Lane, LaneStep, Standing};
 use std::alloc::Global;
 
 impl Row {
@@ -76,130 +76,51 @@ pub(crate) fn is_ever_live(lane: &Lane) -> bool
     false
 }
 
-/// An arm, and how many holds it has.
-#[derive(Clone, Copy)]
-struct Held {
-    pick: Pick,
-    holds: u32,
-}
-
-/// Returns each arm with no hold.
-fn no_holds(alloc: Global, lanes: &[Lane]) -> Result<Vec<Held>, NoMemory> {
-    let mut held = Vec::new(alloc);
-    for lane in lanes {
-        held.push(Held {
-            pick: lane.pick,
-            holds: 0,
-        })?;
-    }
-    Ok(held)
-}
-
-/// Returns how many holds an arm has, and gives it one more.
-fn take_hold(held: &mut [Held], pick: Pick) -> u32 {
-    for arm in held.iter_mut() {
-        if is_arm(arm.pick, pick) {
-            let before = arm.holds;
-            arm.holds = before.saturating_add(1);
-            return before;
-        }
-    }
-    0
-}
-
-/// Takes a hold from an arm.
-fn return_hold(held: &mut [Held], pick: Pick) {
-    for arm in held.iter_mut() {
-        if is_arm(arm.pick, pick) {
-            arm.holds = arm.holds.saturating_sub(1);
-            return;
-        }
-    }
-}
-
-/// Takes all holds from a process, which has faulted.
-fn return_all(held: &mut [Held], process: u8) {
-    for arm in held.iter_mut() {
-        if arm.pick.process == process {
-            arm.holds = 0;
-        }
-    }
-}
-
-/// Returns the depth of each grant: how many holds its arm has before it.
-fn depths_of(alloc: Global, lanes: &[Lane], marks: &[Mark]) -> Result<Vec<u32>, NoMemory> {
-    let mut held = no_holds(alloc, lanes)?;
-    let mut depths = Vec::new(alloc);
-    for mark in marks {
-        match mark.what {
-            Happening::Did(Event::Granted { pick, .. }) => {
-                depths.push(take_hold(held.as_mut_slice(), pick))?
-            }
-            Happening::Did(Event::Returned { pick, .. }) => return_hold(held.as_mut_slice(), pick),
-            Happening::Did(Event::Faulted { pick, .. }) => {
-                return_all(held.as_mut_slice(), pick.process)
-            }
-            _ => {}
-        }
-    }
-    Ok(depths)
-}
-
-/// Returns the depth of the hold with a number.
-fn depth_at(depths: &[u32], k: usize) -> u32
-    ensures depth { result ≡ slice_index_or depths.now k 0 }
-    ensures few { result < 2 ^ 32 }
+/// Returns for how many holds, one below the other, an arm needs room because of a hold.
+fn room_of(pick: Pick, bar: &Bar) -> u64
+    ensures room { result ≡ spec.room_of pick bar.now }
+    ensures few { result ≤ 2 ^ 32 }
 {
-    match depths.get(k) {
-        Some(depth) => *depth,
-        None => 0,
+    if is_arm(pick, bar.pick) {
+        u64::from(bar.depth) + 1
+    } else {
+        0
     }
 }
 
 /// Returns for how many holds, one below the other, an arm needs room.
-fn room_for(pick: Pick, bars: &[Bar], depths: &[u32]) -> u64
-    ensures room { spec.HasRoom pick bars.now depths.now result }
+fn room_for(pick: Pick, bars: &[Bar]) -> u64
+    ensures room { result ≡ spec.room_for pick bars.now }
     ensures few { result ≤ 2 ^ 32 }
 {
     let mut room: u64 = 0;
-    for k in 0..bars.len() {
-        if is_arm(pick, bars[k].pick) {
-            room = room.max(u64::from(depth_at(depths, k)) + 1);
-        }
+    for bar in bars {
+        room = room.max(room_of(pick, bar));
     }
     room
 }
 
-/// The rows of the arms, the depth of each hold by its number, and where the rows end.
-#[derive(Drop)]
-pub(crate) struct Rows {
-    pub rows: Vec<Row>,
-    pub depths: Vec<u32>,
-    pub end: u64,
-}
-
 /// Returns the row of an arm at a height.
-fn row_at(y: u64, lane: &Lane, bars: &[Bar], depths: &[u32]) -> Row
+fn row_at(y: u64, lane: &Lane, bars: &[Bar]) -> Row
     requires { y ≤ LOWEST }
-    ensures row { spec.IsRowOf lane.now bars.now depths.now result }
+    ensures row { spec.IsRowOf lane.now bars.now result }
     ensures y { result.y ≡ y }
 {
     Row {
         pick: lane.pick,
         y,
         shown: is_ever_live(lane),
-        deepest: room_for(lane.pick, bars, depths),
+        deepest: room_for(lane.pick, bars),
     }
 }
 
 /// Returns the rows of arms, one below the other, and where they end.
-fn pile_of(
+pub(crate) fn rows_of(
     alloc: Global,
     lanes: &[Lane],
     bars: &[Bar],
-    depths: &[u32],
 ) -> Result<(Vec<Row>, u64), NoMemory>
-    ensures rows { IfOk result (λ made. spec.AreRowsOf lanes.now bars.now depths.now made.0.items) }
+    ensures rows { IfOk result (λ made. spec.AreRowsOf lanes.now bars.now made.0.items) }
     ensures pile { IfOk result (λ made. spec.IsPile TOP made.0.items made.1) }
     ensures low { IfOk result (λ made. made.1 ≤ TOP + length lanes.now * ROW_MOST) }
     ensures lowest { IfOk result (λ made. made.1 ≤ LOWEST) }
@@ -208,21 +129,9 @@ fn pile_of(
     let mut end = TOP;
     for i in 0..lanes.len() {
         let lane = &lanes[i];
-        let row = row_at(end, lane, bars, depths);
+        let row = row_at(end, lane, bars);
         end = (end + row.height()).min(LOWEST);
         rows.push(row)?;
     }
     Ok((rows, end))
-}
-
-/// Returns the rows of a drawing.
-pub(crate) fn rows_of(alloc: Global, drawing: &Drawing) -> Result<Rows, NoMemory>
-    ensures rows { IfOk result (λ r. spec.AreRowsOf drawing.now.lanes.items drawing.now.bars.items r.depths.items r.rows.items) }
-    ensures pile { IfOk result (λ r. spec.IsPile TOP r.rows.items r.end) }
-    ensures low { IfOk result (λ r. r.end ≤ TOP + length drawing.now.lanes.items * ROW_MOST) }
-    ensures lowest { IfOk result (λ r. r.end ≤ LOWEST) }
-{
-    let depths = depths_of(alloc, &drawing.lanes, &drawing.marks)?;
-    let (rows, end) = pile_of(alloc, &drawing.lanes, &drawing.bars, &depths)?;
-    Ok(Rows { rows, depths, end })
 }

@@ -85,10 +85,16 @@ pub const AMOUNT_RIGHT: u64 = 2;
 
 pub const AMOUNT_UP: u64 = 4;
 
-/// Where the ground of a shortened stretch begins, and where its number is written.
+/// Where the ground of a shortened stretch begins, and where its number is written: beside the numbers of picks.
 pub const GAP_TOP: u64 = 32;
 
-pub const GAP_TEXT: u64 = 14;
+pub const GAP_TEXT: u64 = 28;
+
+/// Where it is said that a run ends in a deadlock, above the numbers of picks, and the most characters of that for which
+/// there is room.
+pub const HEAD_Y: u64 = 14;
+
+pub const MAX_HEAD: u64 = 1000;
 
 /// Where what is said below a picture is, from where its rows end.
 pub const NOTE_DOWN: u64 = 24;
@@ -97,7 +103,7 @@ pub const LINE_NOTE_DOWN: u64 = 38;
 
 pub const MARK_NOTE_DOWN: u64 = 52;
 
-pub const DEADLOCK_DOWN: u64 = 68;
+pub const LEFT_OUT_DOWN: u64 = 66;
 
 /// The least width of a picture, with the room to the right of its time, and the room below its rows.
 pub const MIN_WIDTH: u64 = 680;

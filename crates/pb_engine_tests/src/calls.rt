@@ -38,8 +38,12 @@ const ONE_MORE: &[u8] =
 const ENOUGH: &[u8] =
     b"resource r = 4;\nprocess p begin hold 1 of r do\nhold 1 of r do skip od od end\nprocess q begin hold 1 of r do\nhold 1 of r do skip od od end";
 
+/// Two processes hold two resources in opposite order, and there is enough of one of them for both claims.
+const SOME: &[u8] =
+    b"resource t = 1; resource r = 4;\nprocess p begin hold 1 of t do\nhold 2 of r do skip od od end\n\nprocess q begin hold 2 of r do\nhold 1 of t do skip od od end";
+
 /// At least one call of each crate with an engine but pb_explain, and one of words that say no command.
-const CALLS: [Call; 14] = [
+const CALLS: [Call; 15] = [
     Call {
         words: "run --steps 1",
         input: b"process p begin print 1 end",
@@ -124,8 +128,16 @@ const CALLS: [Call; 14] = [
         words: "plan --lend cash",
         input: ENOUGH,
         first: b"p claim 2 r lines 2 3\nq claim 2 r lines 4 5\nr capital 4 least 2 free 4\nno request waits\n",
-        last: b"no order\np holds r line 2 around r line 3\n",
-        length: Some(130),
+        last: b"no request waits\norder\n",
+        length: Some(94),
+        status: Status::Done,
+    },
+    Call {
+        words: "plan --lend cash",
+        input: SOME,
+        first: b"p claim 1 t lines 2\np claim 2 r lines 3\nq claim 1 t lines 6\nq claim 2 r lines 5\nt capital 1 least 1 free 2\nr capital 4 least 2 free 4\n",
+        last: b"bottleneck t\norder t\n",
+        length: Some(155),
         status: Status::Done,
     },
     Call {

@@ -193,6 +193,7 @@ fn options(case: &Case) -> Option<OutcomesOptions> {
         fair: case.fair,
         expect: true,
         any_order: case.any_order,
+        endless: false,
         graph: false,
         run: None,
         deadlock: None,

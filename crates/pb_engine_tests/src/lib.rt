@@ -12,6 +12,8 @@ mod debug;
 #[cfg(test)]
 mod draw;
 #[cfg(test)]
+mod endless;
+#[cfg(test)]
 mod examples;
 #[cfg(test)]
 mod expected;
@@ -33,6 +35,8 @@ mod outcomes;
 mod places;
 #[cfg(test)]
 mod plan;
+#[cfg(test)]
+mod required;
 #[cfg(test)]
 mod tools;
 #[cfg(test)]

@@ -3,6 +3,7 @@
 use pb_base::{FaultyInput, Input, Lending};
 use pb_call::KeptInput;
 use pb_messages::{Reading, live_message, message_of};
+use pb_search_tool::expected_message;
 use std::alloc::Global;
 
 /// Returns whether this is said of an input.
@@ -204,6 +205,33 @@ fn a_pick_line_and_a_pick(rt: HostRuntime) {
 ";
     let message = message_of(rt.alloc(), Reading::Debugged(Lending::ByBanker), picks);
     assert!(rt; message.is_ok_and(|message| message.as_slice().starts_with(said)));
+}
+
+/// Returns whether this is said of a text with print lines.
+fn says_of_prints(alloc: Global, bytes: &[u8], said: &[u8]) -> Option<bool> {
+    Some(expected_message(alloc, bytes).ok()?.as_slice() == said)
+}
+
+#[test]
+fn blanks_at_the_ends_of_print_lines(rt: HostRuntime) {
+    let blank = b"process p begin print 1 end\n%%\np.0 print 1 \n";
+    let said = b"error K1: this line ends with a blank
+  --> print line 1, column 1
+  |
+1 | p.0 print 1 \n  | ^
+  = hint: leave out the blank at its end
+  = line 3 of the input
+";
+    assert!(rt; says_of_prints(rt.alloc(), blank, said) == Some(true));
+    let feed = b"process p begin print 1 end\n%%\np.0 print 1\r\n";
+    let said = b"error K1: this line ends with a carriage return
+  --> print line 1, column 1
+  |
+1 | p.0 print 1 \n  | ^
+  = hint: save the prints with the line ends of Unix: a line feed alone
+  = line 3 of the input
+";
+    assert!(rt; says_of_prints(rt.alloc(), feed, said) == Some(true));
 }
 
 #[test]

@@ -12,10 +12,11 @@ use Rattle.pb_json_lines.specs.declared.form.Dialect.TheVariants.{Program, Recor
 abbrev pub is_given : (option begun : List ℕ) → List (List ℕ) → Bool
 is_given option begun words = list_any (λ word. bytes_eq word option || starts_with nat_eq word begun) words
 
--- `outcomes` is asked for the text with the picks to one of them, which `--expect` overrides
+-- `outcomes` is asked for the text with the picks to one of them, which `--expect` and `--endless` override
 abbrev pub asks_picks : List (List ℕ) → Bool
 asks_picks words =
-    not (is_given (codes "--expect") (codes "--expect=") words)
+    (not (is_given (codes "--expect") (codes "--expect=") words)
+    && not (is_given (codes "--endless") (codes "--endless=") words))
     && (is_given (codes "--run") (codes "--run=") words || is_given (codes "--deadlock") (codes "--deadlock=") words)
 
 -- a text with picks has been written, and not a refusal or that there is none

@@ -27,6 +27,7 @@ fn asks_picks(words: &[&str]) -> bool
     ensures { result ≡ spec.asks_picks (map (λ w. w.now) words.now) }
 {
     !is_given(words, "--expect", "--expect=")
+        && !is_given(words, "--endless", "--endless=")
         && (is_given(words, "--run", "--run=") || is_given(words, "--deadlock", "--deadlock="))
 }
 

@@ -61,7 +61,7 @@ static PARTS: [Form; 10] = [
 ];
 
 /// All others, in the order in which they are tried.
-static FORMS: [Form; 50] = [
+static FORMS: [Form; 54] = [
     Form {
         section: Section::Alone,
         first: "\"kind\":\"grant\"",
@@ -228,6 +228,16 @@ static FORMS: [Form; 50] = [
         pattern: "deadlock N",
     },
     Form {
+        section: Section::Opens,
+        first: "\"kind\":\"endless\"",
+        pattern: "endless",
+    },
+    Form {
+        section: Section::Opens,
+        first: "\"kind\":\"round\"",
+        pattern: "round",
+    },
+    Form {
         section: Section::Alone,
         first: "\"kind\":\"picks\"",
         pattern: "P.A Q",
@@ -286,6 +296,16 @@ static FORMS: [Form; 50] = [
         section: Section::Alone,
         first: "\"kind\":\"some fair runs do not end\"",
         pattern: "some fair runs do not end",
+    },
+    Form {
+        section: Section::Alone,
+        first: "\"kind\":\"every run ends\"",
+        pattern: "every run ends",
+    },
+    Form {
+        section: Section::Alone,
+        first: "\"kind\":\"some runs do not end\"",
+        pattern: "some runs do not end",
     },
     Form {
         section: Section::Alone,

@@ -10,7 +10,7 @@ struct Call {
     dialect: Dialect,
 }
 
-const CALLS: [Call; 10] = [
+const CALLS: [Call; 11] = [
     Call {
         words: &["parbegin", "plan"],
         status: Status::Done,
@@ -53,6 +53,11 @@ const CALLS: [Call; 10] = [
     },
     Call {
         words: &["parbegin", "outcomes", "--run", "2", "--expect"],
+        status: Status::Done,
+        dialect: Dialect::Program,
+    },
+    Call {
+        words: &["parbegin", "outcomes", "--endless", "--run", "2"],
         status: Status::Done,
         dialect: Dialect::Program,
     },

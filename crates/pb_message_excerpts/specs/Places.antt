@@ -1,8 +1,9 @@
 -- Where a byte of a text is, and how that is shown.
-use Rattle.std.specs.Prelude.{◌≡◌, ◌≢◌, ◌<◌, ◌≤◌, ◌⊎◌, ◌||◌, ◌&&◌, ◌==◌, ℕ, ◌+◌, ◌-◌, min, List, ◌++◌, length, map}
-use Rattle.std.specs.Prelude.{codes, slice_index, slice_range, if◌then◌else◌, nat_le}
+use Rattle.std.specs.Prelude.{◌≡◌, ◌≢◌, ◌<◌, ◌≤◌, ◌⊎◌, ℕ, ◌+◌, ◌-◌, min, List, ◌++◌, length, map}
+use Rattle.std.specs.Prelude.{codes, slice_index, slice_range}
 use Rattle.std.specs.Fmt.{decimal}
 use Rattle.pb_lexer.specs.Cutting.{line_at}
+use Rattle.pb_message_excerpts.specs.Characters.{below_byte, below_bytes, shown_bytes}
 use Rattle.pb_message_excerpts.specs.declared.place.Place.{Place}
 
 -- the place of an offset: its line and its column, both from 1, and where that line begins and ends: no line
@@ -18,15 +19,6 @@ pub record IsPlace (text : List ℕ) (offset : ℕ) (place : Place) : Type 0 whe
   pub none_behind : (k : ℕ) → offset ≤ k → k < place.end → slice_index text k ≢ 10
   pub first : (place.begin ≡ 0) ⊎ ((0 < place.begin) × (slice_index text (place.begin - 1) ≡ 10))
   pub last : (place.end ≡ length text) ⊎ (slice_index text place.end ≡ 10)
-
--- a byte as it is shown: itself if it is printable or a tab, a space for a carriage return, and else a
--- question mark
-abbrev pub shown_byte : ℕ → ℕ
-shown_byte b = if (b == 9) || (nat_le 32 b && nat_le b 126) then b else (if b == 13 then 32 else 63)
-
--- what is below a byte before the mark: a tab below a tab, and else a space
-abbrev pub below_byte : ℕ → ℕ
-below_byte b = if b == 9 then 9 else 32
 
 -- the part of a line that is shown: up to 100 bytes before the place, and up to 100 behind it
 abbrev pub shown_from : Place → ℕ
@@ -52,12 +44,12 @@ bar_line place = margin_of place ++ codes "|\n"
 -- the line of the text, with its number
 abbrev pub source_line : List ℕ → Place → List ℕ
 source_line text place =
-    decimal place.line ++ codes " | " ++ map shown_byte (slice_range text (shown_from place) (shown_to place)) ++ codes "\n"
+    decimal place.line ++ codes " | " ++ shown_bytes 0 (slice_range text (shown_from place) (shown_to place)) ++ codes "\n"
 
 -- the mark below the place
 abbrev pub mark_line : List ℕ → Place → List ℕ
 mark_line text place =
-    margin_of place ++ codes "| " ++ map below_byte (slice_range text (shown_from place) place.at) ++ codes "^\n"
+    margin_of place ++ codes "| " ++ below_bytes 0 (slice_range text (shown_from place) place.at) ++ codes "^\n"
 
 -- the place of a fault as it is shown, in four lines
 abbrev pub excerpt : (label text : List ℕ) → Place → List ℕ

@@ -1,10 +1,11 @@
 //! The place of a byte, shown: its line of the text, with a mark.
 
-ghost use Rattle.std.specs.Prelude.{◌≡◌, ◌≤◌, ◌++◌, map, length, min, IfOk, OnOk};
+ghost use Rattle.std.specs.Prelude.{◌≡◌, ◌≤◌, ◌++◌, length, IfOk, OnOk};
 ghost use Rattle.std.specs.Fmt.{decimal};
-ghost use Rattle.pb_message_excerpts.specs.Places.{IsPlace, arrow_line, bar_line, below_byte, excerpt, margin_of, mark_line, shown_byte, source_line};
+ghost use Rattle.pb_message_excerpts.specs.Places.{IsPlace, arrow_line, bar_line, excerpt, margin_of, mark_line, source_line};
 
 use crate::place::{Place, place_of};
+use crate::shown::{put_below, put_below_shown, put_shown};
 use pb_base::NoMemory;
 use pb_base::writing::put_digits;
 use std::alloc::Global;
@@ -91,7 +92,7 @@ fn put_source(out: &mut Vec<u8>, text: &[u8], place: &Place) -> Result<(), NoMem
     let to = place.at + WIDTH.min(place.end - place.at);
     put_digits(out, place.line)?;
     out.extend_from_slice(b" | ")?;
-    put_printable(out, &text[from..to])?;
+    put_shown(out, &text[from..to])?;
     out.push(b'\n')?;
     Ok(())
 }
@@ -103,56 +104,7 @@ fn put_mark(out: &mut Vec<u8>, text: &[u8], place: &Place) -> Result<(), NoMemor
     let from = place.at - WIDTH.min(place.at - place.begin);
     put_margin(out, place)?;
     out.extend_from_slice(b"| ")?;
-    put_below(out, &text[from..place.at])?;
+    put_below_shown(out, &text[from..place.at])?;
     out.extend_from_slice(b"^\n")?;
     Ok(())
-}
-
-/// Returns bytes as a message shows them: a carriage return as a space, and a question mark for each other
-/// byte that is neither printable nor a tab.
-pub fn printable(alloc: Global, bytes: &[u8]) -> Result<Vec<u8>, NoMemory>
-    ensures { IfOk result (λ shown. shown.items ≡ map shown_byte bytes.now) }
-{
-    let mut shown = Vec::new(alloc);
-    put_printable(&mut shown, bytes)?;
-    Ok(shown)
-}
-
-/// Appends bytes to `out`, as a message shows them.
-fn put_printable(out: &mut Vec<u8>, bytes: &[u8]) -> Result<(), NoMemory>
-    ensures { OnOk result (out.new.items ≡ out.old.items ++ map shown_byte bytes.now) }
-{
-    for byte in bytes {
-        out.push(printable_byte(*byte))?;
-    }
-    Ok(())
-}
-
-/// Returns a byte as a message shows it.
-pub fn printable_byte(byte: u8) -> u8
-    ensures { result ≡ shown_byte byte }
-{
-    if byte == b'\t' || (32 <= byte && byte <= 126) {
-        byte
-    } else if byte == b'\r' {
-        b' '
-    } else {
-        b'?'
-    }
-}
-
-/// Appends to `out` what is below bytes before a mark.
-fn put_below(out: &mut Vec<u8>, bytes: &[u8]) -> Result<(), NoMemory>
-    ensures { OnOk result (out.new.items ≡ out.old.items ++ map below_byte bytes.now) }
-{
-    for byte in bytes {
-        out.push(blank_below(*byte))?;
-    }
-    Ok(())
-}
-
-fn blank_below(byte: u8) -> u8
-    ensures { result ≡ below_byte byte }
-{
-    if byte == b'\t' { b'\t' } else { b' ' }
 }

@@ -2,10 +2,13 @@
 //! are, for words that are probably misspelt.
 #![tactic(auto)]
 
+mod character;
 mod excerpt;
 mod place;
+mod shown;
 mod spelling;
 
-pub use excerpt::{printable, printable_byte, show_place};
+pub use excerpt::show_place;
 pub use place::{Place, line_end, place_of};
+pub use shown::{printable, printable_byte};
 pub use spelling::{is_near, nearest};

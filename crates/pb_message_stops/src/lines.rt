@@ -1,8 +1,14 @@
 //! The wording of a fault of pick lines.
 
+ghost use Rattle.std.specs.Prelude.{◌≡◌, ◌≤◌, ◌∷◌, ◌++◌, [], IfOk, IsTrue, codes, length, min};
 ghost use Rattle.pb_code.specs.Limits.{KeepsLimits};
 ghost use Rattle.pb_code.specs.View.{code_view};
+ghost use Rattle.pb_lexer.specs.Cutting.{line_at};
+ghost use Rattle.pb_message_stops.specs.Told.{HintsEnds, TellsBadLine, TellsFault, TellsMany, line_note};
+ghost use Rattle.pb_mistakes.specs.Wordings.{AddsNote, IsWording};
 
+use crate::ends::{Form, ends_of};
+use crate::stops::first_line;
 use pb_base::NoMemory;
 use pb_code::Code;
 use pb_message_excerpts::{line_end, place_of};
@@ -13,7 +19,7 @@ use std::fmt::Write;
 use std::str;
 
 /// What a pick line looks like.
-const FORM: &str =
+const PICK_FORM: &str =
     "a pick line is P.a COUNT, such as p.0 12: a process, one of its arms, and how many picks it makes";
 
 /// What a print line looks like.
@@ -32,65 +38,79 @@ pub struct Lines<'t> {
     pub before: usize,
 }
 
-/// Returns the wording of a line that is not a pick line of this code.
-pub fn bad_line(alloc: Global, code: &Code, lines: Lines<'_>, at: usize) -> Wording {
-    let at = at.min(lines.text.len());
-    let line = &lines.text[at..line_end(lines.text, at)];
-    let mut wording = match kind_of(code, line) {
-        Kind::NoProcess { name } => no_process(alloc, code, name),
-        Kind::NoArm { process, arm } => no_arm(alloc, code, process, arm),
-        Kind::NoCount { count } => no_count(alloc, count),
-        Kind::Other { summary, hint } => other(alloc, summary, hint),
-    };
+/// Returns the wording of a fault of pick lines.
+pub fn fault_wording(
+    alloc: Global,
+    code: &Code,
+    lines: Lines<'_>,
+    fault: PickFault,
+) -> Result<Wording, NoMemory>
+    requires { KeepsLimits (code_view code.now) }
+    ensures { IfOk result (λ wording. IsTrue wording.is_whole
+        → TellsFault lines.entry.before lines.entry.text.now fault wording) }
+{
+    match fault {
+        PickFault::NotPicks(at) => Ok(bad_line(alloc, code, Form::Picks, lines, at)),
+        PickFault::TooMany | PickFault::NoMemory => too_many(alloc, code, lines),
+    }
+}
+
+/// Returns the wording of a line that is not a print line of this code.
+pub fn bad_print_line(alloc: Global, code: &Code, lines: Lines<'_>, at: usize) -> Wording
+    ensures { IsTrue result.is_whole → TellsBadLine Form.Prints lines.entry.before lines.entry.text.now at result }
+{
+    bad_line(alloc, code, Form::Prints, lines, at)
+}
+
+/// Returns the wording of a line that does not say what it is to say.
+fn bad_line(alloc: Global, code: &Code, form: Form, lines: Lines<'_>, at: usize) -> Wording
+    ensures { IsTrue result.is_whole → TellsBadLine form lines.entry.before lines.entry.text.now at result }
+{
+    let (line, _) = first_line(&lines.text[at.min(lines.text.len())..]);
+    let mut wording = line_wording(alloc, code, form, line);
     note_line(alloc, &mut wording, lines, at);
     wording
 }
 
-/// Returns the wording of a line that is not a print line of this code.
-pub fn bad_print_line(alloc: Global, code: &Code, lines: Lines<'_>, at: usize) -> Wording {
-    let at = at.min(lines.text.len());
-    let line = &lines.text[at..line_end(lines.text, at)];
-    let mut wording = match kind_of(code, line) {
-        Kind::NoProcess { name } => no_process(alloc, code, name),
-        Kind::NoArm { process, arm } => no_arm(alloc, code, process, arm),
-        _ => other(alloc, "this is not a print line", PRINT_FORM),
-    };
-    note_line(alloc, &mut wording, lines, at);
-    wording
+/// Returns what a line has wrong that does not say what it is to say, at its ends or between them.
+fn line_wording(alloc: Global, code: &Code, form: Form, line: &[u8]) -> Wording
+    ensures { IsTrue result.is_whole → HintsEnds form line.now result }
+{
+    match ends_of(line) {
+        Some(ends) => other(alloc, ends.summary(), ends.hint(form)),
+        None => inner_wording(alloc, code, form, line),
+    }
+}
+
+/// Returns what a line has wrong whose ends are right.
+fn inner_wording(alloc: Global, code: &Code, form: Form, line: &[u8]) -> Wording {
+    match (kind_of(code, line), form) {
+        (Kind::NoProcess { name }, _) => no_process(alloc, code, name),
+        (Kind::NoArm { process, arm }, _) => no_arm(alloc, code, process, arm),
+        (Kind::NoCount { count }, Form::Picks) => no_count(alloc, count),
+        (Kind::Other { summary }, Form::Picks) => other(alloc, summary, PICK_FORM),
+        (_, Form::Prints) => other(alloc, "this is not a print line", PRINT_FORM),
+    }
 }
 
 /// What a line that is no pick line has wrong.
 #[derive(Clone, Copy)]
 enum Kind<'t> {
     // No process has this name.
-    NoProcess {
-        name: &'t [u8],
-    },
+    NoProcess { name: &'t [u8] },
     // The process with this number has no such arm.
-    NoArm {
-        process: usize,
-        arm: &'t [u8],
-    },
+    NoArm { process: usize, arm: &'t [u8] },
     // What is behind the blank is no count.
-    NoCount {
-        count: &'t [u8],
-    },
+    NoCount { count: &'t [u8] },
     // Anything else, in words.
-    Other {
-        summary: &'static str,
-        hint: &'static str,
-    },
+    Other { summary: &'static str },
 }
 
 /// Returns what a line has wrong.
 fn kind_of<'t>(code: &Code, line: &'t [u8]) -> Kind<'t> {
-    if let Some(kind) = kind_of_blanks(line) {
-        return kind;
-    }
     let Some((name, rest)) = cut_at(line, b'.') else {
         return Kind::Other {
             summary: "this is not a pick line: it has no point",
-            hint: FORM,
         };
     };
     let Some(process) = process_of(code, name) else {
@@ -99,37 +119,12 @@ fn kind_of<'t>(code: &Code, line: &'t [u8]) -> Kind<'t> {
     let Some((arm, count)) = cut_at(rest, b' ') else {
         return Kind::Other {
             summary: "this pick line has no count",
-            hint: FORM,
         };
     };
     if number_of(arm).is_none_or(|arm| arms_of(code, process) <= arm) {
         return Kind::NoArm { process, arm };
     }
     Kind::NoCount { count }
-}
-
-/// Returns what a line has wrong, if it is empty, or has blanks or a carriage return at an end.
-fn kind_of_blanks<'t>(line: &'t [u8]) -> Option<Kind<'t>> {
-    let (summary, hint) = match (line.first(), line.last()) {
-        (None, _) | (_, None) => (
-            "this line is empty",
-            "each line behind the line %% is a pick line: leave empty lines out",
-        ),
-        (_, Some(b'\r')) => (
-            "this line ends with a carriage return",
-            "save the picks with the line ends of Unix: a line feed alone",
-        ),
-        (_, Some(b' ' | b'\t')) => (
-            "this line ends with a blank",
-            "leave out the blank behind the count",
-        ),
-        (Some(b' ' | b'\t'), _) => (
-            "this line begins with a blank",
-            "leave out the blank before the process",
-        ),
-        _ => return None,
-    };
-    Some(Kind::Other { summary, hint })
 }
 
 /// Splits a line at the first byte that is the mark.
@@ -220,17 +215,29 @@ fn no_count(alloc: Global, count: &[u8]) -> Wording {
     wording
 }
 
-fn other(alloc: Global, summary: &str, hint: &str) -> Wording {
+/// Returns the wording of any other fault of a line, with what is usually meant.
+fn other(alloc: Global, summary: &str, hint: &str) -> Wording
+    ensures { IsWording summary.now ((codes "hint: " ++ hint.now) ∷ []) result }
+{
     let mut wording = Wording::of(alloc, summary);
     wording.hint(alloc, hint);
     wording
 }
 
 /// Returns the wording of too many picks.
-pub fn too_many(alloc: Global, code: &Code, lines: Lines<'_>) -> Result<Wording, NoMemory>
+fn too_many(alloc: Global, code: &Code, lines: Lines<'_>) -> Result<Wording, NoMemory>
     requires { KeepsLimits (code_view code.now) }
+    ensures { IfOk result (λ wording. IsTrue wording.is_whole
+        → TellsMany lines.entry.before lines.entry.text.now wording) }
 {
     let at = line_past(alloc, code, lines.text)?;
+    Ok(many_wording(alloc, lines, at))
+}
+
+/// Returns the wording of too many picks at the line that begins at an offset.
+fn many_wording(alloc: Global, lines: Lines<'_>, at: usize) -> Wording
+    ensures { IsTrue result.is_whole → TellsMany lines.entry.before lines.entry.text.now result }
+{
     let mut wording = Wording::of(
         alloc,
         "the pick lines up to this one say more than 10000000 picks",
@@ -238,7 +245,7 @@ pub fn too_many(alloc: Global, code: &Code, lines: Lines<'_>) -> Result<Wording,
     wording.spot(Ok(String::new(alloc)), at);
     note_line(alloc, &mut wording, lines, at);
     wording.note_text(alloc, "hint: record a shorter run: --steps 1000000");
-    Ok(wording)
+    wording
 }
 
 /// Returns where the first line begins with which the picks are too many.
@@ -262,9 +269,12 @@ fn line_past(alloc: Global, code: &Code, lines: &[u8]) -> Result<usize, NoMemory
     Ok(high)
 }
 
-/// Notes which line of the input the pick line at an offset is.
-pub fn note_line(alloc: Global, wording: &mut Wording, lines: Lines<'_>, at: usize) {
+/// Notes which line of the input the line at an offset is.
+pub(crate) fn note_line(alloc: Global, wording: &mut Wording, lines: Lines<'_>, at: usize)
+    ensures { AddsNote wording.old (line_note lines.entry.before (line_at lines.entry.text.now (min at (length lines.entry.text.now))))
+        wording.new }
+{
     let line = place_of(lines.text, at.min(lines.text.len())).line;
-    let number = line.saturating_add(lines.before);
+    let number = line as u128 + lines.before as u128;
     wording.note(format!(in alloc; "line {number} of the input"));
 }

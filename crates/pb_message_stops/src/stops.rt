@@ -1,10 +1,13 @@
 //! Why a pick of pick lines is not enabled.
 
-ghost use Rattle.std.specs.Prelude.{IfSome};
+ghost use Rattle.std.specs.Prelude.{◌≡◌, ◌<◌, ◌++◌, IfOk, IfSome, IsTrue, string_bytes};
 ghost use Rattle.pb_code.specs.Whole.{Code as AnyCode};
 ghost use Rattle.pb_picks.specs.PickLines.{IsFirstLine, SpellsPicks};
 ghost use Rattle.pb_message_stops.specs.Stops.{HoldsPick};
+ghost use Rattle.pb_message_stops.specs.Told.{TellsMade, TellsStop, made_before, made_of_line};
+ghost use Rattle.pb_mistakes.specs.Wordings.{Keeps};
 
+use crate::lines::{Lines, note_line};
 use pb_banker::Lender;
 use pb_base::{Bundle, Lending, Names, NoMemory, Pair, Pick};
 use pb_code::{Code, Instr};
@@ -34,7 +37,7 @@ pub struct Stop {
 /// Returns the pick with a number, with its line; none past the end.
 pub fn stop_of(lines: &[u8], picks: &[CountedPick], number: u32) -> Option<Stop>
     ensures { IfSome result (λ stop. (code : AnyCode) → SpellsPicks code lines.now picks.now
-        → HoldsPick code lines.now picks.now number stop.line) }
+        → HoldsPick code lines.now picks.now number stop) }
 {
     let mut rest = lines;
     let mut before = number;
@@ -57,7 +60,7 @@ pub fn stop_of(lines: &[u8], picks: &[CountedPick], number: u32) -> Option<Stop>
 }
 
 /// Splits a text into its first line, without the line feed, and the rest.
-fn first_line(text: &[u8]) -> (&[u8], &[u8])
+pub(crate) fn first_line(text: &[u8]) -> (&[u8], &[u8])
     ensures { IsFirstLine text.now result.0.now result.1.now }
 {
     for end in 0..text.len() {
@@ -68,16 +71,26 @@ fn first_line(text: &[u8]) -> (&[u8], &[u8])
     (text, &text[text.len()..])
 }
 
+/// What is usually meant by a pick that is not enabled.
+const STOP_HINT: &str =
+    "hint: leave the pick out, or make others before it; without it and those behind it, debug shows the run up to here";
+
 /// Returns the wording of a pick that is not enabled under a lending, after those before it.
 pub fn stop_wording(
     alloc: Global,
     lending: Lending,
     verified: &Verified,
-    lines: &[u8],
+    lines: Lines<'_>,
     stop: &Stop,
-) -> Result<Wording, NoMemory> {
+) -> Result<Wording, NoMemory>
+    ensures { IfOk result (λ wording. IsTrue wording.is_whole
+        → TellsStop lines.entry.before lines.entry.text.now stop.now wording) }
+{
     let arm = arm_name(alloc, verified.names(), stop.pick)?;
-    arm_wording(alloc, lending, verified, lines, stop, &arm)
+    let mut wording = arm_wording(alloc, lending, verified, lines.text, stop, &arm)?;
+    note_line(alloc, &mut wording, lines, stop.line);
+    wording.note_text(alloc, STOP_HINT);
+    Ok(wording)
 }
 
 /// Returns the same, from the name of the arm.
@@ -88,20 +101,32 @@ fn arm_wording(
     lines: &[u8],
     stop: &Stop,
     arm: &String,
-) -> Result<Wording, NoMemory> {
+) -> Result<Wording, NoMemory>
+    ensures { IfOk result (λ wording. IsTrue wording.is_whole → TellsMade stop.now wording) }
+{
     let before = lines_before(alloc, lines, stop, arm)?;
-    let mut wording = Wording::new(alloc, summary(alloc, stop, arm));
-    if stop.count > 1 {
-        wording.note(made_note(alloc, stop));
-    }
+    let mut wording = made_wording(alloc, stop, arm);
     if let Some(machine) = machine_after(alloc, lending, verified, &before) {
         note_why(alloc, &mut wording, verified.code(), &machine, stop.pick);
     }
     Ok(wording)
 }
 
+/// Returns the wording of a pick that an arm cannot make, by how many were made.
+fn made_wording(alloc: Global, stop: &Stop, arm: &String) -> Wording
+    ensures { IsTrue result.is_whole → TellsMade stop.now result }
+{
+    let mut wording = Wording::new(alloc, summary(alloc, stop, arm));
+    if stop.count > 1 {
+        wording.note(made_note(alloc, stop));
+    }
+    wording
+}
+
 /// Returns in words that an arm cannot make its pick, behind those that were made.
-fn summary(alloc: Global, stop: &Stop, arm: &String) -> Result<String, AllocError> {
+fn summary(alloc: Global, stop: &Stop, arm: &String) -> Result<String, AllocError>
+    ensures { IfOk result (λ words. string_bytes words ≡ string_bytes arm.now ++ made_before stop.now.number) }
+{
     match stop.number {
         0 => format!(in alloc; "{arm} cannot make the first pick"),
         1 => format!(in alloc; "{arm} cannot make a pick after 1 pick"),
@@ -110,14 +135,16 @@ fn summary(alloc: Global, stop: &Stop, arm: &String) -> Result<String, AllocErro
 }
 
 /// Returns how many picks of a line were made.
-fn made_note(alloc: Global, stop: &Stop) -> Result<String, AllocError> {
-    match stop.before {
-        0 => format!(in alloc; "none of the {} picks of this line was made", stop.count),
-        1 => format!(in alloc; "1 of the {} picks of this line was made", stop.count),
-        before => format!(in alloc;
-            "{before} of the {} picks of this line were made",
-            stop.count
-        ),
+fn made_note(alloc: Global, stop: &Stop) -> Result<String, AllocError>
+    ensures { IfOk result (λ words. string_bytes words ≡ made_of_line stop.now.before stop.now.count) }
+{
+    let (made, count) = (stop.before, stop.count);
+    if made == 0 {
+        format!(in alloc; "none of the {count} picks of this line was made")
+    } else if made == 1 {
+        format!(in alloc; "1 of the {count} picks of this line was made")
+    } else {
+        format!(in alloc; "{made} of the {count} picks of this line were made")
     }
 }
 
@@ -167,7 +194,9 @@ fn lines_before(
 }
 
 /// Notes why the arm of a pick does not go on.
-fn note_why(alloc: Global, wording: &mut Wording, code: &Code, machine: &Machine, pick: Pick) {
+fn note_why(alloc: Global, wording: &mut Wording, code: &Code, machine: &Machine, pick: Pick)
+    ensures { Keeps wording.old wording.new }
+{
     let process = usize::from(pick.process);
     let arm = usize::from(pick.arm);
     if machine.processes() <= process {

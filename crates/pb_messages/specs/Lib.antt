@@ -1,3 +1,4 @@
+pub mod Details
 pub mod LiveInputs
 pub mod Messages
 pub mod Said

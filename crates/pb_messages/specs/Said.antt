@@ -18,7 +18,11 @@ use Rattle.pb_history.specs.Entries.{Entry}
 use Rattle.pb_history.specs.Replays.{IsReplayBy, IsStoppedBy, spread}
 use Rattle.pb_history.specs.declared.counted.CountedPick.{CountedPick}
 use Rattle.pb_history.specs.declared.fault.ReplayFault.TheVariants.{NotEnabled}
+use Rattle.pb_lexer.specs.Cutting.{line_at}
+use Rattle.pb_messages.specs.Details.{ShowsWording}
 use Rattle.pb_messages.specs.Messages.{IsMessage, IsMessageAt, TellsRefusal}
+use Rattle.pb_mistakes.specs.declared.wording.Wording.{Wording}
+use Rattle.pb_options.specs.declared.code.Code.TheVariants.{H1}
 use Rattle.pb_accept.specs.declared.cause.Cause.{Cause}
 use Rattle.pb_messages.specs.declared.message.Reading.{Reading}
 use Rattle.pb_messages.specs.declared.message.Reading.TheVariants.{Text, Claims, Recorded, FirstFormat, Texts, Object}
@@ -28,6 +32,8 @@ use Rattle.pb_object.specs.Formats.{FitsFirst}
 use Rattle.pb_picks.specs.PickLines.{IsFaulty, SpellsPicks}
 use Rattle.pb_picks.specs.declared.fault.PickFault.{PickFault}
 use Rattle.pb_message_stops.specs.Stops.{HoldsPick}
+use Rattle.pb_message_stops.specs.Told.{TellsFault, TellsStop}
+use Rattle.pb_message_stops.specs.declared.stops.Stop.{Stop}
 use Rattle.pb_sources.specs.Sources.{IsObjectPart}
 
 -- of an input that is too long
@@ -111,36 +117,47 @@ abbrev pub SaysOfObjectText : (bytes told : List ℕ) → Type 0
 SaysOfObjectText bytes told =
     ((code : Code) × (labels : List ProcessLabels) × IsLoaded bytes code labels × (told ≡ [])) ⊎ TellsObject bytes told
 
--- of pick lines over some code: nothing if all picks are made under this lending; else which line says no picks,
--- or that a pick is not enabled, at the line that holds it
-pub data SaysOfPickLines (lending : Lending) (code : Code) (lines : List ℕ) : List ℕ → Type 0 where
-  made : (picks : List CountedPick) (entries : List Entry) (end : State CodeProcess)
-      → SpellsPicks code lines picks → IsReplayBy lending code (spread picks) entries end → SaysOfPickLines lending code lines []
-  unread : (fault : PickFault) (cause : Cause) (told : List ℕ)
-      → IsFaulty code lines fault → picks_cause fault ≡ Some cause
-      → IsMessage (codes "pick ") lines cause told → SaysOfPickLines lending code lines told
-  stopped : (picks : List CountedPick) (number : ℕ) (told : List ℕ)
-      → SpellsPicks code lines picks → IsStoppedBy lending code (spread picks) (NotEnabled number)
-      → (at : ℕ) → HoldsPick code lines picks number at
-      → IsMessageAt (codes "pick ") lines (codes "H1") (Some at) told → SaysOfPickLines lending code lines told
+-- the cause of a pick that is not enabled, at its line
+abbrev pub stop_at : (line : ℕ) → Cause
+stop_at line = record { code = H1; at = Some line }
 
--- of a text and pick lines, made under this lending
-abbrev pub SaysOfPickedText : Lending → (text lines told : List ℕ) → Type 0
-SaysOfPickedText lending text lines told =
-    ((code : Code) × (labels : List ProcessLabels) × IsCompiled text code labels × SaysOfPickLines lending code lines told)
+-- of pick lines over some code, with so many lines of the input before them: nothing if all picks are made under this
+-- lending; else which line says no picks, with its number in the input, or that a pick is not enabled, at the line that
+-- holds it, with how many picks were made
+pub data SaysOfPickLines (lending : Lending) (code : Code) (before : ℕ) (lines : List ℕ) : List ℕ → Type 0 where
+  made : (picks : List CountedPick) (entries : List Entry) (end : State CodeProcess)
+      → SpellsPicks code lines picks → IsReplayBy lending code (spread picks) entries end → SaysOfPickLines lending code before lines []
+  unread : (fault : PickFault) (cause : Cause) (wording : Wording) (told : List ℕ)
+      → IsFaulty code lines fault → picks_cause fault ≡ Some cause → TellsFault before lines fault wording
+      → IsMessage (codes "pick ") lines cause told → ShowsWording (codes "pick ") lines cause wording told
+      → SaysOfPickLines lending code before lines told
+  stopped : (picks : List CountedPick) (number : ℕ) (stop : Stop) (wording : Wording) (told : List ℕ)
+      → SpellsPicks code lines picks → IsStoppedBy lending code (spread picks) (NotEnabled number)
+      → HoldsPick code lines picks number stop → TellsStop before lines stop wording
+      → IsMessage (codes "pick ") lines (stop_at stop.line) told → ShowsWording (codes "pick ") lines (stop_at stop.line) wording told
+      → SaysOfPickLines lending code before lines told
+
+-- of a text and pick lines, made under this lending, with so many lines of the input before these
+abbrev pub SaysOfPickedText : Lending → (before : ℕ) → (text lines told : List ℕ) → Type 0
+SaysOfPickedText lending before text lines told =
+    ((code : Code) × (labels : List ProcessLabels) × IsCompiled text code labels × SaysOfPickLines lending code before lines told)
     ⊎ TellsRefusal [] text told
 
 -- of an object and pick lines, made under this lending
-abbrev pub SaysOfPickedObject : Lending → (bytes lines told : List ℕ) → Type 0
-SaysOfPickedObject lending bytes lines told =
-    ((code : Code) × (labels : List ProcessLabels) × IsLoaded bytes code labels × SaysOfPickLines lending code lines told)
+abbrev pub SaysOfPickedObject : Lending → (before : ℕ) → (bytes lines told : List ℕ) → Type 0
+SaysOfPickedObject lending before bytes lines told =
+    ((code : Code) × (labels : List ProcessLabels) × IsLoaded bytes code labels × SaysOfPickLines lending code before lines told)
     ⊎ TellsObject bytes told
 
 -- of a text or an object, and pick lines, made under this lending
-abbrev pub SaysOfPickedSource : Lending → (source lines told : List ℕ) → Type 0
-SaysOfPickedSource lending source lines told =
-    (IsObjectPart source × SaysOfPickedObject lending source lines told)
-    ⊎ ((¬ IsObjectPart source) × SaysOfPickedText lending source lines told)
+abbrev pub SaysOfPickedSource : Lending → (before : ℕ) → (source lines told : List ℕ) → Type 0
+SaysOfPickedSource lending before source lines told =
+    (IsObjectPart source × SaysOfPickedObject lending before source lines told)
+    ⊎ ((¬ IsObjectPart source) × SaysOfPickedText lending before source lines told)
+
+-- how many lines of an input are before its pick lines: those up to the line `%%` behind its source
+abbrev pub lines_before : (bytes source : List ℕ) → ℕ
+lines_before bytes source = line_at bytes (length source)
 
 -- of an input that is not too long, by how the command reads it
 abbrev pub SaysByReading : Reading → (bytes told : List ℕ) → Type 0
@@ -151,12 +168,15 @@ SaysByReading FirstFormat bytes told = SaysOfFirstFormat bytes told
 SaysByReading Texts bytes told = SaysOfTexts bytes told
 SaysByReading Object bytes told = SaysOfObjectText bytes told
 SaysByReading (Replayed lending) bytes told =
-    (text : List ℕ) × (lines : List ℕ) × AreTwoParts bytes text lines × SaysOfPickedText lending text lines told
+    (text : List ℕ) × (lines : List ℕ) × AreTwoParts bytes text lines
+    × SaysOfPickedText lending (lines_before bytes text) text lines told
 SaysByReading (Shown lending) bytes told =
-    (source : List ℕ) × (lines : List ℕ) × AreTwoParts bytes source lines × SaysOfPickedSource lending source lines told
+    (source : List ℕ) × (lines : List ℕ) × AreTwoParts bytes source lines
+    × SaysOfPickedSource lending (lines_before bytes source) source lines told
 SaysByReading (Debugged lending) bytes told =
     (source : List ℕ) × (rest : List ℕ) × (lines : List ℕ) × (commands : List ℕ)
-    × AreTwoParts bytes source rest × AreTwoParts rest lines commands × SaysOfPickedSource lending source lines told
+    × AreTwoParts bytes source rest × AreTwoParts rest lines commands
+    × SaysOfPickedSource lending (lines_before bytes source) source lines told
 
 -- of any input, by what is said of one that is not too long
 abbrev pub SaysWithin : (Says : (bytes told : List ℕ) → Type 0) → (bytes told : List ℕ) → Type 0

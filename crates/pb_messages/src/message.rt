@@ -1,6 +1,7 @@
 //! The message of a refused input.
 
-ghost use Rattle.std.specs.Prelude.{◌≡◌, ◌≤◌, [], IfNone, IfOk, IfSome, IsTrue, false, OnOk, length, string_bytes};
+ghost use Rattle.std.specs.Prelude.{◌≡◌, ◌≤◌, [], IfNone, IfOk, IfSome, IsTrue, false, OnOk, length, min, string_bytes};
+ghost use Rattle.pb_lexer.specs.Cutting.{line_at};
 ghost use Rattle.pb_accept.specs.Refusals.{IsAcceptedText};
 ghost use Rattle.pb_messages.specs.Messages.{TellsRefusal};
 ghost use Rattle.pb_messages.specs.Said.{SaysByReading, SaysOfObjectText, SaysOfPickedObject, SaysOfPickedSource, SaysOfPickedText, SaysOfProgram, SaysOfText, SaysOfTexts};
@@ -235,7 +236,9 @@ pub(crate) fn debugged_message(
 }
 
 /// Returns the number of the line at an offset.
-fn line_of(bytes: &[u8], at: usize) -> usize {
+fn line_of(bytes: &[u8], at: usize) -> usize
+    ensures { result ≡ line_at bytes.now (min at (length bytes.now)) }
+{
     place_of(bytes, at.min(bytes.len())).line
 }
 
@@ -246,7 +249,8 @@ fn picked_message(
     source: &[u8],
     lines: Lines<'_>,
 ) -> Result<Vec<u8>, NoMemory>
-    ensures { IfOk result (λ message. SaysOfPickedSource lending source.now lines.entry.text.now message.items) }
+    ensures { IfOk result (λ message.
+        SaysOfPickedSource lending lines.entry.before source.now lines.entry.text.now message.items) }
 {
     if is_object(source) {
         picked_object_message(alloc, lending, source, lines)
@@ -262,7 +266,8 @@ fn picked_text_message(
     text: &[u8],
     lines: Lines<'_>,
 ) -> Result<Vec<u8>, NoMemory>
-    ensures { IfOk result (λ message. SaysOfPickedText lending text.now lines.entry.text.now message.items) }
+    ensures { IfOk result (λ message.
+        SaysOfPickedText lending lines.entry.before text.now lines.entry.text.now message.items) }
 {
     match text_message(alloc, "", text)? {
         Ok(compiled) => lines_message(alloc, lending, compiled.verified(), lines),
@@ -277,7 +282,8 @@ fn picked_object_message(
     object: &[u8],
     lines: Lines<'_>,
 ) -> Result<Vec<u8>, NoMemory>
-    ensures { IfOk result (λ message. SaysOfPickedObject lending object.now lines.entry.text.now message.items) }
+    ensures { IfOk result (λ message.
+        SaysOfPickedObject lending lines.entry.before object.now lines.entry.text.now message.items) }
 {
     match object_message(alloc, object)? {
         Ok((verified, _)) => lines_message(alloc, lending, &verified, lines),

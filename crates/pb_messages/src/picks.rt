@@ -13,7 +13,7 @@ use pb_base::{Lending, NoMemory};
 use pb_code::Code;
 use pb_history::replay::replay_counted_by;
 use pb_history::{CountedPick, ReplayFault};
-use pb_message_stops::{Lines, bad_line, note_line, stop_of, stop_wording, too_many};
+use pb_message_stops::{Lines, fault_wording, stop_of, stop_wording};
 use pb_picks::{PickFault, read_picks};
 use pb_verifier::Verified;
 use std::alloc::Global;
@@ -29,7 +29,8 @@ pub fn lines_message(
     verified: &Verified,
     lines: Lines<'_>,
 ) -> Result<Vec<u8>, NoMemory>
-    ensures { IfOk result (λ message. SaysOfPickLines lending verified.now.code lines.entry.text.now message.items) }
+    ensures { IfOk result (λ message.
+        SaysOfPickLines lending verified.now.code lines.entry.before lines.entry.text.now message.items) }
 {
     let picks = match read_picks(alloc, verified.code(), lines.text) {
         Ok(picks) => picks,
@@ -51,15 +52,13 @@ fn unread_message(
 ) -> Result<Vec<u8>, NoMemory>
     requires limits { KeepsLimits (code_view code.now) }
     requires fault { IsFaulty (code_view code.now) lines.text.now fault }
-    ensures { IfOk result (λ message. SaysOfPickLines lending (code_view code.now) lines.entry.text.now message.items) }
+    ensures { IfOk result (λ message.
+        SaysOfPickLines lending (code_view code.now) lines.entry.before lines.entry.text.now message.items) }
 {
     let Some(cause) = picks_cause(fault) else {
         return Err(NoMemory);
     };
-    let wording = match fault {
-        PickFault::NotPicks(at) => bad_line(alloc, code, lines, at),
-        PickFault::TooMany | PickFault::NoMemory => too_many(alloc, code, lines)?,
-    };
+    let wording = fault_wording(alloc, code, lines, fault)?;
     worded(alloc, LABEL, lines.text, &cause, &wording)
 }
 
@@ -74,7 +73,8 @@ fn stop_message(
 ) -> Result<Vec<u8>, NoMemory>
     requires spelled { SpellsPicks verified.now.code lines.text.now picks.now }
     requires stopped { IsStoppedBy lending verified.now.code (spread picks.now) fault }
-    ensures { IfOk result (λ message. SaysOfPickLines lending verified.now.code lines.entry.text.now message.items) }
+    ensures { IfOk result (λ message.
+        SaysOfPickLines lending verified.now.code lines.entry.before lines.entry.text.now message.items) }
 {
     let ReplayFault::NotEnabled(number) = fault else {
         return Err(NoMemory);
@@ -82,12 +82,7 @@ fn stop_message(
     let Some(stop) = stop_of(lines.text, picks, number) else {
         return Err(NoMemory);
     };
-    let mut wording = stop_wording(alloc, lending, verified, lines.text, &stop)?;
-    note_line(alloc, &mut wording, lines, stop.line);
-    wording.note_text(
-        alloc,
-        "hint: leave the pick out, or make others before it; without it and those behind it, debug shows the run up to here",
-    );
+    let wording = stop_wording(alloc, lending, verified, lines, &stop)?;
     let cause = Cause {
         code: pb_options::Code::H1,
         at: Some(stop.line),

@@ -1,6 +1,9 @@
 //! The message of a cause, put together.
 
-ghost use Rattle.std.specs.Prelude.{◌≡◌, ◌++◌, IfOk, IsTrue, OnOk};
+ghost use Rattle.std.specs.Prelude.{◌≡◌, ◌++◌, IfOk, IsTrue, OnOk, length, replicate, string_bytes};
+ghost use Rattle.std.specs.Fmt.{decimal};
+ghost use Rattle.std.specs.List.{flat_map};
+ghost use Rattle.pb_messages.specs.Details.{AreDetails, AreSpots, IsSpot, ShowsWording, first_offset, note_row};
 ghost use Rattle.pb_options.specs.Codes.{code_name};
 ghost use Rattle.pb_messages.specs.Messages.{IsMessage, IsShown, IsSummary, message};
 
@@ -19,7 +22,10 @@ pub fn worded(
     cause: &Cause,
     wording: &Wording,
 ) -> Result<Vec<u8>, NoMemory>
-    ensures { IfOk result (λ message. IsMessage label.now text.now cause.now message.items) }
+    ensures told { IfOk result (λ message. IsMessage label.now text.now cause.now message.items) }
+    // It shows the words, all other places and all notes of the wording, which is whole.
+    ensures shows { IfOk result (λ message. ShowsWording label.now text.now cause.now wording.now message.items) }
+    ensures whole { OnOk result (IsTrue wording.now.is_whole) }
 {
     let summary = wording.summary.as_bytes();
     if !wording.is_whole || !is_summary(summary) {
@@ -59,79 +65,84 @@ fn details(
     text: &[u8],
     cause: &Cause,
     wording: &Wording,
-) -> Result<Vec<u8>, NoMemory> {
-    let mut out = Vec::new(alloc);
-    put_details(alloc, &mut out, label, text, cause, wording)?;
+) -> Result<Vec<u8>, NoMemory>
+    ensures { IfOk result (λ details. AreDetails label.now text.now cause.now wording.now details.items) }
+{
+    let mut out = show_spots(alloc, label, text, &wording.spots)?;
+    let first = place_of(text, first_place(cause, &wording.spots).min(text.len()));
+    let width = decimal_width(alloc, first.line)?;
+    put_notes(&mut out, width, &wording.notes)?;
     Ok(out)
 }
 
-/// Appends to `out` the lines that follow the place of a fault.
-fn put_details(
-    alloc: Global,
-    out: &mut Vec<u8>,
-    label: &str,
-    text: &[u8],
-    cause: &Cause,
-    wording: &Wording,
-) -> Result<(), NoMemory> {
-    for spot in &wording.spots {
-        put_spot(alloc, out, label, text, spot)?;
-    }
-    let first = place_of(text, first_place(cause, wording).min(text.len()));
-    let width = decimal_width(alloc, first.line)?;
-    for note in &wording.notes {
-        put_note(out, width, note)?;
-    }
-    Ok(())
-}
-
 /// Returns the offset at which a message points first.
-fn first_place(cause: &Cause, wording: &Wording) -> usize {
-    match (cause.at, wording.spots.first()) {
+fn first_place(cause: &Cause, spots: &[Spot]) -> usize
+    ensures { result ≡ first_offset cause.now.at spots.now }
+{
+    match (cause.at, spots.first()) {
         (Some(at), _) => at,
         (None, Some(spot)) => spot.at,
         (None, None) => 0,
     }
 }
 
-/// Appends another place to `out`.
-fn put_spot(
-    alloc: Global,
-    out: &mut Vec<u8>,
-    label: &str,
-    text: &[u8],
-    spot: &Spot,
-) -> Result<(), NoMemory> {
-    let label = format!(in alloc; "{}{}", spot.label, label)?;
-    put_place(alloc, out, &label, text, spot.at)
+/// Returns other places, as a message shows them.
+fn show_spots(alloc: Global, label: &str, text: &[u8], spots: &[Spot]) -> Result<Vec<u8>, NoMemory>
+    ensures { IfOk result (λ shown. AreSpots label.now text.now spots.now shown.items) }
+{
+    let mut out = Vec::new(alloc);
+    for spot in spots {
+        let shown = show_spot(alloc, label, text, spot)?;
+        out.extend_from_slice(&shown)?;
+    }
+    Ok(out)
 }
 
-/// Appends a place of a text to `out`, as `show_place` shows it.
-fn put_place(
-    alloc: Global,
-    out: &mut Vec<u8>,
-    label: &String,
-    text: &[u8],
-    at: usize,
-) -> Result<(), NoMemory> {
-    let shown = show_place(alloc, label.as_bytes(), text, at.min(text.len()))?;
-    out.extend_from_slice(&shown)?;
-    Ok(())
+/// Returns another place, as `show_place` shows it.
+fn show_spot(alloc: Global, label: &str, text: &[u8], spot: &Spot) -> Result<Vec<u8>, NoMemory>
+    ensures { IfOk result (λ shown. IsSpot label.now text.now spot.now shown.items) }
+{
+    let label = format!(in alloc; "{}{}", spot.label, label)?;
+    show_place(alloc, label.as_bytes(), text, spot.at.min(text.len()))
 }
 
 /// Returns how many digits a number has.
-fn decimal_width(alloc: Global, number: usize) -> Result<usize, NoMemory> {
+fn decimal_width(alloc: Global, number: usize) -> Result<usize, NoMemory>
+    ensures { IfOk result (λ width. width ≡ length (decimal number)) }
+{
     Ok(format!(in alloc; "{number}")?.len())
 }
 
+/// Appends notes to `out`, each with a margin of this width.
+fn put_notes(out: &mut Vec<u8>, width: usize, notes: &[String]) -> Result<(), NoMemory>
+    ensures { OnOk result (out.new.items
+        ≡ out.old.items ++ flat_map (λ note. note_row width (string_bytes note)) notes.now) }
+{
+    for note in notes {
+        put_note(out, width, note.as_bytes())?;
+    }
+    Ok(())
+}
+
 /// Appends a note to `out`, with a margin of this width and a space before it.
-fn put_note(out: &mut Vec<u8>, width: usize, note: &String) -> Result<(), NoMemory> {
-    for _ in 0..width {
+fn put_note(out: &mut Vec<u8>, width: usize, note: &[u8]) -> Result<(), NoMemory>
+    ensures { OnOk result (out.new.items ≡ out.old.items ++ note_row width note.now) }
+{
+    put_blanks(out, width)?;
+    out.extend_from_slice(b" = ")?;
+    out.extend_from_slice(note)?;
+    out.push(b'\n')?;
+    Ok(())
+}
+
+/// Appends blanks to `out`.
+fn put_blanks(out: &mut Vec<u8>, count: usize) -> Result<(), NoMemory>
+    ensures { OnOk result (out.new.items ≡ out.old.items ++ replicate count 32) }
+{
+    for i in 0..count {
+        let _ = i;
         out.push(b' ')?;
     }
-    out.extend_from_slice(b" = ")?;
-    out.extend_from_slice(note.as_bytes())?;
-    out.push(b'\n')?;
     Ok(())
 }
 

@@ -1,5 +1,8 @@
 //! What a message says in words, put together.
 
+ghost use Rattle.std.specs.Prelude.{◌≡◌, ◌∷◌, ◌++◌, [], MatchResult, codes, false, string_bytes};
+ghost use Rattle.pb_mistakes.specs.Wordings.{AddsNote, AddsSpot, IsWording};
+
 use pb_lexer::Token;
 use pb_message_excerpts::printable_byte;
 use std::alloc::{AllocError, Global};
@@ -44,7 +47,9 @@ pub struct Wording {
 
 impl Wording {
     /// Returns the wording of a fault with no other place and no note.
-    pub fn new(alloc: Global, summary: Result<String, AllocError>) -> Wording {
+    pub fn new(alloc: Global, summary: Result<String, AllocError>) -> Wording
+        ensures { MatchResult summary (λ words. IsWording (string_bytes words) [] result) (λ _. result.is_whole ≡ false) }
+    {
         let is_whole = summary.is_ok();
         Wording {
             summary: summary.unwrap_or(String::new(alloc)),
@@ -55,19 +60,26 @@ impl Wording {
     }
 
     /// Returns the wording of a fault in these words, with no other place and no note.
-    pub fn of(alloc: Global, summary: &str) -> Wording {
+    pub fn of(alloc: Global, summary: &str) -> Wording
+        ensures { IsWording summary.now [] result }
+    {
         Wording::new(alloc, String::from_str(alloc, summary))
     }
 
     /// Returns the wording of a fault in these words, with one note.
-    pub fn noted(alloc: Global, summary: &str, note: &str) -> Wording {
+    pub fn noted(alloc: Global, summary: &str, note: &str) -> Wording
+        ensures { IsWording summary.now (note.now ∷ []) result }
+    {
         let mut wording = Wording::of(alloc, summary);
         wording.note_text(alloc, note);
         wording
     }
 
     /// Adds a note.
-    pub fn note(&mut self, note: Result<String, AllocError>) {
+    pub fn note(&mut self, note: Result<String, AllocError>)
+        ensures { MatchResult note (λ words. AddsNote self.old (string_bytes words) self.new)
+            (λ _. self.new.is_whole ≡ false) }
+    {
         match note {
             Ok(note) => self.is_whole &= self.notes.push(note).is_ok(),
             Err(_) => self.is_whole = false,
@@ -75,17 +87,24 @@ impl Wording {
     }
 
     /// Adds a note in these words.
-    pub fn note_text(&mut self, alloc: Global, note: &str) {
+    pub fn note_text(&mut self, alloc: Global, note: &str)
+        ensures { AddsNote self.old note.now self.new }
+    {
         self.note(String::from_str(alloc, note));
     }
 
     /// Adds a note that says what is usually meant.
-    pub fn hint(&mut self, alloc: Global, hint: &str) {
+    pub fn hint(&mut self, alloc: Global, hint: &str)
+        ensures { AddsNote self.old (codes "hint: " ++ hint.now) self.new }
+    {
         self.note(format!(in alloc; "hint: {hint}"));
     }
 
     /// Adds another place.
-    pub fn spot(&mut self, label: Result<String, AllocError>, at: usize) {
+    pub fn spot(&mut self, label: Result<String, AllocError>, at: usize)
+        ensures { MatchResult label (λ label. AddsSpot self.old (record { label = label; at = at }) self.new)
+            (λ _. self.new.is_whole ≡ false) }
+    {
         match label {
             Ok(label) => self.is_whole &= self.spots.push(Spot { label, at }).is_ok(),
             Err(_) => self.is_whole = false,

@@ -159,6 +159,8 @@ pub struct OutcomesOptions {
     pub expect: bool,
     /// Whether those lines may be printed in any order.
     pub any_order: bool,
+    /// Whether a run that never ends is written, in place of all outcomes.
+    pub endless: bool,
     /// Whether all schedules are written as a document, in place of all else.
     pub graph: bool,
     /// The number of an outcome, from 1 to 4,000,000, if the text is to be written with the picks that lead to it.

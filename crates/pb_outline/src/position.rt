@@ -1,6 +1,6 @@
 //! Positions in a text, as editors count.
 
-ghost use Rattle.std.specs.Prelude.{◌≡◌, ◌<◌, ◌^◌, ◌==◌, ◌&&◌};
+ghost use Rattle.std.specs.Prelude.{◌≡◌, ◌<◌, ◌≤◌, ◌^◌, Some, cond, false, length, slice_index_or};
 ghost use Rattle.pb_outline.specs.Positions as spec;
 
 /// A position in a text: a line, and a byte in it, both from 0.
@@ -10,13 +10,39 @@ pub struct Position {
     pub character: usize,
 }
 
-/// Returns the position behind a byte.
-fn behind(position: Position, byte: u8) -> Position
+/// The beginning of a text.
+const BEGINNING: Position = Position {
+    line: 0,
+    character: 0,
+};
+
+/// Returns whether a byte ends its line, with this one behind it.
+fn ends_with(byte: u8, next: u8) -> bool
+    ensures { result ≡ spec.ends_line byte next }
+{
+    byte == b'\n' || (byte == b'\r' && next != b'\n')
+}
+
+/// Returns whether a byte of a text ends its line.
+#[tactic(auto, using(crate::proofs::Offsets::ends_at, crate::proofs::Offsets::ends_last))]
+fn ends_line(text: &[u8], i: usize) -> bool
+    requires { i < length text.now }
+    ensures { result ≡ slice_index_or (spec.line_ends text.now) i false }
+{
+    if i + 1 < text.len() {
+        ends_with(text[i], text[i + 1])
+    } else {
+        ends_with(text[i], 0)
+    }
+}
+
+/// Returns the position behind a byte, which ends its line or not.
+fn behind(position: Position, ends: bool) -> Position
     requires line { position.line < 2 ^ 63 }
     requires character { position.character < 2 ^ 63 }
-    ensures { result ≡ spec.behind position byte }
+    ensures { result ≡ spec.behind position ends }
 {
-    if byte == b'\n' {
+    if ends {
         Position {
             line: position.line + 1,
             character: 0,
@@ -31,43 +57,41 @@ fn behind(position: Position, byte: u8) -> Position
 
 /// Returns the position of an offset, or of the end of the text if it is past that.
 pub fn position_of(text: &[u8], offset: usize) -> Position
-    ensures { result ≡ spec.position_of text.now offset }
+    ensures value { result ≡ spec.position_of text.now offset }
+    ensures few_lines { result.line ≤ length text.now }
+    ensures few_characters { result.character ≤ length text.now }
 {
-    let mut position = Position {
-        line: 0,
-        character: 0,
-    };
+    let mut position = BEGINNING;
     for i in 0..offset.min(text.len()) {
-        position = behind(position, text[i]);
+        position = behind(position, ends_line(text, i));
     }
     position
 }
 
-/// Returns whether both are the same.
-fn is_same(one: Position, other: Position) -> bool
-    ensures { result ≡ ((one.line == other.line) && (one.character == other.character)) }
+/// Returns whether a position is in the line of another one, and not behind that.
+fn is_up_to(position: Position, here: Position) -> bool
+    ensures { result ≡ spec.is_up_to position here }
 {
-    one.line == other.line && one.character == other.character
+    here.line == position.line && here.character <= position.character
 }
 
-/// Returns the offset that has a position, of a byte of the text or of its end; none if there is none.
-#[tactic(auto, using(crate::proofs::Offsets::find_from, crate::proofs::Offsets::offset_more))]
+/// Returns an offset if it is reached; else the one that was found before.
+fn later_of(found: Option<usize>, reached: bool, at: usize) -> Option<usize>
+    ensures { result ≡ cond reached (Some at) found }
+{
+    if reached { Some(at) } else { found }
+}
+
+/// Returns the offset that has a position, of a byte of the text or of its end; that of the end of its line if the
+/// line is shorter, and none if there is no such line.
 pub fn offset_at(text: &[u8], position: Position) -> Option<usize>
     ensures { result ≡ spec.offset_at text.now position }
 {
-    let mut here = Position {
-        line: 0,
-        character: 0,
-    };
+    let mut here = BEGINNING;
+    let mut found = None;
     for i in 0..text.len() {
-        if is_same(here, position) {
-            return Some(i);
-        }
-        here = behind(here, text[i]);
+        found = later_of(found, is_up_to(position, here), i);
+        here = behind(here, ends_line(text, i));
     }
-    if is_same(here, position) {
-        Some(text.len())
-    } else {
-        None
-    }
+    later_of(found, is_up_to(position, here), text.len())
 }

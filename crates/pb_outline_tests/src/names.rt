@@ -98,7 +98,35 @@ fn positions_are_counted_from_0(rt: HostRuntime) {
     for (line, character, at) in [(0, 2, 2), (1, 0, 3), (2, 1, 5)] {
         assert!(rt; offset_at(text, Position { line, character }) == Some(at));
     }
-    for (line, character) in [(0, 3), (1, 1), (3, 0)] {
-        assert!(rt; offset_at(text, Position { line, character }).is_none());
+    // A character past the end of a line is its end.
+    for (line, character, at) in [(0, 3, 2), (1, 1, 3), (2, 99, 5)] {
+        assert!(rt; offset_at(text, Position { line, character }) == Some(at));
+    }
+    assert!(rt;
+        offset_at(
+            text,
+            Position {
+                line: 3,
+                character: 0
+            }
+        )
+        .is_none()
+    );
+}
+
+#[test]
+fn a_return_alone_ends_a_line(rt: HostRuntime) {
+    let text = b"a\rb\r\nc\r";
+    for (at, line, character) in [
+        (1, 0, 1),
+        (2, 1, 0),
+        (3, 1, 1),
+        (4, 1, 2),
+        (5, 2, 0),
+        (6, 2, 1),
+        (7, 3, 0),
+    ] {
+        assert!(rt; position_of(text, at) == Position { line, character });
+        assert!(rt; offset_at(text, Position { line, character }) == Some(at));
     }
 }

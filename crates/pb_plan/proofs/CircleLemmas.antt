@@ -4,14 +4,14 @@ use Rattle.std.proofs.Common.{Option, Some, None, refl, sym, ap, ◌∙◌, subs
 use Rattle.std.specs.Prelude.{All, slice_get, remove}
 use Rattle.std.proofs.lemmas.Bool.{cases_eq}
 use Rattle.std.proofs.lemmas.List.{length-take-le}
-use Rattle.std.proofs.lemmas.List.Elements.{All-nil, All-cons, All-take}
+use Rattle.std.proofs.lemmas.List.Elements.{All-nil, All-cons, All-take, All-weaker}
 use Rattle.std.proofs.lemmas.Option.{slice_get_within}
 use Rattle.pb_base.proofs.Lists.{all_at, get_removed}
 use Rattle.pb_names.specs.Program.{Process}
 use Rattle.pb_names.specs.View.{process_view}
 use Rattle.pb_names.specs.declared.resolved.Process.{Process as GivenProcess}
 use Rattle.pb_plan.proofs.StandingLemmas.{nest_below}
-use Rattle.pb_plan.specs.Circles.{IsBelow, IsCircle, IsEdge, IsOnPath, IsPath}
+use Rattle.pb_plan.specs.Circles.{IsBelow, IsCircleAmong, IsEdge, IsEdgeAmong, IsOnPath, IsPath, JoinsThese}
 use Rattle.pb_plan.specs.Nests.{AskBelow, IsAmong, first, nest, nest_among}
 use Rattle.pb_plan.specs.Orders.{EachHold}
 use Rattle.pb_plan.specs.declared.edge.Edge.{Edge}
@@ -64,23 +64,34 @@ module _ (Good : Edge → Type 0) where
       once (suc i) (suc k) one two h j same = ap suc (is.once i k one two h j same)
 
 -- the first part of a path, up to the edge to the resource from which the first one leads
-pub circle_at : (processes : List Process) (path : List Edge) (at k : ℕ) (edge : Edge) → IsPath (IsEdge processes) path at
-    → slice_get path k ≡ Some edge → edge.nest.inner ≡ at → IsCircle processes (take (k + 1) path)
-circle_at processes path at k edge is there back =
+pub circle_at : (processes : List Process) (among : List ℕ) (path : List Edge) (at k : ℕ) (edge : Edge)
+    → IsPath (IsEdgeAmong processes among) path at → slice_get path k ≡ Some edge → edge.nest.inner ≡ at
+    → IsCircleAmong among processes (take (k + 1) path)
+circle_at processes among path at k edge is there back =
     let w = slice_get_within path k edge there in
     let n : length (take (k + 1) path) ≡ k + 1 = length-take-le (k + 1) path (omega (arith, w)) in
-    record {
-      some = omega (arith, n);
-      each = All-take (IsEdge processes) (k + 1) path is.each;
-      next = λ i one two h j. is.next i one two (get_taken (k + 1) path i one h) (get_taken (k + 1) path (i + 1) two j);
-      last = λ one first h j.
-          let e : length (take (k + 1) path) - 1 ≡ k = omega (arith, n) in
-          let same : Some edge ≡ Some one =
-          sym there ∙ (ap (slice_get path) (sym e) ∙ get_taken (k + 1) path (length (take (k + 1) path) - 1) one h) in
-          let it : edge ≡ one = cc in
-          sym (ap (λ (x : Edge). x.nest.inner) it) ∙ (back ∙ sym (is.first first (get_taken (k + 1) path 0 first j)));
-      once = λ i j one two h g same. is.once i j one two (get_taken (k + 1) path i one h) (get_taken (k + 1) path j two g) same;
-    }
+    let each = All-take (IsEdgeAmong processes among) (k + 1) path is.each in (
+      record {
+        some = omega (arith, n);
+        each = All-weaker (IsEdgeAmong processes among) (IsEdge processes) (λ it both. both.0) (take (k + 1) path) each;
+        next = λ i one two h j. is.next i one two (get_taken (k + 1) path i one h) (get_taken (k + 1) path (i + 1) two j);
+        last = λ one first h j.
+            let e : length (take (k + 1) path) - 1 ≡ k = omega (arith, n) in
+            let same : Some edge ≡ Some one =
+            sym there ∙ (ap (slice_get path) (sym e) ∙ get_taken (k + 1) path (length (take (k + 1) path) - 1) one h) in
+            let it : edge ≡ one = cc in
+            sym (ap (λ (x : Edge). x.nest.inner) it) ∙ (back ∙ sym (is.first first (get_taken (k + 1) path 0 first j)));
+        once = λ i j one two h g same. is.once i j one two (get_taken (k + 1) path i one h) (get_taken (k + 1) path j two g) same;
+      },
+      All-weaker (IsEdgeAmong processes among) (JoinsThese among) (λ it both. both.1) (take (k + 1) path) each,
+    )
+
+-- edges between some of the resources, if those are all among others
+pub joins_more : (few many : List ℕ) (circle : List Edge) → ((r : ℕ) → IsAmong few r → IsAmong many r)
+    → All (JoinsThese few) circle → All (JoinsThese many) circle
+joins_more few many circle more all =
+    All-weaker (JoinsThese few) (JoinsThese many)
+    (λ edge both. (more edge.nest.outer both.0, more edge.nest.inner both.1)) circle all
 
 -- whichever is left or on the path stays so if the resource at which it is goes from one to the other
 pub cover_more : (rest : List ℕ) (path : List Edge) (edge : Edge) (i at q : ℕ) → slice_get rest i ≡ Some at → edge.nest.inner ≡ at

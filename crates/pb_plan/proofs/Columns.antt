@@ -1,9 +1,9 @@
 -- The greatest of a column of claims, its sum, and the resource of which most is lacking.
-use Rattle.std.proofs.Common.{◌≡◌, inl, inr, ℕ, zero, suc, ◌+◌, ◌<◌, ◌≤◌, max, List, [], ◌∷◌, length}
-use Rattle.std.proofs.Common.{take, get_or, arith, ap, refl, add-one, Option, Some, None}
+use Rattle.std.proofs.Common.{◌≡◌, ◌⊎◌, inl, inr, ℕ, zero, suc, ◌+◌, ◌<◌, ◌≤◌, max, List, [], ◌∷◌, length}
+use Rattle.std.proofs.Common.{take, get_or, arith, ap, refl, subst, add-one, Option, Some, None}
 use Rattle.std.specs.Prelude.{MatchOption, sum_by}
 use Rattle.std.specs.List.{range_with_len}
-use Rattle.std.proofs.lemmas.Bool.{cases_eq}
+use Rattle.std.proofs.lemmas.Bool.{cases_eq, cases_lt}
 use Rattle.std.proofs.lemmas.List.Sums.{sum_by-cons}
 use Rattle.pb_base.specs.Banker.{cell}
 use Rattle.pb_base.specs.Steppers.{Table}
@@ -131,3 +131,33 @@ found_all claims capital n most (Some b) h end all = record {
   most = λ other within. (let x = h.greatest other (omega (arith, within, end)) in let y = h.here in omega (arith, x, y));
   first = λ earlier within. (let x = h.first earlier within in let y = h.here in omega (arith, x, y));
 }
+
+-- ---- there is enough of each, or a bottleneck
+
+-- what is found among the first n resources, with how much is lacking of it
+record Found (claims : Table) (capital : List ℕ) (n : ℕ) : Type 0 where
+  most : ℕ
+  found : Option ℕ
+  is : IsFound claims capital n most found
+
+look : (claims : Table) (capital : List ℕ) (n : ℕ) → Found claims capital n
+look claims capital zero = record { most = 0; found = None; is = (refl, λ k within. absurd (omega (arith, within))) }
+look claims capital (suc n) =
+    let old = look claims capital n in
+    elim (cases_lt old.most (lack claims capital n)) [
+      | inl more ↦
+          record { most = lack claims capital n; found = Some n; is = subst (λ k. IsFound claims capital k (lack claims capital n) (Some n)) (omega arith) (found_here claims capital n old.most old.found old.is more) }
+      | inr less ↦
+          record { most = old.most; found = old.found; is = subst (λ k. IsFound claims capital k old.most old.found) (omega arith) (found_before claims capital n old.most old.found old.is less) }
+    ]
+
+pub free_or_bottleneck : (claims : Table) (capital : List ℕ)
+    → AllFree claims capital ⊎ ((r : ℕ) × IsBottleneck claims capital r)
+free_or_bottleneck claims capital =
+    let it = look claims capital (length capital) in
+    which it.found (found_all claims capital (length capital) it.most it.found it.is (omega arith) (omega arith))
+  where
+    which : (found : Option ℕ) → MatchOption found (AllFree claims capital) (IsBottleneck claims capital)
+        → AllFree claims capital ⊎ ((r : ℕ) × IsBottleneck claims capital r)
+    which None free = inl free
+    which (Some r) most = inr (r, most)

@@ -1,6 +1,7 @@
 pub mod Blocked
 pub mod CircleLemmas
 pub mod Columns
+pub mod EachHolds
 pub mod Free
 pub mod FreeDeadlocks
 pub mod FreeLoans
@@ -16,6 +17,8 @@ pub mod OrderedLoans
 pub mod OrderedPlaces
 pub mod OrderedRuns
 pub mod OrderedSteps
+pub mod Room
+pub mod ScarceLemmas
 pub mod StandingLemmas
 pub mod Walks
 pub mod Weights

@@ -1,4 +1,4 @@
--- Nests tell whether an order is followed.
+-- Nests tell what is so of each hold and the holds around it.
 use Rattle.std.proofs.Common.{◌≡◌, ◌∙◌, ◌⊎◌, inl, inr, ⊎_elim, ℕ, zero, suc, ◌<◌, ◌||◌, true, cond, eqb}
 use Rattle.std.proofs.Common.{List, [], ◌∷◌, ◌++◌, length, get_or, Option, Some, None, refl, sym, ap, subst, arith}
 use Rattle.std.proofs.Common.{eq-eqb, eqb-true}
@@ -11,7 +11,7 @@ use Rattle.pb_names.specs.Program.{Stmt, Assign, Print, If, While, Hold, Parbegi
 use Rattle.pb_names.specs.Program.{AndArm, Process}
 use Rattle.pb_plan.proofs.OrderedDeadlocks.{all_behind, all_before}
 use Rattle.pb_plan.specs.Nests.{arms_nest, asks, first, held_inside, nest, nest_among, own_nest, stmt_nest, AskBelow}
-use Rattle.pb_plan.specs.Orders.{ComesLater, EachHoldOf, EachHold, EachHoldAmong, IsFollowed, place}
+use Rattle.pb_plan.specs.Orders.{EachHoldOf, EachHold, EachHoldAmong}
 use Rattle.pb_plan.specs.declared.nest.Nest.{Nest}
 
 -- ---- what a bundle asks for
@@ -132,12 +132,18 @@ module _ (n outer inner : ℕ) where
       (λ r. among_is processes found (λ k d u. below (suc k) d (omega (arith, u))) r)
       (which (nest outer inner None process.body) (nest_among outer inner processes) found is)
 
--- ---- an order that fits all nests is followed
+-- ---- what is so of all nests is so of all holds
 
-module _ (order : List ℕ) where
-  -- wherever there is a nest, the inner resource comes later
+-- `Before` is what is so of the outer and the inner resource of each
+module _ (Before : (outer inner : ℕ) → Type 0) where
+  -- what is asked for is so to all that is asked for around it
+  abbrev Comes : (around asked : Bundle) → Type 0
+  Comes around asked =
+      All (λ (pair : Pair). All (λ (outer : Pair). Before outer.resource pair.resource) around) asked
+
+  -- wherever there is a nest, it is so of its resources
   abbrev Fits : (ℕ → ℕ → Option Nest) → Type 0
-  Fits nests = (outer inner : ℕ) → (nests outer inner ≡ None → ⊥) → place order outer < place order inner
+  Fits nests = (outer inner : ℕ) → (nests outer inner ≡ None → ⊥) → Before outer inner
 
   abbrev IsHeld : (ℕ → Option ℕ) → Bundle → Type 0
   IsHeld held around = All (λ (pair : Pair). held pair.resource ≡ None → ⊥) around
@@ -157,7 +163,7 @@ module _ (order : List ℕ) where
       cc
 
   own_later : (held : ℕ → Option ℕ) (around bundle : Bundle) (line : ℕ) → IsHeld held around
-      → Fits (λ o i. own_nest o i (held o) line bundle) → ComesLater order around bundle
+      → Fits (λ o i. own_nest o i (held o) line bundle) → Comes around bundle
   own_later held around bundle line is fits k d u k' d' u' =
       let outer = (get_or around k' d').resource in
       let inner = (get_or bundle k d).resource in
@@ -181,7 +187,7 @@ module _ (order : List ℕ) where
 
   mutual
     stmt_later : (held : ℕ → Option ℕ) (around : Bundle) (s : Stmt) → IsHeld held around
-        → Fits (λ o i. stmt_nest o i (held o) s) → EachHoldOf (ComesLater order) around s
+        → Fits (λ o i. stmt_nest o i (held o) s) → EachHoldOf Comes around s
     stmt_later held around (Assign line x e) is fits = tt
     stmt_later held around (Print line e) is fits = tt
     stmt_later held around (If line e a b) is fits = (
@@ -201,7 +207,7 @@ module _ (order : List ℕ) where
     stmt_later held around (Parbegin line number arms) is fits = arms_later held around arms is fits
 
     later : (held : ℕ → Option ℕ) (around : Bundle) (block : Block) → IsHeld held around
-        → Fits (λ o i. nest o i (held o) block) → EachHold (ComesLater order) around block
+        → Fits (λ o i. nest o i (held o) block) → EachHold Comes around block
     later held around Skip is fits = tt
     later held around (Then s block) is fits = (
       stmt_later held around s is
@@ -211,7 +217,7 @@ module _ (order : List ℕ) where
     )
 
     arms_later : (held : ℕ → Option ℕ) (around : Bundle) (arms : Arms) → IsHeld held around
-        → Fits (λ o i. arms_nest o i (held o) arms) → EachHoldAmong (ComesLater order) around arms
+        → Fits (λ o i. arms_nest o i (held o) arms) → EachHoldAmong Comes around arms
     arms_later held around NoArm is fits = tt
     arms_later held around (AndArm arm arms) is fits = (
       later held around arm is
@@ -220,32 +226,32 @@ module _ (order : List ℕ) where
           (fits_right (λ o i. nest o i (held o) arm) (λ o i. arms_nest o i (held o) arms) fits),
     )
 
-  pub followed : (processes : List Process) → Fits (λ o i. nest_among o i processes) → IsFollowed order processes
+  pub followed : (processes : List Process) → Fits (λ o i. nest_among o i processes) → All (λ process. EachHold Comes [] process.body) processes
   followed [] fits = λ k d u. absurd (omega (arith, u))
   followed (process ∷ processes) fits =
-      All-cons (λ (p : Process). EachHold (ComesLater order) [] p.body) process processes
+      All-cons (λ (p : Process). EachHold Comes [] p.body) process processes
       (later (λ o. None) [] process.body (λ k d u. absurd (omega (arith, u)))
       (fits_left (λ o i. nest o i None process.body) (λ o i. nest_among o i processes) fits))
       (followed processes
       (fits_right (λ o i. nest o i None process.body) (λ o i. nest_among o i processes) fits))
 
-  -- ---- an order that is followed fits all nests
+  -- ---- what is so of all holds is so of all nests
 
   module _ (outer inner : ℕ) where
-    -- if the outer resource is held, then what comes after all that is held around comes after it
+    -- if the outer resource is held, then what is so to all that is held around is so to it
     abbrev IsAround : Option ℕ → Bundle → Type 0
     IsAround held around =
-        (held ≡ None → ⊥) → All (λ (pair : Pair). place order pair.resource < place order inner) around
-        → place order outer < place order inner
+        (held ≡ None → ⊥) → All (λ (pair : Pair). Before pair.resource inner) around
+        → Before outer inner
 
     own_fits : (held : Option ℕ) (around bundle : Bundle) (line : ℕ) (found : Nest) → IsAround held around
-        → ComesLater order around bundle → own_nest outer inner held line bundle ≡ Some found
-        → place order outer < place order inner
+        → Comes around bundle → own_nest outer inner held line bundle ≡ Some found
+        → Before outer inner
     own_fits None around bundle line found is comes e = cc
     own_fits (Some at) around bundle line found is comes e = ⊎_elim
         (λ asked.
         is (λ none. let w : Some at ≡ None = none in cc)
-        (of_asked (λ r. All (λ (pair : Pair). place order pair.resource < place order r) around) inner bundle asked comes))
+        (of_asked (λ r. All (λ (pair : Pair). Before pair.resource r) around) inner bundle asked comes))
         (λ none.
         let it : Nest = record { outer_line = at; outer = outer; inner_line = line; inner = inner } in
         let w : None ≡ Some found = sym (ap (λ b. cond b (Some it) None) none) ∙ e in
@@ -256,17 +262,17 @@ module _ (order : List ℕ) where
         → IsAround (held_inside outer held line bundle) (bundle ++ around)
     around_more held around bundle line is some all = ⊎_elim
         (λ asked.
-        of_asked (λ r. place order r < place order inner) outer bundle asked
-        (all_before (λ (pair : Pair). place order pair.resource < place order inner) bundle around all))
+        of_asked (λ r. Before r inner) outer bundle asked
+        (all_before (λ (pair : Pair). Before pair.resource inner) bundle around all))
         (λ other.
         is (λ none. some (ap (λ b. cond b (Some line) held) other ∙ none))
-        (all_behind (λ (pair : Pair). place order pair.resource < place order inner) bundle around all))
+        (all_behind (λ (pair : Pair). Before pair.resource inner) bundle around all))
         (bool_cases (asks outer bundle))
 
     mutual
       stmt_fits : (held : Option ℕ) (around : Bundle) (s : Stmt) (found : Nest) → IsAround held around
-          → EachHoldOf (ComesLater order) around s → stmt_nest outer inner held s ≡ Some found
-          → place order outer < place order inner
+          → EachHoldOf Comes around s → stmt_nest outer inner held s ≡ Some found
+          → Before outer inner
       stmt_fits held around (Assign line x e) found is h e' = cc
       stmt_fits held around (Print line e) found is h e' = cc
       stmt_fits held around (If line e a b) found is h e' = ⊎_elim
@@ -283,23 +289,23 @@ module _ (order : List ℕ) where
       stmt_fits held around (Parbegin line number arms) found is h e' = arms_fits held around arms found is h e'
 
       fits : (held : Option ℕ) (around : Bundle) (block : Block) (found : Nest) → IsAround held around
-          → EachHold (ComesLater order) around block → nest outer inner held block ≡ Some found
-          → place order outer < place order inner
+          → EachHold Comes around block → nest outer inner held block ≡ Some found
+          → Before outer inner
       fits held around Skip found is h e = cc
       fits held around (Then s block) found is h e = ⊎_elim
           (λ l. stmt_fits held around s found is h.0 l) (λ r. fits held around block found is h.1 r)
           (which (stmt_nest outer inner held s) (nest outer inner held block) found e)
 
       arms_fits : (held : Option ℕ) (around : Bundle) (arms : Arms) (found : Nest) → IsAround held around
-          → EachHoldAmong (ComesLater order) around arms → arms_nest outer inner held arms ≡ Some found
-          → place order outer < place order inner
+          → EachHoldAmong Comes around arms → arms_nest outer inner held arms ≡ Some found
+          → Before outer inner
       arms_fits held around NoArm found is h e = cc
       arms_fits held around (AndArm arm arms) found is h e = ⊎_elim
           (λ l. fits held around arm found is h.0 l) (λ r. arms_fits held around arms found is h.1 r)
           (which (nest outer inner held arm) (arms_nest outer inner held arms) found e)
 
-    pub among_fits : (processes : List Process) (found : Nest) → IsFollowed order processes
-        → nest_among outer inner processes ≡ Some found → place order outer < place order inner
+    pub among_fits : (processes : List Process) (found : Nest) → All (λ process. EachHold Comes [] process.body) processes
+        → nest_among outer inner processes ≡ Some found → Before outer inner
     among_fits [] found h e = cc
     among_fits (process ∷ processes) found h e = ⊎_elim
         (λ l. fits None [] process.body found (λ some all. absurd (some refl)) (h 0 process (omega arith)) l)

@@ -3,21 +3,37 @@
 use Rattle.std.proofs.Common.{◌≡◌, ◌∙◌, ◌⊎◌, inl, inr, ⊎_elim, ℕ, zero, suc, ◌+◌, ◌<◌, ◌≤◌, true, false, cond, eqb}
 use Rattle.std.proofs.Common.{List, [], ◌∷◌, ◌++◌, length, get_or, Option, Some, None, refl, sym, ap, subst, arith}
 use Rattle.std.proofs.Common.{eq-eqb, eqb-true, length-append, append-nil, add-one}
-use Rattle.std.specs.Prelude.{All, slice_get, remove}
+use Rattle.std.specs.Prelude.{All, IfNone, IfOk, IfSome, Result, Ok, Err, slice_get, remove}
 use Rattle.std.specs.List.{range_with_len}
 use Rattle.std.specs.List.Sorted.{IsPermutation}
 use Rattle.std.proofs.lemmas.Bool.{cases_lt}
 use Rattle.std.proofs.lemmas.List.Elements.{All-append}
-use Rattle.std.proofs.lemmas.List.FromFn.{get_or-range_with_len, length-range_with_len}
 use Rattle.std.proofs.lemmas.List.Sorted.{All-permutation, IsPermutation-more, IsPermutation-refl, IsPermutation-sym}
 use Rattle.std.proofs.lemmas.Option.{get_or_from_slice_get, slice_get-get_or, slice_get_within}
 use Rattle.pb_base.proofs.Cases.{bool_cases}
-use Rattle.pb_base.proofs.Lists.{get_some}
+use Rattle.pb_base.proofs.Lists.{all_at, get_some}
 use Rattle.pb_names.specs.Program.{Process}
 use Rattle.pb_plan.proofs.NestLemmas.{among_is, followed, among_fits}
-use Rattle.pb_plan.specs.Nests.{AskBelow, IsAmong, IsBegun, IsInside, IsOrder, nest_among}
-use Rattle.pb_plan.specs.Orders.{IsFollowed, place}
+use Rattle.pb_plan.specs.Nests.{AskBelow, IsAmong, IsBegun, IsInside, nest_among}
+use Rattle.pb_plan.specs.Orders.{place}
+use Rattle.pb_plan.specs.Scarce.{IsFollowedAmong, IsLaterAmong}
 use Rattle.pb_plan.specs.declared.nest.Nest.{Nest}
+
+-- ---- what was looked for
+
+-- what was found is so in another way too
+pub each_found : {X E : Type 0} (result : Result (Option X) E) (P Q : X → Type 0) → ((x : X) → P x → Q x)
+    → IfOk result (λ found. IfSome found P) → IfOk result (λ found. IfSome found Q)
+each_found (Ok (Some x)) P Q so is = so x is
+each_found (Ok None) P Q so is = tt
+each_found (Err e) P Q so is = tt
+
+-- so is what holds if nothing was found
+pub none_found : {X E : Type 0} (result : Result (Option X) E) (P Q : Type 0) → (P → Q) → IfOk result (λ found. IfNone found P)
+    → IfOk result (λ found. IfNone found Q)
+none_found (Ok (Some x)) P Q so is = tt
+none_found (Ok None) P Q so is = so is
+none_found (Err e) P Q so is = tt
 
 -- one more number
 range_push : (a n : ℕ) → range_with_len a (suc n) ≡ range_with_len a n ++ (a + n) ∷ []
@@ -86,36 +102,47 @@ place_pushed (y ∷ order) r x = ⊎_elim (λ same. here same) (λ other. there 
 
 -- ---- what is in order, and what is left
 
-module _ (processes : List Process) (n : ℕ) (below : AskBelow n processes) where
-  pub begun : IsBegun processes n [] (range_with_len 0 n)
+-- what is left is among the resources
+pub left_among : (resources order left : List ℕ) (r : ℕ) → IsPermutation resources (order ++ left) → IsAmong left r
+    → IsAmong resources r
+left_among resources order left r all among =
+    let itself : All (IsAmong resources) resources = λ k d u. (k, slice_get-get_or resources k d u) in
+    let both = All-permutation (IsAmong resources) resources (order ++ left) all itself in
+    all_at (IsAmong resources) left among.0 r (behind order both) among.1
+  where
+    behind : (xs : List ℕ) → All (IsAmong resources) (xs ++ left) → All (IsAmong resources) left
+    behind [] both = both
+    behind (x ∷ xs) both = behind xs (λ k d u. both (suc k) d (omega (arith, u)))
+
+module _ (processes : List Process) (n : ℕ) (below : AskBelow n processes) (resources : List ℕ) where
+  pub begun : IsBegun processes resources [] resources
   begun = record {
-    all = IsPermutation-refl (range_with_len 0 n);
-    later = λ outer inner found is u. absurd (omega (arith, u));
+    all = IsPermutation-refl resources;
+    later = λ outer inner found is there u. absurd (omega (arith, u));
   }
 
   -- a resource is in order, or left
-  in_or_left : (order left : List ℕ) (r : ℕ) → r < n → IsPermutation (range_with_len 0 n) (order ++ left)
+  in_or_left : (order left : List ℕ) (r : ℕ) → IsAmong resources r → IsPermutation resources (order ++ left)
       → (place order r < length order) ⊎ IsAmong left r
-  in_or_left order left r u all =
+  in_or_left order left r among all =
       let P : ℕ → Type 0 = λ x. (place order x < length order) ⊎ IsAmong left x in
       let both : All P (order ++ left) = All-append P order left (λ k d l. inl (place_in order k d l)) (λ k d l. inr (k, slice_get-get_or left k d l)) in
-      let each = All-permutation P (order ++ left) (range_with_len 0 n) (IsPermutation-sym (range_with_len 0 n) (order ++ left) all) both in
-      let many = length-range_with_len 0 n in
-      subst P (get_or-range_with_len 0 n r 0 u ∙ omega arith) (each r 0 (omega (arith, many, u)))
+      let each = All-permutation P (order ++ left) resources (IsPermutation-sym resources (order ++ left) all) both in
+      all_at P resources among.0 r each among.1
 
   pub begun_more : (order left : List ℕ) (i r : ℕ) → slice_get left i ≡ Some r
-      → ((found : Nest) → IsInside processes left r found → ⊥) → IsBegun processes n order left
-      → IsBegun processes n (order ++ r ∷ []) (remove left i)
+      → ((found : Nest) → IsInside processes left r found → ⊥) → IsBegun processes resources order left
+      → IsBegun processes resources (order ++ r ∷ []) (remove left i)
   begun_more order left i r at free b = record {
     all =
-        IsPermutation-more (range_with_len 0 n) order left i r (slice_get_within left i r at)
+        IsPermutation-more resources order left i r (slice_get_within left i r at)
         (sym (get_or_from_slice_get left i r r at)) b.all;
     later = later;
   }
     where
-      outer_in : (outer : ℕ) (found : Nest) → nest_among outer r processes ≡ Some found
+      outer_in : (outer : ℕ) (found : Nest) → nest_among outer r processes ≡ Some found → IsAmong resources outer
           → place order outer < length order
-      outer_in outer found is =
+      outer_in outer found is there =
           let facts = among_is n outer r processes found below is in
           ⊎_elim (λ u. u)
           (λ among.
@@ -123,21 +150,21 @@ module _ (processes : List Process) (n : ℕ) (below : AskBelow n processes) whe
             subst (IsAmong left) (sym facts.outer_is) among,
             subst (λ o. nest_among o r processes ≡ Some found) (sym facts.outer_is) is,
           )))
-          (in_or_left order left outer facts.outer_below b.all)
+          (in_or_left order left outer there b.all)
 
-      later : (outer inner : ℕ) (found : Nest) → nest_among outer inner processes ≡ Some found
+      later : (outer inner : ℕ) (found : Nest) → nest_among outer inner processes ≡ Some found → IsAmong resources outer
           → place (order ++ r ∷ []) inner < length (order ++ r ∷ [])
           → place (order ++ r ∷ []) outer < place (order ++ r ∷ []) inner
-      later outer inner found is u = ⊎_elim
+      later outer inner found is there u = ⊎_elim
           (λ old.
-          let less = b.later outer inner found is old in
+          let less = b.later outer inner found is there old in
           let o = (place_pushed order r outer).old (omega (arith, less, old)) in
           let p = (place_pushed order r inner).old old in
           omega (arith, less, o, p))
           (λ new. ⊎_elim
           (λ same.
           let e = eqb-true inner r same in
-          let inside = outer_in outer found (subst (λ k. nest_among outer k processes ≡ Some found) e is) in
+          let inside = outer_in outer found (subst (λ k. nest_among outer k processes ≡ Some found) e is) there in
           let o = (place_pushed order r outer).old inside in
           let p = (place_pushed order r inner).own new e in
           omega (arith, inside, o, p))
@@ -150,39 +177,44 @@ module _ (processes : List Process) (n : ℕ) (below : AskBelow n processes) whe
 
   -- ---- at the end
 
-  pub all_placed : (order left : List ℕ) → length left ≡ 0 → IsBegun processes n order left → IsOrder n order
-  all_placed order [] none b = subst (IsPermutation (range_with_len 0 n)) (append-nil order) b.all
+  pub all_placed : (order left : List ℕ) → length left ≡ 0 → IsBegun processes resources order left
+      → IsPermutation resources order
+  all_placed order [] none b = subst (IsPermutation resources) (append-nil order) b.all
   all_placed order (r ∷ left) none b = absurd (omega (arith, none))
 
-  pub all_followed : (order left : List ℕ) → length left ≡ 0 → IsBegun processes n order left → IsFollowed order processes
-  all_followed order left none b = followed order processes (λ outer inner some. there outer inner (nest_among outer inner processes) refl some)
+  pub all_followed : (order left : List ℕ) → length left ≡ 0 → IsBegun processes resources order left
+      → IsFollowedAmong resources order processes
+  all_followed order left none b =
+      followed (IsLaterAmong resources order) processes
+      (λ outer inner some. there outer inner (nest_among outer inner processes) refl some)
     where
       there : (outer inner : ℕ) (o : Option Nest) → nest_among outer inner processes ≡ o
-          → (nest_among outer inner processes ≡ None → ⊥) → place order outer < place order inner
+          → (nest_among outer inner processes ≡ None → ⊥) → IsLaterAmong resources order outer inner
       there outer inner None e some = absurd (some e)
-      there outer inner (Some found) e some =
-          let facts = among_is n outer inner processes found below e in
-          b.later outer inner found e (⊎_elim (λ u. u)
+      there outer inner (Some found) e some = λ from to.
+          b.later outer inner found e from (⊎_elim (λ u. u)
           (λ among.
           let u = slice_get_within left among.0 inner among.1 in
           absurd (omega (arith, u, none)))
-          (in_or_left order left inner facts.inner_below b.all))
+          (in_or_left order left inner to b.all))
 
   -- if each of some is inside another of them, there is no order
-  pub none_followed : (left : List ℕ) → (length left ≡ 0 → ⊥)
+  pub none_followed : (order left : List ℕ) → IsBegun processes resources order left → (length left ≡ 0 → ⊥)
       → ((r : ℕ) → IsAmong left r → (found : Nest) × IsInside processes left r found)
-      → (order : List ℕ) → IsFollowed order processes → ⊥
-  none_followed left some each order h =
+      → (other : List ℕ) → IsFollowedAmong resources other processes → ⊥
+  none_followed order left b some each other h =
       let r = get_some left 0 (not_zero (length left) some) in
-      falls (suc (place order r.0)) r.0 (0, r.1) (omega arith)
+      falls (suc (place other r.0)) r.0 (0, r.1) (omega arith)
     where
       not_zero : (k : ℕ) → (k ≡ 0 → ⊥) → 0 < k
       not_zero zero s = absurd (s refl)
       not_zero (suc k) s = omega arith
 
-      falls : (m r : ℕ) → IsAmong left r → place order r < m → ⊥
+      falls : (m r : ℕ) → IsAmong left r → place other r < m → ⊥
       falls zero r among u = omega (arith, u)
       falls (suc m) r among u =
           let next = each r among in
-          let less = among_fits order next.0.outer r processes next.0 h next.1.1 in
+          let less =
+          among_fits (IsLaterAmong resources other) next.0.outer r processes next.0 h next.1.1
+          (left_among resources order left next.0.outer b.all next.1.0) (left_among resources order left r b.all among) in
           falls m next.0.outer next.1.0 (omega (arith, u, less))

@@ -20,15 +20,16 @@ use Rattle.pb_names.specs.Resolves.{ResolvesDemands, ResolvesStmt, assign, print
 use Rattle.pb_names.specs.Resolves.{ResolvesStmts, no_stmt, stmt_then, ResolvesArms, no_arm, arm_then, ResolvesProcess}
 use Rattle.pb_names.specs.Resolves.{Resolves, resource_names}
 use Rattle.pb_plan.proofs.OrderedDeadlocks.{IsOrdered}
-use Rattle.pb_plan.specs.Orders.{ComesLater, EachHoldOf, EachHold, EachHoldAmong}
+use Rattle.pb_plan.specs.Orders.{EachHoldOf, EachHold, EachHoldAmong}
+use Rattle.pb_plan.specs.Scarce.{ComesLaterAmong}
 use Rattle.pb_tree.specs.Syntax as tree
 
 -- ---- what is asked for is part of the most that is held
 
-module _ (order : List ℕ) (capital : ℕ → ℕ) where
+module _ (among order : List ℕ) (capital : ℕ → ℕ) where
   mutual
-    stmt_ordered : (outer : Bundle) (s : Stmt) → EachHoldOf (ComesLater order) outer s
-        → ((r : ℕ) → stmt_peak r s ≤ capital r) → EachHoldOf (IsOrdered order capital) outer s
+    stmt_ordered : (outer : Bundle) (s : Stmt) → EachHoldOf (ComesLaterAmong among order) outer s
+        → ((r : ℕ) → stmt_peak r s ≤ capital r) → EachHoldOf (IsOrdered among order capital) outer s
     stmt_ordered outer (Assign line x e) h most = tt
     stmt_ordered outer (Print line e) h most = tt
     stmt_ordered outer (If line e a b) h most = (
@@ -42,16 +43,16 @@ module _ (order : List ℕ) (capital : ℕ → ℕ) where
     )
     stmt_ordered outer (Parbegin line first arms) h most = arms_ordered outer arms h most
 
-    pub ordered : (outer : Bundle) (block : Block) → EachHold (ComesLater order) outer block
-        → ((r : ℕ) → peak r block ≤ capital r) → EachHold (IsOrdered order capital) outer block
+    pub ordered : (outer : Bundle) (block : Block) → EachHold (ComesLaterAmong among order) outer block
+        → ((r : ℕ) → peak r block ≤ capital r) → EachHold (IsOrdered among order capital) outer block
     ordered outer Skip h most = tt
     ordered outer (Then s block) h most = (
       stmt_ordered outer s h.0 (λ r. let m = most r in omega (arith, m)),
       ordered outer block h.1 (λ r. let m = most r in omega (arith, m)),
     )
 
-    arms_ordered : (outer : Bundle) (arms : Arms) → EachHoldAmong (ComesLater order) outer arms
-        → ((r : ℕ) → arms_peak r arms ≤ capital r) → EachHoldAmong (IsOrdered order capital) outer arms
+    arms_ordered : (outer : Bundle) (arms : Arms) → EachHoldAmong (ComesLaterAmong among order) outer arms
+        → ((r : ℕ) → arms_peak r arms ≤ capital r) → EachHoldAmong (IsOrdered among order capital) outer arms
     arms_ordered outer NoArm h most = tt
     arms_ordered outer (AndArm arm arms) h most = (
       ordered outer arm h.0 (λ r. let m = most r in omega (arith, m)),

@@ -1,5 +1,5 @@
 -- Trees in which every arm that has no running arms below it is at a hold that the cash does not suffice for: what
--- such a tree lacks comes later in the order than what it holds.
+-- such a tree lacks comes later in the order than what it holds, of the resources that the order is of.
 use Rattle.std.proofs.Common.{◌≡◌, ◌∙◌, ◌⊎◌, inl, inr, ⊎_elim, ℕ, suc, ◌+◌, ◌<◌, ◌≤◌, ℤ, Bool, true, false, cond}
 use Rattle.std.proofs.Common.{eqb, List, [], ◌∷◌, ◌++◌, length, get_or, Some, None, refl, sym, ap, subst, arith}
 use Rattle.std.proofs.Common.{eqb-true}
@@ -18,7 +18,8 @@ use Rattle.pb_names.specs.Source.{all_ended, running_arms, ExprStep, Is, Becomes
 use Rattle.pb_names.specs.Source.{Goes, Breaks, Ends, step_items, step_arm, first_some, find, find_among}
 use Rattle.pb_plan.proofs.OrderedItems.{around, FitItems, FitsArm, FitArms, arm_le}
 use Rattle.pb_plan.proofs.OrderedPlaces.{not_inside, none_before}
-use Rattle.pb_plan.specs.Orders.{ComesLater, place}
+use Rattle.pb_plan.specs.Nests.{IsAmong}
+use Rattle.pb_plan.specs.Scarce.{ComesLaterAmong, IsLaterAmong}
 use Rattle.pb_verifier.proofs.LoansWithinClaims.{pair_in}
 
 -- ---- what holds of all that is held
@@ -71,35 +72,44 @@ module _ (P : ℕ → Type 0) (r : ℕ) where
       (cases_lt 0 (amount_in bundle r))
   of_list outer (Item.Parbegin line first arms ∷ rest) some all = of_list outer rest (omega (arith, some)) all
 
--- a hold follows the order, and asks for no more than there is
-pub record IsOrdered (order : List ℕ) (capital : ℕ → ℕ) (outer asked : Bundle) : Type 0 where
-  pub later : ComesLater order outer asked
+-- a hold follows the order of some of the resources, and asks for no more than there is
+pub record IsOrdered (among order : List ℕ) (capital : ℕ → ℕ) (outer asked : Bundle) : Type 0 where
+  pub later : ComesLaterAmong among order outer asked
   pub within : (r : ℕ) → amount_in asked r ≤ capital r
 
 -- ---- trees that wait
 
-module _ (cash : ℕ → ℕ) where
-  -- the cash does not suffice for one of the pairs
+module _ (among : List ℕ) (cash : ℕ → ℕ) where
+  -- the cash does not suffice for one of the pairs, whose resource is one of these
   pub record IsLacking (bundle : Bundle) : Type 0 where
     pub at : ℕ
     pub default : Pair
     pub inside : at < length bundle
     pub lacks : cash (get_or bundle at default).resource < (get_or bundle at default).amount
+    pub counts : IsAmong among (get_or bundle at default).resource
 
   pub lacking_or_not : (bundle : Bundle)
+      → All (λ (pair : Pair). cash pair.resource < pair.amount → IsAmong among pair.resource) bundle
       → All (λ (pair : Pair). pair.amount ≤ cash pair.resource) bundle ⊎ IsLacking bundle
-  lacking_or_not [] = inl (λ k d l. absurd (omega (arith, l)))
-  lacking_or_not (pair ∷ bundle) = ⊎_elim
-      (λ short. inr (record { at = 0; default = pair; inside = omega arith; lacks = short }))
+  lacking_or_not [] each = inl (λ k d l. absurd (omega (arith, l)))
+  lacking_or_not (pair ∷ bundle) each = ⊎_elim
+      (λ short.
+      inr (record {
+        at = 0;
+        default = pair;
+        inside = omega arith;
+        lacks = short;
+        counts = each 0 pair (omega arith) short;
+      }))
       (λ enough. ⊎_elim
       (λ all. inl (All-cons (λ (x : Pair). x.amount ≤ cash x.resource) pair bundle enough all))
-      (λ l. inr (later l)) (lacking_or_not bundle))
+      (λ l. inr (later l)) (lacking_or_not bundle (λ k d l. each (suc k) d (omega (arith, l)))))
       (cases_lt (cash pair.resource) pair.amount)
     where
       later : IsLacking bundle → IsLacking (pair ∷ bundle)
       later l =
           let u = l.inside in
-          record { at = suc l.at; default = l.default; inside = omega (arith, u); lacks = l.lacks }
+          record { at = suc l.at; default = l.default; inside = omega (arith, u); lacks = l.lacks; counts = l.counts }
 
   abbrev pub Waits : ArmStep → Type 0
   Waits (Goes vars new Silent) = ⊥
@@ -195,19 +205,21 @@ module _ (cash : ℕ → ℕ) where
   -- ---- what they lack
 
   module _ (order : List ℕ) (capital : ℕ → ℕ) where
-    -- a resource of which something is lent comes later than all of these
+    -- a resource of which something is lent comes later than all of these that count, and counts itself
     pub record IsShort (outer : Bundle) : Type 0 where
       pub resource : ℕ
+      pub counts : IsAmong among resource
       pub lent : cash resource < capital resource
-      pub later : All (λ (pair : Pair). place order pair.resource < place order resource) outer
+      pub later : All (λ (pair : Pair). IsLaterAmong among order pair.resource resource) outer
 
-    short_of : (outer bundle : Bundle) → IsOrdered order capital outer bundle → IsLacking bundle → IsShort outer
+    short_of : (outer bundle : Bundle) → IsOrdered among order capital outer bundle → IsLacking bundle → IsShort outer
     short_of outer bundle ordered l =
         let most = ordered.within (get_or bundle l.at l.default).resource in
         let pair = pair_in bundle l.at l.default l.inside in
         let lacks = l.lacks in
         record {
           resource = (get_or bundle l.at l.default).resource;
+          counts = l.counts;
           lent = omega (arith, most, pair, lacks);
           later = ordered.later l.at l.default l.inside;
         }
@@ -215,13 +227,14 @@ module _ (cash : ℕ → ℕ) where
     outward : (outer : Bundle) (rest : List Item) → IsShort (around outer rest) → IsShort outer
     outward outer rest s = record {
       resource = s.resource;
+      counts = s.counts;
       lent = s.lent;
-      later = all_outer (λ (pair : Pair). place order pair.resource < place order s.resource) outer rest s.later;
+      later = all_outer (λ (pair : Pair). IsLaterAmong among order pair.resource s.resource) outer rest s.later;
     }
 
     -- a list that is held up is short of something that comes later than all that is held
     list_short : (lo hi : ℕ) (outer : Bundle) (items : List Item) → IsHeldUp items
-        → FitItems (IsOrdered order capital) lo hi outer items → IsShort (around outer items)
+        → FitItems (IsOrdered among order capital) lo hi outer items → IsShort (around outer items)
     list_short lo hi outer [] stuck h = absurd stuck
     list_short lo hi outer (Item.Assign line x e ∷ rest) stuck h = absurd stuck
     list_short lo hi outer (Item.Print line e ∷ rest) stuck h = absurd stuck
@@ -235,7 +248,7 @@ module _ (cash : ℕ → ℕ) where
     mutual
       -- so is an arm that has not ended
       pub arm_short : (lo hi : ℕ) (outer : Bundle) (arm : Arm) → IsStuck arm → is_ended arm ≡ false
-          → FitsArm (IsOrdered order capital) lo hi outer arm → IsShort outer
+          → FitsArm (IsOrdered among order capital) lo hi outer arm → IsShort outer
       arm_short lo hi outer (Doing items) stuck live h =
           outward outer items (list_short lo hi outer items stuck h.1)
       arm_short lo hi outer (Waiting line first arms rest) stuck live h =
@@ -244,7 +257,7 @@ module _ (cash : ℕ → ℕ) where
       arm_short lo hi outer Ended stuck live h = cc
 
       arms_short : (lo hi : ℕ) (outer : Bundle) (arms : Running) → AreStuck arms → all_ended arms ≡ false
-          → FitArms (IsOrdered order capital) lo hi outer arms → IsShort outer
+          → FitArms (IsOrdered among order capital) lo hi outer arms → IsShort outer
       arms_short lo hi outer Nothing stuck live h = cc
       arms_short lo hi outer (Beside arm arms) stuck live h = ⊎_elim
           (λ e. arms_short h.0 hi outer arms stuck.1 (sym (ap (λ b. b && all_ended arms) e) ∙ live) h.2)
@@ -253,21 +266,23 @@ module _ (cash : ℕ → ℕ) where
     -- short of something that comes later than r
     pub record IsShortPast (r : ℕ) : Type 0 where
       pub resource : ℕ
+      pub counts : IsAmong among resource
       pub lent : cash resource < capital resource
-      pub later : place order r < place order resource
+      pub later : IsLaterAmong among order r resource
 
     past : (outer : Bundle) (r : ℕ) (items : List Item) → 0 < held_in_list r items → IsShort (around outer items)
         → IsShortPast r
     past outer r items some s = record {
       resource = s.resource;
+      counts = s.counts;
       lent = s.lent;
-      later = of_list (λ q. place order q < place order s.resource) r outer items some s.later;
+      later = of_list (λ q. IsLaterAmong among order q s.resource) r outer items some s.later;
     }
 
     mutual
       -- a tree that holds some of r is short of something that comes later
       pub holder_short : (r lo hi : ℕ) (outer : Bundle) (arm : Arm) → IsStuck arm → 0 < held r arm
-          → FitsArm (IsOrdered order capital) lo hi outer arm → IsShortPast r
+          → FitsArm (IsOrdered among order capital) lo hi outer arm → IsShortPast r
       holder_short r lo hi outer (Doing items) stuck some h =
           past outer r items some (list_short lo hi outer items stuck h.1)
       holder_short r lo hi outer (Waiting line first arms rest) stuck some h = ⊎_elim
@@ -280,7 +295,7 @@ module _ (cash : ℕ → ℕ) where
       holder_short r lo hi outer Ended stuck some h = absurd (omega (arith, some))
 
       holders_short : (r lo hi : ℕ) (outer : Bundle) (arms : Running) → AreStuck arms → 0 < held_among r arms
-          → FitArms (IsOrdered order capital) lo hi outer arms → IsShortPast r
+          → FitArms (IsOrdered among order capital) lo hi outer arms → IsShortPast r
       holders_short r lo hi outer Nothing stuck some h = absurd (omega (arith, some))
       holders_short r lo hi outer (Beside arm arms) stuck some h = ⊎_elim
           (λ here. holder_short r lo h.0 outer arm stuck.0 here h.1)

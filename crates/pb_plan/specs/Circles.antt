@@ -35,6 +35,14 @@ pub record IsCircle (processes : List Process) (circle : List Edge) : Type 0 whe
   pub once : (i k : ℕ) (edge other : Edge) → slice_get circle i ≡ Some edge → slice_get circle k ≡ Some other
       → edge.nest.inner ≡ other.nest.inner → i ≡ k
 
+-- an edge leads from one of these resources to one of them
+abbrev pub JoinsThese : List ℕ → Edge → Type 0
+JoinsThese among edge = IsAmong among edge.nest.outer × IsAmong among edge.nest.inner
+
+-- a circle of these resources alone
+abbrev pub IsCircleAmong : List ℕ → List Process → List Edge → Type 0
+IsCircleAmong among processes circle = IsCircle processes circle × All (JoinsThese among) circle
+
 -- the numbers of an edge are those of processes and resources that are there
 pub record IsBelow (processes resources : ℕ) (edge : Edge) : Type 0 where
   pub process : edge.process < processes
@@ -54,6 +62,10 @@ pub record IsEdgeInto (processes : List Process) (among : List ℕ) (inner : ℕ
   pub is : IsEdge processes edge
   pub inner_is : edge.nest.inner ≡ inner
   pub member : IsAmong among edge.nest.outer
+
+-- an edge from one of these resources to one of them
+abbrev pub IsEdgeAmong : List Process → List ℕ → Edge → Type 0
+IsEdgeAmong processes among edge = IsEdge processes edge × JoinsThese among edge
 
 -- edges one before another, of which the first leads from `at`
 pub record IsPath (Good : Edge → Type 0) (path : List Edge) (at : ℕ) : Type 0 where

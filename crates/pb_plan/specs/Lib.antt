@@ -3,5 +3,6 @@ pub mod Needs
 pub mod Nests
 pub mod Orders
 pub mod Parts
+pub mod Scarce
 pub mod Standing
 pub mod Waiting

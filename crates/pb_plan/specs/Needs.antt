@@ -1,5 +1,5 @@
 -- How much of each resource the claims need.
-use Rattle.std.specs.Prelude.{◌↔◌, ℕ, ◌-◌, ◌<◌, ◌≤◌, max, List, [], ◌∷◌, length, slice_index, sum_by}
+use Rattle.std.specs.Prelude.{◌↔◌, ℕ, zero, suc, ◌-◌, ◌<◌, ◌≤◌, cond, max, nat_lt, List, [], ◌∷◌, ◌++◌, length, slice_index, sum_by}
 use Rattle.std.specs.List.{range_with_len}
 use Rattle.pb_base.specs.Banker.{cell}
 use Rattle.pb_base.specs.Steppers.{Table}
@@ -32,6 +32,16 @@ pub record IsBottleneck (claims : Table) (capital : List ℕ) (r : ℕ) : Type 0
   pub lacking : 0 < lack claims capital r
   pub most : (other : ℕ) → other < length capital → lack claims capital other ≤ lack claims capital r
   pub first : (earlier : ℕ) → earlier < r → lack claims capital earlier < lack claims capital r
+
+-- of the first n resources those of which there is not enough for all claims at once, in their order
+abbrev pub scarce_below : Table → List ℕ → ℕ → List ℕ
+scarce_below claims capital zero = []
+scarce_below claims capital (suc n) =
+    scarce_below claims capital n ++ cond (nat_lt 0 (lack claims capital n)) (n ∷ []) []
+
+-- the resources of which there is not enough for all claims at once, in the order of their declarations
+abbrev pub scarce : Table → List ℕ → List ℕ
+scarce claims capital = scarce_below claims capital (length capital)
 
 -- a text is accepted exactly if the capital of each resource is at least the least
 abbrev pub LeastCapitalDecides : Type 0

@@ -81,8 +81,8 @@ pub record IsFreeAt (processes : List Process) (among : List ℕ) (i : ℕ) : Ty
   pub free : (found : Nest) → IsInside processes among r found → ⊥
 
 -- the resources are these and those that are left; where one of these is asked for, the resources around it are
--- before it
-pub record IsBegun (processes : List Process) (n : ℕ) (order left : List ℕ) : Type 0 where
-  pub all : IsPermutation (range_with_len 0 n) (order ++ left)
-  pub later : (outer inner : ℕ) (found : Nest) → nest_among outer inner processes ≡ Some found
+-- before it, if they are among the resources
+pub record IsBegun (processes : List Process) (resources order left : List ℕ) : Type 0 where
+  pub all : IsPermutation resources (order ++ left)
+  pub later : (outer inner : ℕ) (found : Nest) → nest_among outer inner processes ≡ Some found → IsAmong resources outer
       → place order inner < length order → place order outer < place order inner

@@ -2,9 +2,9 @@
 
 ghost use Rattle.std.specs.Prelude.{◌≡◌, ◌<◌, ℕ, All, IfNone, IfOk, IfSome, List, None, Some, length, map, slice_get};
 ghost use Rattle.pb_names.specs.View.{process_view};
-ghost use Rattle.pb_plan.specs.Circles.{IsBelow, IsCircle, IsEdgeInto, IsEdgeOf, IsOnPath};
+ghost use Rattle.pb_plan.specs.Circles.{IsBelow, IsCircleAmong, IsEdgeInto, IsEdgeOf, IsOnPath};
 ghost use Rattle.pb_plan.specs.Nests.{AskBelow, IsAmong, IsInside, nest_among};
-ghost use Rattle.pb_plan.specs.Orders.{IsFollowed};
+ghost use Rattle.pb_plan.specs.Scarce.{IsFollowedAmong};
 ghost use Rattle.pb_plan.specs.declared.edge.Edge.{Edge as EdgeValue};
 ghost use Rattle.pb_plan.specs.declared.nest.Nest.{Nest as NestValue};
 
@@ -86,7 +86,7 @@ fn follow<A: Allocator>(
     requires some { 0 < length among.now }
     requires inside { (r : ℕ) → IsAmong among.now r
         → (found : NestValue) × IsInside (map process_view processes.now) among.now r found }
-    ensures { IfOk result (λ circle. IsCircle (map process_view processes.now) circle.items) }
+    ensures { IfOk result (λ circle. IsCircleAmong among.now (map process_view processes.now) circle.items) }
 {
     let mut rest = Vec::from_slice(alloc, among)?;
     let mut path = Vec::new(alloc);
@@ -107,23 +107,24 @@ fn follow<A: Allocator>(
     }
 }
 
-/// Returns a circle of nested holds, if there is no order of the resources that the processes follow: the
-/// inner resource of each is the outer one of the next, and that of the last the outer one of the first. The processes
-/// ask only for these many resources. The error comes only if `alloc` is out of memory.
+/// Returns a circle of nested holds of some of the resources, if there is no order of these that the processes follow:
+/// the inner resource of each is the outer one of the next, and that of the last the outer one of the first. The processes
+/// ask only for as many resources as `resources` says. The error comes only if `alloc` is out of memory.
 pub fn find_circle<A: Allocator>(
     alloc: Global,
     processes: &[Process<A>],
     resources: usize,
+    among: &[usize],
 ) -> Result<Option<Vec<Edge>>, NoMemory>
     requires { AskBelow resources (map process_view processes.now) }
     ensures circle { IfOk result (λ found. IfSome found
-        (λ circle. IsCircle (map process_view processes.now) circle.items)) }
+        (λ circle. IsCircleAmong among.now (map process_view processes.now) circle.items)) }
     ensures below { IfOk result (λ found. IfSome found
         (λ circle. All (IsBelow (length processes.now) resources) circle.items)) }
     ensures none { IfOk result (λ found. IfNone found
-        ((order : List ℕ) × IsFollowed order (map process_view processes.now))) }
+        ((order : List ℕ) × IsFollowedAmong among.now order (map process_view processes.now))) }
 {
-    let sorted = sort(alloc, processes, resources)?;
+    let sorted = sort(alloc, processes, resources, among)?;
     if sorted.left.is_empty() {
         return Ok(None);
     }

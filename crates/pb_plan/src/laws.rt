@@ -7,6 +7,7 @@ ghost use Rattle.pb_names.specs.Program.{Process};
 ghost use Rattle.pb_plan.specs.Needs.{LeastCapitalDecides};
 ghost use Rattle.pb_plan.specs.Orders.{FreeCapitalPreventsDeadlocks, OrdersPreventDeadlocks};
 ghost use Rattle.pb_plan.specs.Parts.{parts, weight};
+ghost use Rattle.pb_plan.specs.Scarce.{OrdersOfScarcePreventDeadlocks};
 ghost use Rattle.pb_plan.specs.Waiting.{AllRequestsAreGranted, FreeRequestsAreAllowed, FreeRequestsAreGranted};
 ghost use Rattle.pb_verifier.specs.Verified.{IsFaultless};
 
@@ -41,4 +42,10 @@ pub fn orders_prevent_deadlocks()
 /// If there is enough of each resource for all claims at once, the program comes to no deadlock by the cash alone.
 pub fn free_capital_prevents_deadlocks()
     ensures { FreeCapitalPreventsDeadlocks }
+{}
+
+/// If every process follows an order of the resources of which there is not enough for all claims at once, the program
+/// comes to no deadlock by the cash alone, whatever it asks for of the others.
+pub fn orders_of_scarce_prevent_deadlocks()
+    ensures { OrdersOfScarcePreventDeadlocks }
 {}

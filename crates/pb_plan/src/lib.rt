@@ -15,8 +15,8 @@ mod weight;
 
 pub use circle::find_circle;
 pub use edge::Edge;
-pub use needs::{bottleneck, free_capital, least_capital};
+pub use needs::{bottleneck, free_capital, least_capital, scarce};
 pub use nest::Nest;
-pub use order::find_order;
+pub use order::{find_order, find_order_among};
 pub use part::Part;
 pub use parts::claim_parts;

@@ -1,11 +1,12 @@
 //! How much of each resource the claims need.
 
-ghost use Rattle.std.specs.Prelude.{◌≡◌, ◌<◌, ◌≤◌, IfSome, MatchOption, length};
+ghost use Rattle.std.specs.Prelude.{◌≡◌, ◌<◌, ◌≤◌, IfOk, IfSome, MatchOption, length};
 ghost use Rattle.pb_base.specs.Tables.{width_of};
 ghost use Rattle.pb_plan.specs.Needs as needs;
 ghost use Rattle.pb_plan.specs.Needs.{AllFree, IsBottleneck};
 
-use pb_base::{Capital, Claims};
+use pb_base::{Capital, Claims, NoMemory};
+use std::alloc::Global;
 
 /// Returns the greatest claim on a resource: the least capital with which a text with these claims is accepted.
 #[tactic(auto, using(crate::proofs::Columns::least_more))]
@@ -61,4 +62,19 @@ pub fn bottleneck(claims: &Claims, capital: &Capital) -> Option<usize>
         }
     }
     found
+}
+
+/// Returns the resources of which there is not enough for all claims at once, in the order of their declarations: a
+/// request for no other one waits. The error comes only if `alloc` is out of memory.
+pub fn scarce(alloc: Global, claims: &Claims, capital: &Capital) -> Result<Vec<usize>, NoMemory>
+    requires { width_of claims.now ≡ length capital.now }
+    ensures { IfOk result (λ found. found.items ≡ needs.scarce claims.now capital.now) }
+{
+    let mut found = Vec::new(alloc);
+    for r in 0..capital.resources() {
+        if lack(claims, capital, r) > 0 {
+            found.push(r)?;
+        }
+    }
+    Ok(found)
 }

@@ -1,21 +1,26 @@
 -- The holds of a program ask for its own resources; what is found of its order and of what is lacking.
-use Rattle.std.proofs.Common.{◌≡◌, ℕ, ◌<◌, List, [], ◌++◌, Option, Some, None, length, get_or, subst, sym, arith}
+use Rattle.std.proofs.Common.{◌≡◌, ◌⊎◌, inl, inr, ⊎_elim, ℕ, ◌<◌, List, [], ◌++◌, Option, Some, None, length, get_or, subst, sym, arith}
 use Rattle.std.specs.Prelude.{All, IfNone, IfOk, IfSome, MatchOption, Result, Ok, Err, option_map}
 use Rattle.std.specs.List.{range_with_len}
+use Rattle.std.specs.List.Sorted.{IsPermutation}
 use Rattle.std.proofs.lemmas.List.{length-map}
 use Rattle.std.proofs.lemmas.List.Sorted.{All-permutation}
 use Rattle.std.proofs.lemmas.Option.{slice_get-get_or}
 use Rattle.pb_base.proofs.Groups.{range_below}
 use Rattle.pb_base.specs.Steppers.{Bundle, Table}
 use Rattle.pb_names.proofs.Holds.{numbers_below, zip_at}
-use Rattle.pb_names.specs.Program.{Arms, Block, Name, Process, Program, Stmt}
+use Rattle.pb_names.specs.Program.{Arms, Block, Name, Process, Program, Stmt, capital_of}
 use Rattle.pb_names.specs.Resolves.{Resolves, ResolvesArms, ResolvesProcess, ResolvesStmt, ResolvesStmts, resource_names}
 use Rattle.pb_names.specs.Resolves.{arm_then, assign, hold, if_else, no_arm, no_stmt, parbegin, print, stmt_then, while_do}
 use Rattle.pb_tree.specs.Syntax.{ArmsSyntax, ProgramSyntax, StmtSyntax, StmtsSyntax}
-use Rattle.pb_plan.specs.Needs.{AllFree, IsBottleneck}
+use Rattle.pb_plan.proofs.Columns.{free_or_bottleneck}
+use Rattle.pb_plan.proofs.EachHolds.{followed_of_none}
+use Rattle.pb_plan.proofs.ScarceLemmas.{none_scarce, scarce_there}
+use Rattle.pb_plan.specs.Needs.{IsBottleneck}
 use Rattle.pb_plan.specs.Nests.{AskBelow, IsOrder}
 use Rattle.pb_plan.specs.Orders.{EachHold, EachHoldAmong, EachHoldOf, IsFollowed}
-use Rattle.pb_plan_engine.specs.PlanLines.{HasNoOrder, IsOrderIfAny, IsOrderOf}
+use Rattle.pb_plan.specs.Scarce.{IsFollowedAmong}
+use Rattle.pb_plan_engine.specs.PlanLines.{HasNoOrder, HasNoOrderAmong, IsOrderAmong, IsOrderIfAny, IsOrderOf, scarce_of}
 
 module _ (integers resources : List Name) where
   abbrev Below : (around asked : Bundle) → Type 0
@@ -59,39 +64,72 @@ order_below n order is =
     All-permutation (λ r. r < n) (range_with_len 0 n) order is
     (λ k d within. let b = range_below 0 n k d within in omega (arith, b))
 
--- an order that was looked for, by what is said of it
-pub is_ordered : {X E : Type 0} (items : X → List ℕ) (result : Result (Option X) E) (n : ℕ) (processes : List Process) (program : Program)
-    → n ≡ length program.resources → processes ≡ program.processes
-    → IfOk result (λ found. IfSome found (λ x. IsOrder n (items x)))
-    → IfOk result (λ found. IfSome found (λ x. IsFollowed (items x) processes))
-    → IfOk result (λ found. IfNone found ((other : List ℕ) → IsFollowed other processes → ⊥))
-    → IfOk result (λ found. IsOrderIfAny program (option_map items found))
-is_ordered items (Ok (Some x)) n processes program many same is followed none = record {
+-- each scarce resource of a program is there
+pub scarce_below : (program : Program) (claims : Table) → All (λ r. r < length program.resources) (scarce_of program claims)
+scarce_below program claims =
+    subst (λ (n : ℕ). All (λ r. r < n) (scarce_of program claims)) (length-map program.resources (λ resource. resource.capital))
+    (scarce_there claims (capital_of program))
+
+-- an order of all resources that was found
+pub whole_order : {X : Type 0} (items : X → List ℕ) (x : X) (n : ℕ) (processes : List Process) (program : Program)
+    → n ≡ length program.resources → processes ≡ program.processes → IsOrder n (items x) → IsFollowed (items x) processes
+    → IsOrderOf program (items x)
+whole_order items x n processes program many same is followed = record {
   all = subst (λ (k : ℕ). IsOrder k (items x)) many is;
   followed = subst (IsFollowed (items x)) same followed;
 }
-is_ordered items (Ok None) n processes program many same is followed none =
-    λ other of. none other (subst (IsFollowed other) (sym same) of)
-is_ordered items (Err e) n processes program many same is followed none = tt
+
+-- none of all, by what was not found
+pub no_whole : (processes : List Process) (program : Program) → processes ≡ program.processes
+    → ((order : List ℕ) → IsFollowed order processes → ⊥) → HasNoOrder program
+no_whole processes program same none order is = none order (subst (IsFollowed order) (sym same) is)
+
+-- an order of some resources that was looked for, if there is none of all
+pub of_some : {X E : Type 0} (items : X → List ℕ) (result : Result (Option X) E) (among : List ℕ) (processes : List Process) (program : Program)
+    → processes ≡ program.processes → HasNoOrder program
+    → IfOk result (λ found. IfSome found (λ x. IsPermutation among (items x)))
+    → IfOk result (λ found. IfSome found (λ x. IsFollowedAmong among (items x) processes))
+    → IfOk result (λ found. IfNone found ((other : List ℕ) → IsFollowedAmong among other processes → ⊥))
+    → IfOk result (λ found. IsOrderIfAny program among (option_map items found))
+of_some items (Ok (Some x)) among processes program same lacks is followed none =
+    inr (lacks, record { all = is; followed = subst (IsFollowedAmong among (items x)) same followed })
+of_some items (Ok None) among processes program same lacks is followed none =
+    λ other of. none other (subst (IsFollowedAmong among other) (sym same) of)
+of_some items (Err e) among processes program same lacks is followed none = tt
 
 -- each resource of an order, if there is one, is there
-pub found_below : {X : Type 0} (items : X → List ℕ) (found : Option X) (program : Program) (n : ℕ) → length program.resources ≡ n
-    → IsOrderIfAny program (option_map items found) → IfSome found (λ x. All (λ r. r < n) (items x))
-found_below items (Some x) program n same is =
+pub found_below : {X : Type 0} (items : X → List ℕ) (found : Option X) (program : Program) (claims : Table) (n : ℕ)
+    → length program.resources ≡ n → IsOrderIfAny program (scarce_of program claims) (option_map items found)
+    → IfSome found (λ x. All (λ r. r < n) (items x))
+found_below items (Some x) program claims n same (inl is) =
     subst (λ (k : ℕ). All (λ r. r < k) (items x)) same (order_below (length program.resources) (items x) is.all)
-found_below items None program n same is = tt
+found_below items (Some x) program claims n same (inr is) =
+    subst (λ (k : ℕ). All (λ r. r < k) (items x)) same
+    (All-permutation (λ r. r < length program.resources) (scarce_of program claims) (items x) is.1.all (scarce_below program claims))
+found_below items None program claims n same is = tt
 
 -- if nothing was found, there is no order
-pub no_order : {X : Type 0} (items : X → List ℕ) (found : Option X) (program : Program) → found ≡ None
-    → IsOrderIfAny program (option_map items found) → HasNoOrder program
-no_order items None program same none = none
-no_order items (Some x) program same is = absurd cc
+pub no_order : {X : Type 0} (items : X → List ℕ) (found : Option X) (program : Program) (among : List ℕ) → found ≡ None
+    → IsOrderIfAny program among (option_map items found) → HasNoOrderAmong program among
+no_order items None program among same none = none
+no_order items (Some x) program among same is = absurd cc
 
 -- an order that was found is one
-pub an_order : {X : Type 0} (items : X → List ℕ) (found : Option X) (x : X) (program : Program) → found ≡ Some x
-    → IsOrderIfAny program (option_map items found) → IsOrderOf program (items x)
-an_order {X} items (Some y) x program same is = let e : y ≡ x = cc in subst (λ (z : X). IsOrderOf program (items z)) e is
-an_order items None x program same is = absurd cc
+pub an_order : {X : Type 0} (items : X → List ℕ) (found : Option X) (x : X) (program : Program) (among : List ℕ) → found ≡ Some x
+    → IsOrderIfAny program among (option_map items found) → IsOrderOf program (items x) ⊎ IsOrderAmong program among (items x)
+an_order {X} items (Some y) x program among same is =
+    let e : y ≡ x = cc in
+    subst (λ (z : X). IsOrderOf program (items z) ⊎ IsOrderAmong program among (items z)) e
+    (⊎_elim (λ all. inl all) (λ some. inr some.1) is)
+an_order items None x program among same is = absurd cc
+
+-- without an order of the scarce resources one of them is the bottleneck
+pub some_bottleneck : (program : Program) (claims : Table) → HasNoOrderAmong program (scarce_of program claims)
+    → (r : ℕ) × IsBottleneck claims (capital_of program) r
+some_bottleneck program claims none = ⊎_elim
+    (λ free.
+    absurd (none [] (followed_of_none (scarce_of program claims) [] program.processes (none_scarce claims (capital_of program) free))))
+    (λ most. most) (free_or_bottleneck claims (capital_of program))
 
 -- no order was found
 pub none_of : {X : Type 0} {P : Type 0} (found : Option X) → found ≡ None → IfNone found P → P
@@ -113,18 +151,3 @@ is_closed items Closed Empty (Some x) same is = absurd cc
 pub some_of : {X : Type 0} (P : X → Type 0) (found : Option X) (x : X) → found ≡ Some x → IfSome found P → P x
 some_of P (Some y) x same is = let e : y ≡ x = cc in subst P e is
 some_of P None x same is = absurd cc
-
--- ---- what is lacking
-
--- nothing was found, so nothing is lacking
-pub none_lacking : (claims : Table) (capital : List ℕ) (found : Option ℕ) → found ≡ None
-    → MatchOption found (AllFree claims capital) (IsBottleneck claims capital) → AllFree claims capital
-none_lacking claims capital None same free = free
-none_lacking claims capital (Some r) same most = absurd cc
-
--- what was found is lacking most
-pub one_lacking : (claims : Table) (capital : List ℕ) (found : Option ℕ) (r : ℕ) → found ≡ Some r
-    → MatchOption found (AllFree claims capital) (IsBottleneck claims capital) → IsBottleneck claims capital r
-one_lacking claims capital (Some q) r same most =
-    let e : q ≡ r = cc in subst (IsBottleneck claims capital) e most
-one_lacking claims capital None r same free = absurd cc

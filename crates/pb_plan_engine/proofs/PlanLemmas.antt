@@ -19,12 +19,12 @@ use Rattle.pb_names.specs.View.{block_view, process_view, resolved_view, resourc
 use Rattle.pb_names.specs.declared.resolved.Process.{Process}
 use Rattle.pb_names.specs.declared.resolved.Resolved.{Resolved}
 use Rattle.pb_names.specs.declared.resolved.Resource.{Resource}
-use Rattle.pb_plan.specs.Circles.{IsCircle}
+use Rattle.pb_plan.specs.Circles.{IsCircleAmong}
 use Rattle.pb_plan.specs.Needs.{AllFree, IsBottleneck}
 use Rattle.pb_plan.specs.declared.edge.Edge.{Edge}
 use Rattle.pb_plan_engine.specs.PlanLines.{HasStatus, IsOfTree, IsOrderIfAny, IsPlan, SaysOfPlan, bodies_of, circle_lines, claims_lines, fault_line, last_line, order_line}
 use Rattle.pb_plan_engine.specs.PlanLines.{planned, refused, text_words}
-use Rattle.pb_plan_engine.specs.PlanLines.{resources_lines}
+use Rattle.pb_plan_engine.specs.PlanLines.{resources_lines, scarce_of}
 use Rattle.pb_joint.specs.Texts.{AreReadAs, AreRefused, are_several, names_of}
 use Rattle.pb_joint.specs.declared.texts.TextFault.{TextFault}
 use Rattle.pb_accept.proofs.LoadLemmas.{of_refusal}
@@ -52,8 +52,8 @@ bodies_of_processes {A} program = go program.processes.items
 pub is_plan : {A : Type 0} (called : List Name) (program : Resolved A) (claims : Table) (capital : List ℕ) (found : Option ℕ) (order : Option (List ℕ))
     (circle : List Edge) (first second third fourth fifth whole : List ℕ) (some others last : List (Resource A)) → capital ≡ capital_of (resolved_view program)
     → MatchOption found (AllFree claims capital) (IsBottleneck claims capital)
-    → IsOrderIfAny (resolved_view program) order
-    → MatchOption order (IsCircle (resolved_view program).processes circle) (λ some. circle ≡ [])
+    → IsOrderIfAny (resolved_view program) (scarce_of (resolved_view program) claims) order
+    → MatchOption order (IsCircleAmong (scarce_of (resolved_view program) claims) (resolved_view program).processes circle) (λ some. circle ≡ [])
     → some ≡ program.resources.items → others ≡ program.resources.items → last ≡ program.resources.items → first ≡ []
     → second ≡ first ++ claims_lines called (resolved_view program) claims
     → third ≡ second ++ resources_lines (map (λ (r : Resource A). r.name.items) some) capital claims

@@ -3,6 +3,7 @@ use Rattle.std.specs.Prelude.{◌≡◌, ◌⊎◌, ℕ, ◌+◌, Bool, List, []
 use Rattle.std.specs.Prelude.{Option, Some, None, option_map}
 use Rattle.std.specs.Fmt.{decimal}
 use Rattle.std.specs.List.{flat_map}
+use Rattle.std.specs.List.Sorted.{IsPermutation}
 use Rattle.pb_base.specs.Banker.{row_of}
 use Rattle.pb_base.specs.Lines.{each_below, line}
 use Rattle.pb_base.specs.declared.lending.Lending.{Lending}
@@ -14,11 +15,12 @@ use Rattle.pb_names.specs.Meaning.{AreClaims}
 use Rattle.pb_names.specs.Program.{Block, Skip, Name, Program, capital_of}
 use Rattle.pb_names.specs.Resolves.{Resolves, resource_names}
 use Rattle.pb_tree.specs.Syntax.{ProgramSyntax}
-use Rattle.pb_plan.specs.Circles.{IsCircle}
-use Rattle.pb_plan.specs.Needs.{AllFree, IsBottleneck, free_capital, least_capital}
+use Rattle.pb_plan.specs.Circles.{IsCircleAmong}
+use Rattle.pb_plan.specs.Needs.{AllFree, IsBottleneck, free_capital, least_capital, scarce}
 use Rattle.pb_plan.specs.Nests.{IsOrder}
 use Rattle.pb_plan.specs.Orders.{IsFollowed}
 use Rattle.pb_plan.specs.Parts.{parts}
+use Rattle.pb_plan.specs.Scarce.{IsFollowedAmong}
 use Rattle.pb_plan.specs.declared.edge.Edge.{Edge}
 use Rattle.pb_plan.specs.declared.part.Part.{Part}
 use Rattle.pb_codegen.specs.declared.fault.CompileFault.{CompileFault}
@@ -114,19 +116,40 @@ pub record IsOrderOf (program : Program) (order : List ℕ) : Type 0 where
 abbrev pub HasNoOrder : Program → Type 0
 HasNoOrder program = (order : List ℕ) → ¬ IsFollowed order program.processes
 
--- what is looked for: an order that each process follows, or nothing if there is none
-abbrev pub IsOrderIfAny : Program → Option (List ℕ) → Type 0
-IsOrderIfAny program order = MatchOption order (HasNoOrder program) (IsOrderOf program)
+-- an order of these resources that each process follows, whatever it asks for of the others
+pub record IsOrderAmong (program : Program) (among order : List ℕ) : Type 0 where
+  pub all : IsPermutation among order
+  pub followed : IsFollowedAmong among order program.processes
 
--- no deadlock is possible: the banker lends; or each process follows an order, or there is enough for all claims at once
+-- no list is such an order of these
+abbrev pub HasNoOrderAmong : Program → List ℕ → Type 0
+HasNoOrderAmong program among = (order : List ℕ) → ¬ IsFollowedAmong among order program.processes
+
+-- an order of all resources; or one of these, if there is none of all
+abbrev pub IsBestOrder : Program → (among order : List ℕ) → Type 0
+IsBestOrder program among order = IsOrderOf program order ⊎ HasNoOrder program × IsOrderAmong program among order
+
+-- what is looked for: such an order, or nothing if there is none of these either
+abbrev pub IsOrderIfAny : Program → List ℕ → Option (List ℕ) → Type 0
+IsOrderIfAny program among order = MatchOption order (HasNoOrderAmong program among) (IsBestOrder program among)
+
+-- the resources of a program of which there is not enough for all claims at once
+abbrev pub scarce_of : Program → Table → List ℕ
+scarce_of program claims = scarce claims (capital_of program)
+
+-- no deadlock is possible: the banker lends; or each process follows an order, of all resources or of the scarce ones. If
+-- there is enough of each for all claims at once, none is scarce, and every list is one
 abbrev pub RulesOutDeadlocks : Lending → Program → Table → Type 0
 RulesOutDeadlocks ByBanker program claims = ⊤
-RulesOutDeadlocks ByCash program claims = ((order : List ℕ) × IsOrderOf program order) ⊎ AllFree claims (capital_of program)
+RulesOutDeadlocks ByCash program claims =
+    (order : List ℕ) × (IsOrderOf program order ⊎ IsOrderAmong program (scarce_of program claims) order)
 
--- a deadlock may be possible: the cash alone decides, there is no order, and not enough for all claims at once
+-- a deadlock may be possible: the cash alone decides, and there is no order of the scarce resources, so that there is
+-- not enough for all claims at once
 abbrev pub AllowsDeadlocks : Lending → Program → Table → Type 0
 AllowsDeadlocks ByBanker program claims = ⊥
-AllowsDeadlocks ByCash program claims = HasNoOrder program × ((r : ℕ) × IsBottleneck claims (capital_of program) r)
+AllowsDeadlocks ByCash program claims =
+    HasNoOrderAmong program (scarce_of program claims) × ((r : ℕ) × IsBottleneck claims (capital_of program) r)
 
 -- the status tells whether the capital is enough for every claim, and if it is, whether a deadlock may be possible
 pub data HasStatus (lending : Lending) (program : Program) (claims : Table) : Status → Type 0 where
@@ -143,14 +166,14 @@ pub record IsOfTree (program : Program) (claims : Table) : Type 0 where
   pub claimed : AreClaims program claims
 
 -- this text is the plan of the program with these claims, whose processes are called so: behind `no order` come the
--- lines of a circle
+-- lines of a circle of scarce resources
 pub record IsPlan (processes : List Name) (program : Program) (claims : Table) (said : List ℕ) : Type 0 where
   pub found : Option ℕ
   pub bottleneck : MatchOption found (AllFree claims (capital_of program)) (IsBottleneck claims (capital_of program))
   pub order : Option (List ℕ)
-  pub ordered : IsOrderIfAny program order
+  pub ordered : IsOrderIfAny program (scarce_of program claims) order
   pub circle : List Edge
-  pub closed : MatchOption order (IsCircle program.processes circle) (λ some. circle ≡ [])
+  pub closed : MatchOption order (IsCircleAmong (scarce_of program claims) program.processes circle) (λ some. circle ≡ [])
   pub text : said ≡ plan_text processes program claims found order ++ circle_lines processes (resource_names program) circle
 
 -- the line of a fault of a text, which is none of claims; out of memory has none

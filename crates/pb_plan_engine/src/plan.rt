@@ -7,11 +7,11 @@ ghost use Rattle.pb_command_io.specs.Inputs.{SaysOfInput};
 ghost use Rattle.pb_names.specs.Program.{capital_of};
 ghost use Rattle.pb_names.specs.View.{resolved_view};
 ghost use Rattle.pb_names.specs.Resolves.{resource_names};
-ghost use Rattle.pb_plan.specs.Circles.{IsCircle};
+ghost use Rattle.pb_plan.specs.Circles.{IsCircleAmong};
 ghost use Rattle.pb_plan.specs.Nests.{AskBelow};
 ghost use Rattle.pb_plan.specs.declared.edge.Edge.{Edge as EdgeValue};
-ghost use Rattle.pb_plan_engine.specs.PlanLines.{HasNoOrder, HasStatus, IsOfTree, IsOrderIfAny, IsPlan, SaysOfPlan};
-ghost use Rattle.pb_plan_engine.specs.PlanLines.{circle_lines, claims_lines};
+ghost use Rattle.pb_plan_engine.specs.PlanLines.{HasNoOrderAmong, HasStatus, IsOfTree, IsOrderIfAny, IsPlan, SaysOfPlan};
+ghost use Rattle.pb_plan_engine.specs.PlanLines.{circle_lines, claims_lines, scarce_of};
 ghost use Rattle.pb_base.specs.Tables.{width_of};
 
 use crate::lines::{process_name, put_circle, put_last, put_order, put_process, put_resources};
@@ -23,7 +23,7 @@ use pb_claims::fits;
 use pb_command_io::{Reply, Status, read_input, refused, tell};
 use pb_joint::read_texts;
 use pb_names::Resolved;
-use pb_plan::{bottleneck, find_circle, find_order};
+use pb_plan::{bottleneck, find_circle, find_order, find_order_among, scarce};
 use std::alloc::{Allocator, Global};
 
 /// Appends the lines of all processes, which are called so, to a text.
@@ -66,7 +66,8 @@ fn status<A: Allocator>(
 ) -> Status
     requires width { width_of claims.now ≡ length capital.now }
     requires capital { capital.now ≡ capital_of (resolved_view program.now) }
-    requires ordered { IsOrderIfAny (resolved_view program.now) (option_map (λ order. order.items) order.now) }
+    requires ordered { IsOrderIfAny (resolved_view program.now) (scarce_of (resolved_view program.now) claims.now)
+        (option_map (λ order. order.items) order.now) }
     ensures said { HasStatus lending (resolved_view program.now) claims.now result }
     ensures no_fault { result ≢ Status.Device }
 {
@@ -74,10 +75,7 @@ fn status<A: Allocator>(
         Ok(()) => match (lending, order) {
             (Lending::ByBanker, _) => Status::Done,
             (Lending::ByCash, Some(_)) => Status::Done,
-            (Lending::ByCash, None) => match bottleneck(claims, capital) {
-                None => Status::Done,
-                Some(_) => Status::Deadlock,
-            },
+            (Lending::ByCash, None) => Status::Deadlock,
         },
         Err(over) => {
             let _ = over;
@@ -86,34 +84,38 @@ fn status<A: Allocator>(
     }
 }
 
-/// Returns a text with the lines of a circle behind it, of a program that follows no order.
+/// Returns a text with the lines of a circle behind it, of a program that follows no order of these resources.
 fn with_circle<A: Allocator>(
     alloc: Global,
     text: Vec<u8>,
     names: &[Vec<u8>],
     program: &Resolved<A>,
+    few: &[usize],
 ) -> Result<Vec<u8>, NoMemory>
     requires names { length names.now ≡ length program.now.processes.items }
     requires below { AskBelow (length (resolved_view program.now).resources) (resolved_view program.now).processes }
-    requires none { HasNoOrder (resolved_view program.now) }
-    ensures { IfOk result (λ whole. (circle : List EdgeValue) × IsCircle (resolved_view program.now).processes circle
+    requires none { HasNoOrderAmong (resolved_view program.now) few.now }
+    ensures { IfOk result (λ whole. (circle : List EdgeValue)
+        × IsCircleAmong few.now (resolved_view program.now).processes circle
         × (whole.items ≡ text.items ++ circle_lines (map (λ name. name.items) names.now)
         (resource_names (resolved_view program.now)) circle)) }
 {
     let mut whole = text;
-    let found = find_circle(alloc, &program.processes, program.resources.len())?;
+    let found = find_circle(alloc, &program.processes, program.resources.len(), few)?;
     let Some(circle) = found else { unreachable!() };
     put_circle(&mut whole, names, &program.resources, &circle)?;
     Ok(whole)
 }
 
-/// Returns the text of the plan of a program with this capital, whose processes are called so and follow this order.
+/// Returns the text of the plan of a program with this capital, of which these resources are scarce, and whose processes
+/// are called so and follow this order.
 fn plan_text<A: Allocator>(
     alloc: Global,
     names: &[Vec<u8>],
     program: &Resolved<A>,
     claims: &Claims,
     capital: &Capital,
+    few: &[usize],
     order: &Option<Vec<usize>>,
 ) -> Result<Vec<u8>, NoMemory>
     requires numbered { IsOfTree (resolved_view program.now) claims.now }
@@ -121,7 +123,9 @@ fn plan_text<A: Allocator>(
     requires capital { capital.now ≡ capital_of (resolved_view program.now) }
     requires resources { length capital.now ≡ length program.now.resources.items }
     requires width { width_of claims.now ≡ length capital.now }
-    requires ordered { IsOrderIfAny (resolved_view program.now) (option_map (λ order. order.items) order.now) }
+    requires few { few.now ≡ scarce_of (resolved_view program.now) claims.now }
+    requires ordered { IsOrderIfAny (resolved_view program.now) (scarce_of (resolved_view program.now) claims.now)
+        (option_map (λ order. order.items) order.now) }
     ensures { IfOk result (λ text. IsPlan (map (λ name. name.items) names.now) (resolved_view program.now) claims.now text.items) }
 {
     let mut text = Vec::new(alloc);
@@ -132,19 +136,27 @@ fn plan_text<A: Allocator>(
     put_order(&mut text, &program.resources, order)?;
     match order {
         Some(_) => Ok(text),
-        None => with_circle(alloc, text, names, program),
+        None => with_circle(alloc, text, names, program, few),
     }
 }
 
-/// Returns an order of the resources that all processes of a program follow, if there is one.
+/// Returns an order of the resources that all processes of a program follow; or, if there is none, one of these that
+/// they follow, if there is one.
 fn order_of<A: Allocator>(
     alloc: Global,
     program: &Resolved<A>,
+    few: &[usize],
 ) -> Result<Option<Vec<usize>>, NoMemory>
     requires { AskBelow (length (resolved_view program.now).resources) (resolved_view program.now).processes }
-    ensures { IfOk result (λ found. IsOrderIfAny (resolved_view program.now) (option_map (λ order. order.items) found)) }
+    ensures { IfOk result (λ found.
+        IsOrderIfAny (resolved_view program.now) few.now (option_map (λ order. order.items) found)) }
 {
-    find_order(alloc, &program.processes, program.resources.len())
+    let resources = program.resources.len();
+    let all = find_order(alloc, &program.processes, resources)?;
+    let Some(order) = all else {
+        return find_order_among(alloc, &program.processes, resources, few);
+    };
+    Ok(Some(order))
 }
 
 /// Returns the plan of a program, whose processes are called so.
@@ -161,8 +173,9 @@ fn plan<A: Allocator>(
         × HasStatus lending (resolved_view program.now) claims.now r.status) }
 {
     let capital = program.capital(alloc)?;
-    let order = order_of(alloc, program)?;
-    let text = plan_text(alloc, names, program, claims, &capital, &order)?;
+    let few = scarce(alloc, claims, &capital)?;
+    let order = order_of(alloc, program, &few)?;
+    let text = plan_text(alloc, names, program, claims, &capital, &few, &order)?;
     let status = status(lending, program, claims, &capital, &order);
     Ok(Reply { text, status })
 }
@@ -191,7 +204,8 @@ fn tell_plan<O: Output>(alloc: Global, lending: Lending, bytes: &[u8], output: &
 /// declared, the claim and the lines of the holds that it comes from; for each resource its capital, the least
 /// capital with which the text is accepted, and the least with which there is enough for all claims at once; and
 /// then the resource of which most is lacking for that, or that no request waits; and at the end an order of the
-/// resources that all processes follow, or that there is none, with a circle of nested holds. The status is
+/// resources that all processes follow; or, if there is none, one of the resources of which there is not enough for
+/// all claims at once; or that there is none of these either, with a circle of nested holds of them. The status is
 /// `Refused` if some claim is over its capital; otherwise `Deadlock` if the cash alone is to decide on requests and there
 /// is no order. Of a text that is not a program the refusal line is written.
 ///

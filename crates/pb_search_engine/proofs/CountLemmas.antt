@@ -16,7 +16,7 @@ pub counted_few : (picks : List Pick) (i : ℕ) (counted : List CountedPick) →
     → length (spread counted) ≡ i
 counted_few picks i counted within same = ap (λ (ps : List Pick). length ps) same ∙ length-take-le i picks within
 
-all_right : {X : Type 0} (P : X → Type 0) (xs ys : List X) → All P (xs ++ ys) → All P ys
+pub all_right : {X : Type 0} (P : X → Type 0) (xs ys : List X) → All P (xs ++ ys) → All P ys
 all_right P [] ys h = h
 all_right P (x ∷ xs) ys h = all_right P xs ys (All-tail P x (xs ++ ys) h)
 

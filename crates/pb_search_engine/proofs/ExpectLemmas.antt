@@ -33,12 +33,13 @@ use Rattle.pb_search_stages.specs.Traces.{Trace, trace_outcome}
 use Rattle.pb_search_stages.specs.declared.print.Mode.{Mode}
 use Rattle.pb_search_stages.specs.declared.print.Print.{Print}
 use Rattle.pb_search_engine.specs.Expected.{AreWanted, IsFirstOther, IsWanted, printing}
-use Rattle.pb_search_engine.specs.PrintLines.{IsBadPrint, SpellsPrints}
-use Rattle.pb_search_engine.specs.SaysExpected.{IsPlain, IsPlainBy, SaysOfEndless, SaysOfExpected, SaysOfLines, SaysOfRuns, TellsDeadlock, TellsOutcome, compared, no_prints, no_text}
+use Rattle.pb_search_engine.specs.Requirements.{AreMet, IsBadAsked, IsFirstUnmet, SpellsAsked, requirement_text}
+use Rattle.pb_search_engine.specs.SaysExpected.{IsPlain, IsPlainBy, SaysOfAsked, SaysOfEndless, SaysOfExpected, SaysOfLines, SaysOfRuns, TellsDeadlock, TellsOutcome, asked, met, no_prints, no_text, other_line, unmet}
 use Rattle.pb_search_engine.specs.SaysExpected.{as_expected, deadlock, endless, long, many, outcome}
-use Rattle.pb_search_engine.specs.SaysOfAll.{SaysOfSearches, SaysOrDocument, SaysWhether}
+use Rattle.pb_search_engine.specs.SaysOfAll.{SaysForEver, SaysOfSearches, SaysOrDocument, SaysWhether}
 use Rattle.pb_search_engine.specs.Showing.{HaveProcesses}
 use Rattle.pb_search_engine.specs.declared.print_lines.PrintFault.TheVariants.{NotPrint}
+use Rattle.pb_search_engine.specs.declared.requirements.Requirement.{Requirement}
 use Rattle.pb_search_engine.proofs.OutcomeLemmas.{deadlocks_few, deadlocks_here, found_few, found_here}
 use Rattle.pb_verifier.specs.Verified.{IsVerified, VerifiedCode}
 
@@ -211,22 +212,41 @@ module _ (lending : Lending) (code : Code) where
   stuck_few found given is are =
       subst (λ (ds : List GivenDeadlock). All (λ d. length d.picks.items ≤ MAX_PICKS) ds) (sym is) (deadlocks_few (printing lending) code found are)
 
--- print lines of which one says no print
+-- lines of which one says no print where it should
 pub bad_said : (fair : Bool) (lending : Lending) (any_order : Bool) (code seen : Code) (labels : List ProcessLabels) (states : ℕ) (lines : List ℕ) (at : ℕ)
-    → seen ≡ code → IsBadPrint seen lines (NotPrint at) → (text : List ℕ) (status : Status) → text ≡ line (cause_line (record { code = K1; at = Some at }))
+    → seen ≡ code → IsBadAsked seen lines (NotPrint at) → (text : List ℕ) (status : Status) → text ≡ line (cause_line (record { code = K1; at = Some at }))
     → status ≡ Refused → SaysOfLines fair lending any_order code labels states lines text status
 bad_said fair lending any_order code seen labels states lines at same bad text status is refused =
     subst (λ (s : Status). SaysOfLines fair lending any_order code labels states lines text s) (sym refused)
     (subst (λ (t : List ℕ). SaysOfLines fair lending any_order code labels states lines t Refused) (sym is)
-    (no_prints at (subst (λ (c : Code). IsBadPrint c lines (NotPrint at)) same bad)))
+    (no_prints at (subst (λ (c : Code). IsBadAsked c lines (NotPrint at)) same bad)))
 
--- print lines that were read, and what is said of the runs
-pub compared_said : (fair : Bool) (lending : Lending) (any_order : Bool) (code seen : Code) (labels : List ProcessLabels) (states : ℕ) (lines : List ℕ)
-    (prints given : List Print) → seen ≡ code → given ≡ prints → SpellsPrints seen lines prints → (text : List ℕ) (status : Status)
-    → SaysOfRuns fair lending any_order given code labels states text status → SaysOfLines fair lending any_order code labels states lines text status
-compared_said fair lending any_order code seen labels states lines prints given same is spells text status says =
-    compared prints (subst (λ (c : Code). SpellsPrints c lines prints) same spells) text status
-    (subst (λ (ps : List Print). SaysOfRuns fair lending any_order ps code labels states text status) is says)
+-- lines that were read, and what is said of what they ask
+pub asked_said : (fair : Bool) (lending : Lending) (any_order : Bool) (code seen : Code) (labels : List ProcessLabels) (states : ℕ) (lines : List ℕ)
+    (requirements : List Requirement) (prints : List Print) → seen ≡ code → SpellsAsked seen lines requirements prints → (text : List ℕ) (status : Status)
+    → SaysOfAsked fair lending any_order requirements prints code labels states text status → SaysOfLines fair lending any_order code labels states lines text status
+asked_said fair lending any_order code seen labels states lines requirements prints same spells text status says =
+    asked requirements prints (subst (λ (c : Code). SpellsAsked c lines requirements prints) same spells) text status says
+
+module _ (fair : Bool) (lending : Lending) (any_order : Bool) (requirements : List Requirement) (prints : List Print) (code seen : Code)
+    (labels : List ProcessLabels) (states : ℕ) (same : seen ≡ code) (given : List Requirement) (is : given ≡ requirements) where
+  -- a requirement is not met
+  pub unmet_said : (r : Requirement) → IsFirstUnmet seen given r → (text : List ℕ) (status : Status)
+      → text ≡ other_line (requirement_text seen.names r) → status ≡ Unexpected
+      → SaysOfAsked fair lending any_order requirements prints code labels states text status
+  unmet_said r first text status told unexpected =
+      let here = subst (λ (c : Code). IsFirstUnmet c requirements r) same (subst (λ (l : List Requirement). IsFirstUnmet seen l r) is first) in
+      subst (λ (s : Status). SaysOfAsked fair lending any_order requirements prints code labels states text s) (sym unexpected)
+      (subst (λ (t : List ℕ). SaysOfAsked fair lending any_order requirements prints code labels states t Unexpected)
+      (sym (told ∙ ap (λ (c : Code). other_line (requirement_text c.names r)) same)) (unmet r here))
+
+  -- all are met, and this is said of the runs
+  pub met_said : AreMet seen given → (shown : List Print) → shown ≡ prints → (text : List ℕ) (status : Status)
+      → SaysOfRuns fair lending any_order shown code labels states text status
+      → SaysOfAsked fair lending any_order requirements prints code labels states text status
+  met_said all shown same_prints text status says =
+      met (subst (λ (c : Code). AreMet c requirements) same (subst (λ (l : List Requirement). AreMet seen l) is all)) text status
+      (subst (λ (ps : List Print). SaysOfRuns fair lending any_order ps code labels states text status) same_prints says)
 
 -- a refused text, behind which there are lines
 pub text_refused : (fair : Bool) (lend : Lend) (any_order : Bool) (states : ℕ) (bytes text lines : List ℕ) (old new : Option (List ℕ)) (given : Status)
@@ -248,6 +268,13 @@ pub tells_whether : (options : OutcomesOptions) (b : Bool) → options.expect �
     → Tells (SaysOfInput (SaysWhether options.expect options) bytes) old new given
 tells_whether options b is bytes old new given said =
     subst (λ (b : Bool). Tells (SaysOfInput (SaysWhether b options) bytes) old new given) (sym is) said
+
+-- and by whether a run that never ends is asked for
+pub tells_for_ever : (options : OutcomesOptions) (b : Bool) → options.endless ≡ b → (bytes : List ℕ) (old new : Option (List ℕ))
+    (given : Status) → Tells (SaysOfInput (SaysForEver b options) bytes) old new given
+    → Tells (SaysOfInput (SaysForEver options.endless options) bytes) old new given
+tells_for_ever options b is bytes old new given said =
+    subst (λ (b : Bool). Tells (SaysOfInput (SaysForEver b options) bytes) old new given) (sym is) said
 
 -- and by whether the document of all schedules is asked for
 pub tells_or_document : (options : OutcomesOptions) (b : Bool) → options.graph ≡ b → (bytes : List ℕ) (old new : Option (List ℕ))

@@ -3,7 +3,7 @@ use Rattle.std.proofs.Common.{◌≡◌, ◌∙◌, ℕ, suc, Bool, true, false,
 use Rattle.std.specs.Prelude.{slice_get}
 use Rattle.std.proofs.lemmas.Option.{get_or_from_slice_get, slice_get_within}
 use Rattle.pb_base.specs.declared.lending.Lending.{Lending}
-use Rattle.pb_code.specs.Whole.{Code}
+use Rattle.pb_code.specs.Whole.{Code, ProcessLabels}
 use Rattle.pb_command_io.specs.declared.status.Status.{Status}
 use Rattle.pb_command_io.specs.declared.status.Status.TheVariants.{Done, Limit, Unexpected}
 use Rattle.pb_search.specs.Deadlocks.{AreSomeDeadlocks, FoundDeadlock, IsFoundAt}
@@ -16,7 +16,9 @@ use Rattle.pb_search_stages.specs.Traces.{Outcome, Trace, TraceEnds, TraceLeads,
 use Rattle.pb_search_stages.specs.declared.print.Print.{Print}
 use Rattle.pb_search_engine.specs.Expected.{EndsAsExpected, IsAsExpected, IsFirstOther, IsWanted, printing}
 use Rattle.pb_search_engine.specs.ExpectedLaws.{AnswersAreRight, IsAsExpectedBy}
-use Rattle.pb_search_engine.specs.SaysExpected.{SaysOfEndless, as_expected, deadlock, endless, long, many, outcome}
+use Rattle.pb_search_engine.specs.Requirements.{AreMet, IsMet}
+use Rattle.pb_search_engine.specs.SaysExpected.{SaysOfEndless, SaysOfRuns, as_expected, deadlock, endless, long, many, met, outcome, unmet}
+use Rattle.pb_search_engine.specs.declared.requirements.Requirement.{Requirement}
 use Rattle.pb_search_engine.proofs.FairLemmas.{bounded_ends}
 use Rattle.pb_search_engine.proofs.OutcomeLemmas.{each_at}
 
@@ -78,20 +80,39 @@ endless_right true lending any_order wanted code states text status ends run (So
 endless_right true lending any_order wanted code states text status ends run (TooMany, tells, _, is) =
     (λ done. absurd (let e : Limit ≡ Done = sym is ∙ done in cc), λ other. absurd (let e : Limit ≡ Unexpected = sym is ∙ other in cc))
 
-pub answers_are_right : AnswersAreRight
-answers_are_right fair lending any_order wanted code labels states text status (as_expected all) =
+-- each requirement is met, so this one is
+pub required : (code : Code) (requirements : List Requirement) → AreMet code requirements → (at : ℕ) (r : Requirement) → slice_get requirements at ≡ Some r
+    → IsMet code r
+required code requirements all at r there =
+    subst (IsMet code) (get_or_from_slice_get requirements at r r there) (all at r (slice_get_within requirements at r there))
+
+-- what is said of the runs of code is right
+pub runs_are_right : (fair : Bool) (lending : Lending) (any_order : Bool) (wanted : List Print) (code : Code) (labels : List ProcessLabels) (states : ℕ)
+    (text : List ℕ) (status : Status) → SaysOfRuns fair lending any_order wanted code labels states text status
+    → (status ≡ Done → IsAsExpectedBy fair lending any_order wanted code)
+    × (status ≡ Unexpected → ¬ IsAsExpectedBy fair lending any_order wanted code)
+runs_are_right fair lending any_order wanted code labels states text status (as_expected all) =
     (λ done. each_too fair lending any_order wanted code all, λ other. absurd (let e : Done ≡ Unexpected = other in cc))
-answers_are_right fair lending any_order wanted code labels states text status (outcome found deadlocks extent told at first f there picks counted what is) = (
+runs_are_right fair lending any_order wanted code labels states text status (outcome found deadlocks extent told at first f there picks counted what is) = (
   λ done. absurd (let e : Unexpected ≡ Done = done in cc),
   λ other all. no_other lending any_order wanted code (ends_too fair lending any_order wanted code all) found (some_of (printing lending) code FirstDeadlock states found deadlocks extent told).0 at first f there,
 )
-answers_are_right fair lending any_order wanted code labels states text status (deadlock found deadlocks extent told each d there picks counted) = (
+runs_are_right fair lending any_order wanted code labels states text status (deadlock found deadlocks extent told each d there picks counted) = (
   λ done. absurd (let e : Unexpected ≡ Done = done in cc),
   λ other all. none_stuck lending any_order wanted code (ends_too fair lending any_order wanted code all) deadlocks (some_of (printing lending) code FirstDeadlock states found deadlocks extent told).1 d there,
 )
-answers_are_right fair lending any_order wanted code labels states text status (endless ends run said given says) =
+runs_are_right fair lending any_order wanted code labels states text status (endless ends run said given says) =
     endless_right fair lending any_order wanted code states said given ends run says
-answers_are_right fair lending any_order wanted code labels states text status (many found told each) =
+runs_are_right fair lending any_order wanted code labels states text status (many found told each) =
     (λ done. absurd (let e : Limit ≡ Done = done in cc), λ other. absurd (let e : Limit ≡ Unexpected = other in cc))
-answers_are_right fair lending any_order wanted code labels states text status (long found told each) =
+runs_are_right fair lending any_order wanted code labels states text status (long found told each) =
     (λ done. absurd (let e : Limit ≡ Done = done in cc), λ other. absurd (let e : Limit ≡ Unexpected = other in cc))
+
+pub answers_are_right : AnswersAreRight
+answers_are_right fair lending any_order requirements wanted code labels states text status (unmet r first) = (
+  λ done. absurd (let e : Unexpected ≡ Done = done in cc),
+  λ other all. first.unmet (required code requirements all.0 first.at r first.there),
+)
+answers_are_right fair lending any_order requirements wanted code labels states text status (met all said given says) =
+    let right = runs_are_right fair lending any_order wanted code labels states said given says in
+    (λ done. (all, right.0 done), λ other whole. right.1 other whole.1)

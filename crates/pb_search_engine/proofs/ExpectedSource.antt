@@ -7,6 +7,7 @@ use Rattle.pb_code.specs.Whole.{Code, ProcessLabels}
 use Rattle.pb_codegen.proofs.VerifiedProcesses.{well_numbered}
 use Rattle.pb_command_io.specs.declared.status.Status.{Status}
 use Rattle.pb_command_io.specs.declared.status.Status.TheVariants.{Done, Limit, Unexpected}
+use Rattle.pb_generator.specs.Generate.{program_code}
 use Rattle.pb_names.specs.Program.{Program}
 use Rattle.pb_names.specs.Resolves.{resource_names}
 use Rattle.pb_search.specs.Deadlocks.{AreSomeDeadlocks, FoundDeadlock, IsFoundAt}
@@ -18,14 +19,18 @@ use Rattle.pb_search_stages.specs.Traces.{Outcome, Trace, TraceEnds, trace_outco
 use Rattle.pb_search_stages.specs.declared.print.Print.{Print}
 use Rattle.pb_search_engine.specs.Expected.{IsWanted, printing}
 use Rattle.pb_search_engine.specs.ExpectedLaws.{AnswersAreRightOfPrograms, DoesAsExpected, EndsOtherwise, HasDeadlock, IsAsExpectedBy, SourceEnds}
-use Rattle.pb_search_engine.specs.SaysExpected.{SaysOfRuns, as_expected, deadlock, endless, long, many, outcome}
+use Rattle.pb_search_engine.specs.Requirements.{AreMet}
+use Rattle.pb_search_engine.specs.SaysExpected.{SaysOfAsked, SaysOfRuns, as_expected, deadlock, endless, long, many, met, outcome, unmet}
+use Rattle.pb_search_engine.specs.declared.requirements.Requirement.{Requirement}
 use Rattle.pb_search_engine.specs.SourceFair.{FairRunsEnd}
 use Rattle.pb_search_engine.specs.SourceOutcomes.{IsPrintedByCodeBy, IsPrintedBySource}
+use Rattle.pb_search_engine.specs.SourceRequirements.{AreMetBy}
 use Rattle.pb_search_engine.specs.SourceRuns.{HasRunsOf, IsDeadlockOfCode, SourceIsEndless, Stuck}
-use Rattle.pb_search_engine.proofs.ExpectedLaw.{answers_are_right, ends_too}
+use Rattle.pb_search_engine.proofs.ExpectedLaw.{ends_too, required, runs_are_right}
 use Rattle.pb_search_engine.proofs.OutcomeLemmas.{each_at}
 use Rattle.pb_search_engine.proofs.PrintedOutcomes.{same_printed}
 use Rattle.pb_search_engine.proofs.SourceLaw.{fair_end}
+use Rattle.pb_search_engine.proofs.SourceRequirementLemmas.{all_met_back, all_met_too}
 use Rattle.pb_search_engine.proofs.SourceRunLemmas.{has_runs}
 
 -- an outcome that is found is one of the code
@@ -58,7 +63,7 @@ module _ (fair : Bool) (lending : Lending) (any_order : Bool) (wanted : List Pri
   all_as_expected : (text : List ℕ) (status : Status) → SaysOfRuns fair lending any_order wanted code labels states text status → status ≡ Done
       → DoesAsExpected fair lending any_order wanted program code
   all_as_expected text status says done =
-      let right = (answers_are_right fair lending any_order wanted code labels states text status says).0 done in
+      let right = (runs_are_right fair lending any_order wanted code labels states text status says).0 done in
       let each = ends_too fair lending any_order wanted code right in
       record {
         ends = λ o printed.
@@ -82,13 +87,37 @@ module _ (fair : Bool) (lending : Lending) (any_order : Bool) (wanted : List Pri
   not_all _ _ (many found told each) is = absurd (let e : Limit ≡ Unexpected = is in cc)
   not_all _ _ (long found told each) is = absurd (let e : Limit ≡ Unexpected = is in cc)
 
+  -- with what is required beside
+  module _ (requirements : List Requirement) (generated : code ≡ program_code program code.claims) where
+    met_by : AreMet code requirements → AreMetBy program code.claims requirements
+    met_by all =
+        all_met_too program code.claims requirements (subst (λ (c : Code). AreMet c requirements) generated all)
+
+    met_in : AreMetBy program code.claims requirements → AreMet code requirements
+    met_in all =
+        subst (λ (c : Code). AreMet c requirements) (sym generated) (all_met_back program code.claims requirements all)
+
+    asked_done : (text : List ℕ) (status : Status)
+        → SaysOfAsked fair lending any_order requirements wanted code labels states text status → status ≡ Done
+        → AreMetBy program code.claims requirements × DoesAsExpected fair lending any_order wanted program code
+    asked_done _ _ (unmet r first) is = absurd (let e : Unexpected ≡ Done = is in cc)
+    asked_done _ _ (met all said given says) is = (met_by all, all_as_expected said given says is)
+
+    asked_unexpected : (text : List ℕ) (status : Status)
+        → SaysOfAsked fair lending any_order requirements wanted code labels states text status → status ≡ Unexpected
+        → (¬ AreMetBy program code.claims requirements) ⊎ EndsOtherwise lending any_order wanted program code
+        ⊎ HasDeadlock lending program code ⊎ SourceIsEndless lending program code.claims
+    asked_unexpected _ _ (unmet r first) is =
+        inl (λ all. first.unmet (required code requirements (met_in all) first.at r first.there))
+    asked_unexpected _ _ (met all said given says) is = inr (not_all said given says is)
+
 pub right_of_programs : AnswersAreRightOfPrograms
 right_of_programs text code labels is =
     let program = is.program in
     let arms = well_numbered (resource_names program) is.numbered.tree.processes program.processes is.numbered.numbered.processes in (
       program,
       is.numbered,
-      λ fair lending any_order wanted states said status says.
+      λ fair lending any_order requirements wanted states said status says.
           let same : (o : Outcome) → IsPrintedByCodeBy lending code o ↔ IsPrintedBySource lending program code.claims o =
           λ o. subst (λ c. IsPrintedByCodeBy lending c o ↔ IsPrintedBySource lending program code.claims o) (sym is.generated)
           (same_printed lending program code.claims arms o) in
@@ -97,7 +126,7 @@ right_of_programs text code labels is =
           let fair_ends : FairRunsEnd program lending code =
           subst (FairRunsEnd program lending) (sym is.generated) (fair_end lending program code.claims arms) in
           record {
-            done = all_as_expected fair lending any_order wanted program code labels states same runs fair_ends said status says;
-            unexpected = not_all fair lending any_order wanted program code labels states same runs fair_ends said status says;
+            done = asked_done fair lending any_order wanted program code labels states same runs fair_ends requirements is.generated said status says;
+            unexpected = asked_unexpected fair lending any_order wanted program code labels states same runs fair_ends requirements is.generated said status says;
           },
     )

@@ -1,4 +1,5 @@
 pub mod CountLemmas
+pub mod EndlessLemmas
 pub mod ExpectLemmas
 pub mod ExpectedLaw
 pub mod ExpectedSource
@@ -8,9 +9,11 @@ pub mod OneRunLemmas
 pub mod OutcomeLemmas
 pub mod PrintedOutcomes
 pub mod PrintLemmas
+pub mod RequirementLemmas
 pub mod SourceFairLemmas
 pub mod SourceLaw
 pub mod Skips
 pub mod SourceOutcomeLemmas
+pub mod SourceRequirementLemmas
 pub mod SourceRunLemmas
 pub mod WantedLemmas

@@ -24,7 +24,7 @@ use Rattle.pb_search.specs.declared.found.Outcomes.{Outcomes}
 use Rattle.pb_search.specs.declared.found.Until.{Until}
 use Rattle.pb_search_stages.specs.declared.print.Mode.{Mode}
 use Rattle.pb_search_engine.specs.OutcomeLines.{AreCounted, last_line}
-use Rattle.pb_search_engine.specs.SaysOfAll.{SaysWhether, SaysWhich, target_of}
+use Rattle.pb_search_engine.specs.SaysOfAll.{SaysForEver, SaysWhich, target_of}
 use Rattle.pb_search_engine.specs.SaysOfOne.{SaysOfOneRun, none, none_line, none_status, picks_to, there}
 use Rattle.pb_search_engine.specs.declared.one_run.Target.{Target}
 use Rattle.pb_search_engine.specs.declared.one_run.Target.TheVariants.{Deadlock, Outcome}
@@ -90,6 +90,6 @@ module _ (target : Target) (mode : Mode) (until : Until) (v seen : VerifiedCode)
 -- what is said by which one is asked for
 pub tells_which : (options : OutcomesOptions) (o : Option Target) → target_of options.run options.deadlock ≡ o → (bytes : List ℕ)
     (old new : Option (List ℕ)) (given : Status) → Tells (SaysOfInput (SaysWhich o options) bytes) old new given
-    → Tells (SaysOfInput (SaysWhether false options) bytes) old new given
+    → Tells (SaysOfInput (SaysForEver false options) bytes) old new given
 tells_which options o is bytes old new given said =
     subst (λ (o : Option Target). Tells (SaysOfInput (SaysWhich o options) bytes) old new given) (sym is) said

@@ -60,7 +60,7 @@ module _ (mode : Mode) (code : Code) where
       (λ p less. omega (arith, less, all)) picks (picks_are_there h.0 end picks h.2))
 
   module _ (faultless : IsFaultless code) where
-    have_processes : (picks : List Pick) (s : Trace) → TraceReaches mode code picks s → HaveProcesses code.names picks
+    pub have_processes : (picks : List Pick) (s : Trace) → TraceReaches mode code picks s → HaveProcesses code.names picks
     have_processes picks s reaches =
         let names = (faultless OutOfLimits).process_names.all in
         let size : length (trace_opening code).state.processes ≡ length code.processes = length-map code.processes code_process in

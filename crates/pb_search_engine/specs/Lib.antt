@@ -4,6 +4,8 @@ pub mod ExpectedLaws
 pub mod FairLines
 pub mod OutcomeLines
 pub mod PrintLines
+pub mod Requirements
+pub mod SaysEndless
 pub mod SaysExpected
 pub mod SaysOfAll
 pub mod SaysOfOne
@@ -11,4 +13,5 @@ pub mod SaysOutcomes
 pub mod Showing
 pub mod SourceFair
 pub mod SourceOutcomes
+pub mod SourceRequirements
 pub mod SourceRuns

@@ -29,9 +29,10 @@ use Rattle.pb_search_stages.specs.declared.print.Print.{Print}
 use Rattle.pb_search_engine.specs.DeadlockLines.{deadlock_lines}
 use Rattle.pb_search_engine.specs.Expected.{AreWanted, EndsAsExpected, HasNoFault, IsAsExpected, IsFirstOther, printing}
 use Rattle.pb_search_engine.specs.OutcomeLines.{AreCounted, outcome_lines}
-use Rattle.pb_search_engine.specs.PrintLines.{IsBadPrint, SpellsPrints}
+use Rattle.pb_search_engine.specs.Requirements.{AreMet, IsBadAsked, IsFirstUnmet, SpellsAsked, requirement_text}
 use Rattle.pb_search_engine.specs.SourceOutcomes.{without_prints}
 use Rattle.pb_search_engine.specs.declared.print_lines.PrintFault.TheVariants.{NotPrint}
+use Rattle.pb_search_engine.specs.declared.requirements.Requirement.{Requirement}
 
 -- the last line, if not all runs are as expected: what is not
 abbrev pub other_line : List ℕ → List ℕ
@@ -93,17 +94,28 @@ pub data SaysOfRuns (fair : Bool) (lending : Lending) (any_order : Bool) (wanted
       → SaysOfRuns fair lending any_order wanted code labels states
       (line (codes "more than " ++ decimal MAX_PICKS ++ codes " picks")) Limit
 
--- what is said of the lines behind an accepted text, by its code: one says no print; or all say prints, which the
--- runs of the code are compared with
+-- what is said of code of which requirements and prints are asked: the first requirement that is not met, and nothing
+-- else; or all are met, and it is said what is said of the runs
+pub data SaysOfAsked (fair : Bool) (lending : Lending) (any_order : Bool) (requirements : List Requirement) (wanted : List Print)
+    (code : Code) (labels : List ProcessLabels) (states : ℕ) : List ℕ → Status → Type 0 where
+  unmet : (r : Requirement) → IsFirstUnmet code requirements r
+      → SaysOfAsked fair lending any_order requirements wanted code labels states (other_line (requirement_text code.names r)) Unexpected
+  met : AreMet code requirements
+      → (said : List ℕ) (status : Status) → SaysOfRuns fair lending any_order wanted code labels states said status
+      → SaysOfAsked fair lending any_order requirements wanted code labels states said status
+
+-- what is said of the lines behind an accepted text, by its code: one says no print behind those that say requirements;
+-- or all say requirements and then prints, which are asked of the code
 pub data SaysOfLines (fair : Bool) (lending : Lending) (any_order : Bool) (code : Code) (labels : List ProcessLabels) (states : ℕ)
     (lines : List ℕ) : List ℕ → Status → Type 0 where
-  no_prints : (at : ℕ) → IsBadPrint code lines (NotPrint at)
+  no_prints : (at : ℕ) → IsBadAsked code lines (NotPrint at)
       → SaysOfLines fair lending any_order code labels states lines (line (cause_line (record { code = K1; at = Some at }))) Refused
-  compared : (wanted : List Print) → SpellsPrints code lines wanted
-      → (said : List ℕ) (status : Status) → SaysOfRuns fair lending any_order wanted code labels states said status
+  asked : (requirements : List Requirement) (wanted : List Print) → SpellsAsked code lines requirements wanted
+      → (said : List ℕ) (status : Status)
+      → SaysOfAsked fair lending any_order requirements wanted code labels states said status
       → SaysOfLines fair lending any_order code labels states lines said status
 
--- what is said of an input, which is a text and print lines behind it: its text is refused; or it is accepted, and
+-- what is said of an input, which is a text and lines behind it: its text is refused; or it is accepted, and
 -- it is said what is said of its lines
 pub data SaysOfExpected (fair : Bool) (lend : Lend) (any_order : Bool) (states : ℕ) (bytes : List ℕ) : List ℕ → Status → Type 0 where
   no_text : (text lines : List ℕ) → AreTwoParts bytes text lines

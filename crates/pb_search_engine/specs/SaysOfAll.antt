@@ -4,6 +4,7 @@ use Rattle.pb_command_io.specs.declared.status.Status.{Status}
 use Rattle.pb_options.specs.Lends.{lending_for}
 use Rattle.pb_options.specs.declared.options.OutcomesOptions.{OutcomesOptions}
 use Rattle.pb_page_engine.specs.Schedules.{SaysOfSchedules}
+use Rattle.pb_search_engine.specs.SaysEndless.{SaysOfEndlessRun}
 use Rattle.pb_search_engine.specs.SaysExpected.{SaysOfExpected}
 use Rattle.pb_search_engine.specs.SaysOfOne.{SaysOfOne}
 use Rattle.pb_search_engine.specs.SaysOutcomes.{SaysOfOutcomes}
@@ -23,10 +24,15 @@ SaysWhich (Some target) options =
 SaysWhich None options =
     SaysOfOutcomes options.lend options.first_deadlock options.prints options.fair options.states
 
--- whether all runs are as expected, if that is asked; else a run or all outcomes
+-- a run that never ends, if that is asked; else a run to an outcome or a deadlock, or all of them
+abbrev pub SaysForEver : (endless : Bool) → OutcomesOptions → List ℕ → List ℕ → Status → Type 0
+SaysForEver true options = SaysOfEndlessRun options.fair options.lend options.states
+SaysForEver false options = SaysWhich (target_of options.run options.deadlock) options
+
+-- whether all runs are as expected, if that is asked; else the others
 abbrev pub SaysWhether : (expect : Bool) → OutcomesOptions → List ℕ → List ℕ → Status → Type 0
 SaysWhether true options = SaysOfExpected options.fair options.lend options.any_order options.states
-SaysWhether false options = SaysWhich (target_of options.run options.deadlock) options
+SaysWhether false options = SaysForEver options.endless options
 
 -- the document of all schedules, if that is asked; else the others
 abbrev pub SaysOrDocument : (graph : Bool) → OutcomesOptions → List ℕ → List ℕ → Status → Type 0

@@ -1,6 +1,6 @@
 //! The command `outcomes --expect`: whether all runs of a program are as expected.
 
-ghost use Rattle.std.specs.Prelude.{◌≡◌, ◌≤◌, ◌<◌, ◌⊎◌, IfOk, length, map, true};
+ghost use Rattle.std.specs.Prelude.{◌≡◌, ◌≤◌, ◌<◌, ◌⊎◌, All, IfOk, length, map, true};
 ghost use Rattle.pb_base.specs.declared.limits.TheConstants.{MAX_INPUT};
 ghost use Rattle.pb_code.specs.Limits.{AreLabels};
 ghost use Rattle.pb_command_io.specs.Answers.{Tells};
@@ -11,12 +11,15 @@ ghost use Rattle.pb_search.specs.Deadlocks.{deadlock_view};
 ghost use Rattle.pb_search.specs.Outcomes.{found_view};
 ghost use Rattle.pb_search.specs.Told.{AreSome};
 ghost use Rattle.pb_search_engine.specs.Expected.{printing};
-ghost use Rattle.pb_search_engine.specs.SaysExpected.{IsPlainBy, SaysOfEndless, SaysOfExpected, SaysOfLines, SaysOfRuns, TellsDeadlock, TellsOutcome};
+ghost use Rattle.pb_search_engine.specs.Requirements.{MayBeRequired};
+ghost use Rattle.pb_search_engine.specs.SaysExpected.{IsPlainBy, SaysOfAsked, SaysOfEndless, SaysOfExpected, SaysOfLines, SaysOfRuns, TellsDeadlock, TellsOutcome};
 ghost use Rattle.pb_options.specs.Lends.{lending_for};
 
+use crate::asked::{Asked, read_asked};
 use crate::outcomes::mode;
-use crate::print_lines::{PrintFault, read_prints};
-use crate::replies::{bad_print, deadlock_text, fair_text, outcome_text, plain_text};
+use crate::print_lines::PrintFault;
+use crate::replies::{bad_print, deadlock_text, fair_text, outcome_text, plain_text, unmet};
+use crate::requirements::first_unmet;
 use crate::wanted::{Wanted, first_other};
 use pb_accept::{compile_text, refuse};
 use pb_base::limits::MAX_INPUT;
@@ -29,9 +32,10 @@ use pb_search::{Extent, Outcomes, Until};
 use pb_search_fair::fair_runs;
 use std::alloc::Global;
 
-/// Writes whether all runs of a text are as the print lines say that follow it, behind a line `%%`; and else the
-/// first outcome or deadlock that is not, or that some run does not end. With `options.fair` a run that does not end
-/// counts only if it is fair.
+/// Writes whether a text is as the lines ask that follow it, behind a line `%%`: whether it has what they require, and
+/// all its runs are as the print lines say; and else the first requirement that is not met, or the first outcome or
+/// deadlock that is not as expected, or that some run does not end. With `options.fair` a run that does not end counts
+/// only if it is fair.
 pub fn tell_expected<O: Output>(
     alloc: Global,
     options: OutcomesOptions,
@@ -61,18 +65,38 @@ fn reply(
     ensures { IfOk result (λ r. SaysOfLines options.fair (lending_for options.lend) options.any_order compiled.now.verified.code
         compiled.now.labels options.states lines.now r.text.items r.status) }
 {
-    match read_prints(alloc, compiled.verified().code(), lines) {
-        Ok(prints) => compared(
+    match read_asked(alloc, compiled.verified().code(), lines) {
+        Ok(asked) => answered(alloc, options, compiled, &asked),
+        Err(PrintFault::NotPrint(at)) => bad_print(alloc, at),
+        Err(PrintFault::NoMemory) => Err(NoMemory),
+    }
+}
+
+/// Returns what is said of a compiled text of which this is asked: the first requirement that is not met, or else what
+/// is said of its runs.
+fn answered(
+    alloc: Global,
+    options: OutcomesOptions,
+    compiled: &Compiled,
+    asked: &Asked,
+) -> Result<Reply, NoMemory>
+    requires labels { AreLabels compiled.now.verified.code compiled.now.labels }
+    requires may { All (MayBeRequired compiled.now.verified.code) asked.now.requirements.items }
+    ensures { IfOk result (λ r. SaysOfAsked options.fair (lending_for options.lend) options.any_order asked.now.requirements.items
+        asked.now.prints.items compiled.now.verified.code compiled.now.labels options.states r.text.items r.status) }
+{
+    let code = compiled.verified().code();
+    match first_unmet(code, &asked.requirements) {
+        Some(requirement) => unmet(alloc, &code.names, requirement),
+        None => compared(
             alloc,
             options,
             compiled,
             Wanted {
-                prints: &prints,
+                prints: &asked.prints,
                 any_order: options.any_order,
             },
         ),
-        Err(PrintFault::NotPrint(at)) => bad_print(alloc, at),
-        Err(PrintFault::NoMemory) => Err(NoMemory),
     }
 }
 

@@ -12,16 +12,16 @@ pub fn outcomes_are_those_of_the_program()
     ensures { OutcomesAreThoseOfTheProgram }
 {}
 
-/// What `outcomes --expect` says of the runs of code is right: if its status is 0 all of them are as expected, and
-/// if it is 10 not all of them are.
+/// What `outcomes --expect` says of code is right: if its status is 0 each requirement is met and all runs are as
+/// expected, and if it is 10 a requirement is not met, or not all runs are as expected.
 pub fn answers_are_right()
     ensures { AnswersAreRight }
 {}
 
-/// What `outcomes --expect` says of the runs of the code of a text is right of the program of the text, whoever
-/// lends: if its status is 0, all that the program can end with is as expected, without a fault and with the prints
-/// on the way, it comes to no deadlock, and each of its runs ends; and if it is 10, the program can end with
-/// something else, or come to a deadlock, or has runs of any length.
+/// What `outcomes --expect` says of the code of a text is right of the program of the text, whoever lends: if its status
+/// is 0, each requirement is met, all that the program can end with is as expected, without a fault and with the prints
+/// on the way, it comes to no deadlock, and each of its runs ends; and if it is 10, a requirement is not met, or the
+/// program can end with something else, or come to a deadlock, or has runs of any length.
 pub fn answers_are_right_of_programs()
     ensures { AnswersAreRightOfPrograms }
 {}

@@ -1,8 +1,10 @@
 //! The engine behind the command `outcomes`: every way in which a small program can end, and every deadlock.
 #![tactic(auto)]
 
+mod asked;
 mod counts;
 mod deadlocks;
+mod endless;
 mod expect;
 pub mod laws;
 mod lines;
@@ -12,7 +14,10 @@ mod outcomes;
 mod print_lines;
 mod prints;
 mod replies;
+mod requirements;
 mod wanted;
 
+pub use asked::{Asked, read_asked};
 pub use outcomes::outcomes_engine;
-pub use print_lines::{PrintFault, read_prints};
+pub use print_lines::PrintFault;
+pub use requirements::{Part, Requirement};

@@ -12,6 +12,7 @@ ghost use Rattle.pb_search_engine.specs.FairLines.{fair_line, status_with};
 ghost use Rattle.pb_search_engine.specs.SaysOutcomes.{SaysFairly, SaysOfSearch, SaysOfOutcomes, mode_for, status_of, until_for};
 ghost use Rattle.pb_search_fair.specs.CodeRuns.{TellsFairRuns};
 
+use crate::endless::tell_endless;
 use crate::expect::tell_expected;
 use crate::lines::outcomes_text;
 use crate::one_run::{Target, tell_one_run};
@@ -46,6 +47,7 @@ use std::alloc::Global;
 /// With `options.run` or `options.deadlock` the text is written with the picks that lead to the one with this
 /// number, as `replay` reads it, or that there is none. With `options.expect` the input is a text and print lines
 /// behind it, and it is written whether all runs of the text are as these lines say, as `tell_expected` does. With
+/// `options.endless` a run that never ends is written in place of all outcomes, as `tell_endless` does. With
 /// `options.graph` the document of all its schedules is written in place of all else, as `tell_schedules` does.
 ///
 /// After a read that failed nothing is written; after a write that failed, a prefix of the output.
@@ -86,7 +88,7 @@ fn tell_bytes<O: Output>(
     tell_text(alloc, options, bytes, output)
 }
 
-/// Writes the outcomes of a text, or a run to one of them, or whether all runs of it are as expected.
+/// Writes the outcomes of a text, or a run to one of them, or one that never ends, or whether all runs are as expected.
 fn tell_text<O: Output>(
     alloc: Global,
     options: OutcomesOptions,
@@ -99,6 +101,9 @@ fn tell_text<O: Output>(
 {
     if options.expect {
         return tell_expected(alloc, options, bytes, output);
+    }
+    if options.endless {
+        return tell_endless(alloc, options, bytes, output);
     }
     match target(options.run, options.deadlock) {
         Some(target) => tell_one_run(alloc, options, target, bytes, output),

@@ -38,7 +38,7 @@ impl<T: Drop> From<AllocFailed<T>> for PrintFault {
 /// Reads print lines, `P.a print V` each, of the processes and arms of this code. The last line feed may be
 /// missing. The first line that is not of the form, or whose process or arm does not exist, is refused, with the
 /// place at which it begins.
-pub fn read_prints(alloc: Global, code: &Code, text: &[u8]) -> Result<Vec<Print>, PrintFault>
+pub(crate) fn read_prints(alloc: Global, code: &Code, text: &[u8]) -> Result<Vec<Print>, PrintFault>
     requires { KeepsLimits (code_view code.now) }
     ensures read { IfOk result (λ prints. SpellsPrints (code_view code.now) text.now prints.items) }
     ensures refused { IfErr result (IsBadPrint (code_view code.now) text.now) }
@@ -57,7 +57,7 @@ pub fn read_prints(alloc: Global, code: &Code, text: &[u8]) -> Result<Vec<Print>
 }
 
 /// Splits a text into its first line, without the line feed, and the rest.
-fn first_line(text: &[u8]) -> (&[u8], &[u8])
+pub(crate) fn first_line(text: &[u8]) -> (&[u8], &[u8])
     ensures { IsFirstLine text.now result.0.now result.1.now }
 {
     for end in 0..text.len() {
@@ -131,7 +131,7 @@ fn value_of_arm(text: &[u8], arm: u8) -> Option<i64>
 }
 
 /// Returns what follows these bytes, if the text begins with them.
-fn after<'t>(text: &'t [u8], start: &[u8]) -> Option<&'t [u8]>
+pub(crate) fn after<'t>(text: &'t [u8], start: &[u8]) -> Option<&'t [u8]>
     ensures { MatchOption result ((rest : List ℕ) → text.now ≢ start.now ++ rest)
         (λ rest. text.now ≡ start.now ++ rest.now) }
 {
@@ -139,7 +139,7 @@ fn after<'t>(text: &'t [u8], start: &[u8]) -> Option<&'t [u8]>
 }
 
 /// Returns the integer that a word is, if it is written as events write it.
-fn value_of(word: &[u8]) -> Option<i64>
+pub(crate) fn value_of(word: &[u8]) -> Option<i64>
     ensures { MatchOption result ((value : ℤ) → IsSigned value → word.now ≡ signed_decimal value → ⊥)
         (λ value. IsSigned value × (word.now ≡ signed_decimal value)) }
 {

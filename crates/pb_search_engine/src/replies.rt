@@ -9,12 +9,14 @@ ghost use Rattle.pb_code.specs.View.{labels_view};
 ghost use Rattle.pb_search.specs.Deadlocks.{deadlock_view};
 ghost use Rattle.pb_search.specs.Outcomes.{process_outcome_view, found_view};
 ghost use Rattle.pb_search.specs.declared.found.Extent.TheVariants.{AtDeadlock as EndsAtDeadlock};
+ghost use Rattle.pb_search_engine.specs.Requirements.{requirement_text};
 ghost use Rattle.pb_search_engine.specs.SaysExpected.{IsOtherText, IsPlain, TellsDeadlock, TellsOutcome, fair_answer, fair_status, other_line};
 ghost use Rattle.pb_search_engine.specs.Showing.{HaveProcesses};
 
 use crate::counts::count_picks;
 use crate::deadlocks::put_deadlock;
 use crate::lines::put_outcome;
+use crate::requirements::{Requirement, text_of};
 use crate::wanted::has_fault;
 use pb_accept::{Cause, cause_text};
 use pb_base::limits::MAX_PICKS;
@@ -125,6 +127,15 @@ fn as_expected(alloc: Global) -> Result<Reply, NoMemory>
     })
 }
 
+/// Returns the answer that this requirement is not met.
+pub fn unmet(alloc: Global, names: &Names, requirement: Requirement) -> Result<Reply, NoMemory>
+    ensures { IfOk result (λ r. (r.text.items ≡ other_line (requirement_text (names_view names.now) requirement))
+        × (r.status ≡ Status.Unexpected)) }
+{
+    let text = text_of(alloc, names, requirement)?;
+    unexpected(alloc, &text)
+}
+
 /// Returns the answer that says what is not as expected, and nothing else.
 fn unexpected(alloc: Global, what: &[u8]) -> Result<Reply, NoMemory>
     ensures { IfOk result (λ r. (r.text.items ≡ other_line what.now) × (r.status ≡ Status.Unexpected)) }
@@ -138,7 +149,7 @@ fn unexpected(alloc: Global, what: &[u8]) -> Result<Reply, NoMemory>
 }
 
 /// Returns the answer that there is more than this number of something.
-fn limit(alloc: Global, number: u32, what: &[u8]) -> Result<Reply, NoMemory>
+pub(crate) fn limit(alloc: Global, number: u32, what: &[u8]) -> Result<Reply, NoMemory>
     ensures { IfOk result (λ r. (r.text.items ≡ codes "more than " ++ decimal number ++ what.now) × (r.status ≡ Status.Limit)) }
 {
     let mut text = Vec::new(alloc);
@@ -150,7 +161,7 @@ fn limit(alloc: Global, number: u32, what: &[u8]) -> Result<Reply, NoMemory>
     })
 }
 
-/// Returns the answer to print lines of which the one at this place says no print.
+/// Returns the answer to lines of which the one at this place says nothing that can be asked.
 pub fn bad_print(alloc: Global, at: usize) -> Result<Reply, NoMemory>
     ensures { IfOk result (λ r. (r.text.items ≡ line (cause_line (record { code = Code.K1; at = Some at }))) × (r.status ≡ Status.Refused)) }
 {

@@ -1,16 +1,22 @@
 -- What is said of an input, from the message that was made.
-use Rattle.std.proofs.Common.{◌≡◌, ◌<◌, ◌≤◌, ℕ, List, codes, Some, Result, Ok, Err, IfOk, arith, length, inl, inr}
+use Rattle.std.proofs.Common.{◌≡◌, ◌<◌, ◌≤◌, ℕ, List, codes, Result, Ok, Err, IfOk, IsTrue, OnOk, arith, length, min, inl, inr, subst}
 use Rattle.pb_base.specs.Steppers.{Table}
 use Rattle.pb_base.specs.declared.limits.TheConstants.{MAX_INPUT}
 use Rattle.pb_code.specs.Whole.{Code}
 use Rattle.pb_command_io.specs.Parts.{AreParts, AreTwoParts}
 use Rattle.pb_joint.specs.Texts.{AreReadAs}
-use Rattle.pb_messages.specs.Messages.{IsMessageAt}
+use Rattle.pb_lexer.specs.Cutting.{line_at}
+use Rattle.pb_message_stops.specs.Told.{TellsBadLine}
+use Rattle.pb_message_stops.specs.declared.ends.Form.TheVariants.{Prints}
+use Rattle.pb_messages.proofs.SaidLemmas.{are_before}
+use Rattle.pb_messages.specs.Details.{ShowsWording}
+use Rattle.pb_messages.specs.Messages.{IsMessage}
+use Rattle.pb_mistakes.specs.declared.wording.Wording.{Wording}
 use Rattle.pb_messages.specs.Said.{SaysOfTexts, SaysWithin}
 use Rattle.pb_names.specs.Program.{Program}
-use Rattle.pb_search_engine.specs.PrintLines.{IsBadPrint}
+use Rattle.pb_search_engine.specs.Requirements.{IsBadAsked}
 use Rattle.pb_search_engine.specs.declared.print_lines.PrintFault.TheVariants.{NotPrint}
-use Rattle.pb_search_tool.specs.Messages.{SaysOfExpected, SaysOfExpectedText, SaysOfPrintLines, SaysOfTogether, TellsFirstFault, unsaid}
+use Rattle.pb_search_tool.specs.Messages.{SaysOfExpected, SaysOfExpectedText, SaysOfPrintLines, SaysOfTogether, TellsFirstFault, unsaid, unsaid_at}
 use Rattle.pb_search_tool.specs.Messages.SaysOfTogether.{refused, read}
 use Rattle.pb_tree.specs.Syntax.{ProgramSyntax}
 
@@ -22,17 +28,22 @@ within Says bytes told short (inr (fits, says)) = says
 
 module _ {W E : Type 0} (seen : W → List ℕ) where
   -- the message of a line that says no print
-  pub print_told : (code : Code) (lines : List ℕ) (at : ℕ) (made : Result W E) → IsBadPrint code lines (NotPrint at)
-      → IfOk made (λ told. IsMessageAt (codes "print ") lines (codes "K1") (Some at) (seen told)) → IfOk made (λ told. SaysOfPrintLines code lines (seen told))
-  print_told code lines at (Ok told) bad message = unsaid at (seen told) bad message
-  print_told code lines at (Err e) bad message = message
+  pub print_told : (code : Code) (before : ℕ) (lines : List ℕ) (at : ℕ) (wording : Wording) (made : Result W E)
+      → IsBadAsked code lines (NotPrint at) → (IsTrue wording.is_whole → TellsBadLine Prints before lines at wording)
+      → IfOk made (λ told. IsMessage (codes "print ") lines (unsaid_at at) (seen told))
+      → IfOk made (λ told. ShowsWording (codes "print ") lines (unsaid_at at) wording (seen told))
+      → OnOk made (IsTrue wording.is_whole) → IfOk made (λ told. SaysOfPrintLines code before lines (seen told))
+  print_told code before lines at wording (Ok told) bad tells message shows whole = unsaid at wording (seen told) bad (tells whole) message shows
+  print_told code before lines at wording (Err e) bad tells message shows whole = message
 
   -- what is said of a text and print lines
-  pub text_expected : (bytes text lines : List ℕ) (made : Result W E) → AreTwoParts bytes text lines
-      → IfOk made (λ told. SaysOfExpectedText text lines (seen told))
+  pub text_expected : (before : ℕ) (bytes text lines : List ℕ) (made : Result W E) → AreTwoParts bytes text lines
+      → before ≡ line_at bytes (min (length text) (length bytes))
+      → IfOk made (λ told. SaysOfExpectedText before text lines (seen told))
       → IfOk made (λ told. SaysOfExpected bytes (seen told))
-  text_expected bytes text lines (Ok told) parts says = (text, lines, parts, says)
-  text_expected bytes text lines (Err e) parts says = says
+  text_expected before bytes text lines (Ok told) parts are says =
+      (text, lines, parts, subst (λ (n : ℕ). SaysOfExpectedText n text lines (seen told)) (are_before bytes text lines before parts are) says)
+  text_expected before bytes text lines (Err e) parts are says = says
 
   -- what is said of texts that are read as one program, and of the first of them that cannot be
   pub texts_together : (bytes : List ℕ) (texts : List (List ℕ)) (trees : List ProgramSyntax) (program : Program) (claims : Table)

@@ -8,30 +8,44 @@ use Rattle.pb_codegen.specs.Compiled.{IsCompiled}
 use Rattle.pb_codegen.specs.declared.fault.CompileFault.{CompileFault}
 use Rattle.pb_command_io.specs.Parts.{AreParts, AreTwoParts}
 use Rattle.pb_joint.specs.Texts.{AreReadAs, IsFirstFault, are_several}
-use Rattle.pb_messages.specs.Messages.{IsMessage, IsMessageAt, TellsRefusal}
-use Rattle.pb_messages.specs.Said.{SaysOfTexts, text_label}
+use Rattle.pb_message_stops.specs.Told.{TellsBadLine}
+use Rattle.pb_message_stops.specs.declared.ends.Form.TheVariants.{Prints}
+use Rattle.pb_messages.specs.Details.{ShowsWording}
+use Rattle.pb_messages.specs.Messages.{IsMessage, TellsRefusal}
+use Rattle.pb_messages.specs.Said.{SaysOfTexts, lines_before, text_label}
+use Rattle.pb_mistakes.specs.declared.wording.Wording.{Wording}
 use Rattle.pb_names.specs.Program.{Program}
-use Rattle.pb_search_engine.specs.PrintLines.{IsBadPrint, SpellsPrints}
+use Rattle.pb_options.specs.declared.code.Code.TheVariants.{K1}
+use Rattle.pb_search_engine.specs.Requirements.{IsBadAsked, SpellsAsked}
 use Rattle.pb_search_engine.specs.declared.print_lines.PrintFault.TheVariants.{NotPrint}
+use Rattle.pb_search_engine.specs.declared.requirements.Requirement.{Requirement}
 use Rattle.pb_search_stages.specs.declared.print.Print.{Print}
 use Rattle.pb_tree.specs.Syntax.{ProgramSyntax}
 
--- of print lines over some code: nothing if all say prints; else which line says none
-pub data SaysOfPrintLines (code : Code) (lines : List ℕ) : List ℕ → Type 0 where
-  said : (prints : List Print) → SpellsPrints code lines prints → SaysOfPrintLines code lines []
-  unsaid : (at : ℕ) (told : List ℕ) → IsBadPrint code lines (NotPrint at)
-      → IsMessageAt (codes "print ") lines (codes "K1") (Some at) told → SaysOfPrintLines code lines told
+-- the cause of a line that says no print, which begins at this offset
+abbrev pub unsaid_at : (at : ℕ) → Cause
+unsaid_at at = record { code = K1; at = Some at }
 
--- of a text and print lines
-abbrev pub SaysOfExpectedText : (text lines told : List ℕ) → Type 0
-SaysOfExpectedText text lines told =
-    ((code : Code) × (labels : List ProcessLabels) × IsCompiled text code labels × SaysOfPrintLines code lines told)
+-- of print lines over some code, and requirements before them, behind this number of lines of the input: nothing if all
+-- lines say these; else which line says none, with its number in the input, and what it has wrong at its ends
+pub data SaysOfPrintLines (code : Code) (before : ℕ) (lines : List ℕ) : List ℕ → Type 0 where
+  said : (requirements : List Requirement) (prints : List Print) → SpellsAsked code lines requirements prints
+      → SaysOfPrintLines code before lines []
+  unsaid : (at : ℕ) (wording : Wording) (told : List ℕ) → IsBadAsked code lines (NotPrint at) → TellsBadLine Prints before lines at wording
+      → IsMessage (codes "print ") lines (unsaid_at at) told → ShowsWording (codes "print ") lines (unsaid_at at) wording told
+      → SaysOfPrintLines code before lines told
+
+-- of a text and print lines behind this number of lines of the input
+abbrev pub SaysOfExpectedText : (before : ℕ) → (text lines told : List ℕ) → Type 0
+SaysOfExpectedText before text lines told =
+    ((code : Code) × (labels : List ProcessLabels) × IsCompiled text code labels × SaysOfPrintLines code before lines told)
     ⊎ TellsRefusal [] text told
 
 -- of a text, and print lines behind the first line `%%`
 abbrev pub SaysOfExpected : (bytes told : List ℕ) → Type 0
 SaysOfExpected bytes told =
-    (text : List ℕ) × (lines : List ℕ) × AreTwoParts bytes text lines × SaysOfExpectedText text lines told
+    (text : List ℕ) × (lines : List ℕ) × AreTwoParts bytes text lines
+    × SaysOfExpectedText (lines_before bytes text) text lines told
 
 -- what is named before the line of a place, if there are several texts; else nothing
 abbrev pub IsLabelOf : (several : Bool) → (number : ℕ) → (label : List ℕ) → Type 0

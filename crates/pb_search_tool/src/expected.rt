@@ -59,7 +59,8 @@ fn parts_message(alloc: Global, bytes: &[u8]) -> Result<Vec<u8>, NoMemory>
 
 /// Returns the message of a text, or of print lines over its code.
 fn expected_text_message(alloc: Global, text: &[u8], lines: Lines<'_>) -> Result<Vec<u8>, NoMemory>
-    ensures { IfOk result (λ message. SaysOfExpectedText text.now lines.entry.text.now message.items) }
+    ensures { IfOk result (λ message.
+        SaysOfExpectedText lines.entry.before text.now lines.entry.text.now message.items) }
 {
     match text_message(alloc, "", text)? {
         Ok(compiled) => prints_message(alloc, compiled.verified(), lines),

@@ -1,8 +1,8 @@
-//! The message of print lines that are refused.
+//! The message of lines that are refused, of which each asks something of a text.
 
 ghost use Rattle.std.specs.Prelude.{IfOk};
 ghost use Rattle.pb_code.specs.View.{code_view};
-ghost use Rattle.pb_search_engine.specs.PrintLines.{IsBadPrint};
+ghost use Rattle.pb_search_engine.specs.Requirements.{IsBadAsked};
 ghost use Rattle.pb_search_tool.specs.Messages.{SaysOfPrintLines};
 
 use pb_accept::Cause;
@@ -10,36 +10,39 @@ use pb_base::NoMemory;
 use pb_code::Code;
 use pb_message_stops::{Lines, bad_print_line};
 use pb_messages::worded::worded;
-use pb_search_engine::{PrintFault, read_prints};
+use pb_search_engine::{PrintFault, read_asked};
 use pb_verifier::Verified;
 use std::alloc::Global;
 
 /// What is before the line of a place.
 const LABEL: &str = "print ";
 
-/// Returns the message of print lines of which one says no print of this code; nothing if all say prints.
+/// Returns the message of lines of which one says no print of this code, behind those that say requirements; nothing if
+/// all others say prints.
 pub fn prints_message(
     alloc: Global,
     verified: &Verified,
     lines: Lines<'_>,
 ) -> Result<Vec<u8>, NoMemory>
-    ensures { IfOk result (λ message. SaysOfPrintLines verified.now.code lines.entry.text.now message.items) }
+    ensures { IfOk result (λ message.
+        SaysOfPrintLines verified.now.code lines.entry.before lines.entry.text.now message.items) }
 {
-    match read_prints(alloc, verified.code(), lines.text) {
+    match read_asked(alloc, verified.code(), lines.text) {
         Ok(_) => Ok(Vec::new(alloc)),
         Err(fault) => unsaid_message(alloc, verified.code(), lines, fault),
     }
 }
 
-/// Returns the message of lines of which one says no print.
+/// Returns the message of lines of which one says no print where it should.
 fn unsaid_message(
     alloc: Global,
     code: &Code,
     lines: Lines<'_>,
     fault: PrintFault,
 ) -> Result<Vec<u8>, NoMemory>
-    requires { IsBadPrint (code_view code.now) lines.text.now fault }
-    ensures { IfOk result (λ message. SaysOfPrintLines (code_view code.now) lines.entry.text.now message.items) }
+    requires { IsBadAsked (code_view code.now) lines.text.now fault }
+    ensures { IfOk result (λ message.
+        SaysOfPrintLines (code_view code.now) lines.entry.before lines.entry.text.now message.items) }
 {
     let PrintFault::NotPrint(at) = fault else {
         return Err(NoMemory);

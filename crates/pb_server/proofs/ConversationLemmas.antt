@@ -5,15 +5,16 @@ use Rattle.std.proofs.lemmas.List.Concat.{flat_map-append}
 use Rattle.serde_json.specs.Data.{Data}
 use Rattle.pb_base.specs.Device.{appended, AddsPrefix}
 use Rattle.pb_base.proofs.DeviceLemmas.{appended-appended}
+use Rattle.pb_conversations.proofs.ConversationLemmas.{front_of, read_to}
 use Rattle.pb_conversations.proofs.WrittenTexts.{known, none_appended, prefix_behind, texts_more}
-use Rattle.pb_conversations.specs.Conversations.{WritesReply, message_text, none_read, one_read, texts}
+use Rattle.pb_conversations.specs.Conversations.{SaysBefore, WritesReply, message_text, none_read, one_read, texts}
 use Rattle.pb_conversations.specs.declared.conversation.Stop.{Stop}
 use Rattle.pb_conversations.specs.declared.conversation.Stop.TheVariants as stop
-use Rattle.pb_frames.specs.Frames.{IsFrame, IsFrameFault, IsRead}
+use Rattle.pb_frames.specs.Frames.{IsFrame, IsFrameFault, IsPartOfFrame, IsRead}
 use Rattle.pb_frames.specs.declared.fault.FrameFault.{FrameFault}
 use Rattle.pb_frames.specs.declared.fault.FrameFault.TheVariants as frame
 use Rattle.pb_server.specs.Answers.{AnswersContent, Diagnosing, Finding, Serving}
-use Rattle.pb_server.specs.Conversations.{Talks, TalksOut, TalksSome, WritesBroken, broken_data, none_heard, one_heard}
+use Rattle.pb_server.specs.Conversations.{AnswersRead, Talks, TalksOut, TalksSome, WritesBroken, broken_data, none_heard, one_heard}
 
 module _ (Diagnoses : Diagnosing) (Finds : Finding) (s : Serving) where
   -- the first messages are answered, and `heard` is how many they are
@@ -65,6 +66,26 @@ module _ (Diagnoses : Diagnosing) (Finds : Finding) (s : Serving) where
       talks = far.talks;
       written = far.written;
     }
+
+    -- a read failed, and nothing more is written
+    pub so_far_read : (left' new : Option (List ℕ)) → IfSome left (λ bs. IsPartOfFrame bs left') → new ≡ mid
+        → SaysBefore (AnswersRead Diagnoses Finds s) bytes left' old new
+    so_far_read left' new part kept =
+        let (read, later, cut, to, early) = known left far.rest (λ bs. IsPartOfFrame bs left') far.coming part in
+        let f = front_of bytes far.talks.contents far.rest far.talks.frames in (
+          f.front ++ read,
+          texts far.messages,
+          read_to bytes f.front far.rest read later left' f.cut cut to,
+          record {
+            part = read;
+            messages = far.messages;
+            after = here;
+            talks = record { contents = far.talks.contents; frames = f.frames read; conversation = far.talks.conversation };
+            unfinished = early;
+            said = refl;
+          },
+          kept ∙ far.written,
+        )
 
     -- no further message was read
     pub so_far_unread : (fault : FrameFault) (why : Stop) (new : Option (List ℕ)) → IfSome left (IsFrameFault fault)

@@ -5,7 +5,7 @@ use Rattle.serde_json.specs.Data.{Data, null, array, no_items}
 use Rattle.serde_json.specs.Read.{read}
 use Rattle.pb_server.specs.Documents.{Document, text_of, with_text, without}
 use Rattle.pb_server.specs.Founds.{FoundData, response_data}
-use Rattle.pb_server.specs.Messages.{Called, Heard, heard_in, neither, notification, request}
+use Rattle.pb_server.specs.Messages.{Called, Heard, heard_in, neither, notification, request, response}
 use Rattle.pb_server.specs.Methods.{method_of, notice_of}
 use Rattle.pb_server.specs.Params.{changed_text, opened_text, uri_in, version_in}
 use Rattle.pb_server.specs.Responses.{capabilities_data, error_data, publishing_data, result_data}
@@ -143,6 +143,7 @@ Hears Diagnoses s call told after = HearsIn Diagnoses s.phase (notice_of call.me
 abbrev pub AnswersHeard : Diagnosing → Finding → Heard → Serving → List Data → Serving → Type 0
 AnswersHeard Diagnoses Finds (request id call) s told after = AnswersRequest Finds s id call told after
 AnswersHeard Diagnoses Finds (notification call) s told after = Hears Diagnoses s call told after
+AnswersHeard Diagnoses Finds response s told after = StaysSilent s told after
 AnswersHeard Diagnoses Finds neither s told after = Refuses s null faults.NoRequest (codes "this is not a request") told after
 
 -- the messages that answer a content

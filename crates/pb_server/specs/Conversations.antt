@@ -8,6 +8,7 @@ use Rattle.pb_conversations.specs.declared.conversation.Stop.TheVariants as stop
 use Rattle.pb_conversations.specs.declared.conversation.TheConstants.{MAX_MESSAGES}
 use Rattle.pb_frames.specs.Frames.{IsFrameFault}
 use Rattle.pb_frames.specs.declared.fault.FrameFault.{FrameFault}
+use Rattle.pb_frames.specs.declared.fault.FrameFault.TheVariants as frame
 use Rattle.pb_server.specs.Answers.{AnswersContent, Diagnosing, Finding, Serving}
 use Rattle.pb_server.specs.Responses.{error_data}
 use Rattle.pb_server.specs.declared.response.Fault.TheVariants as faults
@@ -63,6 +64,16 @@ pub record TalksSome (Diagnoses : Diagnosing) (Finds : Finding) (s : Serving) (b
   pub after : Serving
   pub talks : Talks Diagnoses Finds s bytes rest messages after
   pub written : WritesBefore why rest messages old new
+
+-- the text is what is said to all messages that are whole in what was read; behind them stand at most some first bytes
+-- of a further one
+pub record AnswersRead (Diagnoses : Diagnosing) (Finds : Finding) (s : Serving) (read text : List ℕ) : Type 0 where
+  pub part : List ℕ
+  pub messages : List Data
+  pub after : Serving
+  pub talks : Talks Diagnoses Finds s read part messages after
+  pub unfinished : IsFrameFault frame.Early part
+  pub said : text ≡ texts messages
 
 -- what is written if no further message was read: why, if that is a fault of the bytes; nothing else
 abbrev pub WritesBroken : Stop → FrameFault → (old new : Option (List ℕ)) → Type 0

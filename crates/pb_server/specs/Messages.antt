@@ -1,5 +1,5 @@
 -- The messages of a client.
-use Rattle.std.specs.Prelude.{ℕ, cond, not, List, Bool, false, true, Option, None, Some, codes, option_map}
+use Rattle.std.specs.Prelude.{ℕ, cond, not, ◌||◌, List, Bool, false, true, Option, None, Some, codes, option_map}
 use Rattle.serde_json.specs.Data.{Data, null, boolean, number, string, array, object}
 use Rattle.serde_json.specs.Find.{get, is_float}
 use Rattle.serde_json.specs.View.{view}
@@ -26,24 +26,36 @@ pub record Called : Type 0 where
 abbrev pub call_view : Call → Called
 call_view c = record { method = c.method.now; params = option_map (λ v. view v.now) c.params }
 
--- a request, to which there is one response, with its id; a notification, to which there is none; or neither
+-- a request, to which there is one response, with its id; a notification, to which there is none; a response of the
+-- client, to which nothing is said; or none of these
 pub data Heard : Type 0 where
   request : (id : Data) → Called → Heard
   notification : Called → Heard
+  response : Heard
   neither : Heard
 
 -- what contracts see of a message
 abbrev pub message_view : Message → Heard
 message_view (messages.Request id call) = request (view id.now) (call_view call)
 message_view (messages.Notification call) = notification (call_view call)
+message_view messages.Response = response
 message_view messages.Neither = neither
 
+-- whether a member is there
+abbrev pub is_member : Option Data → Bool
+is_member None = false
+is_member (Some d) = true
+
+-- what a message without a method is: a response, if it has a result or an error
+abbrev pub without_method : Data → Heard
+without_method d = cond (is_member (get (codes "result") d) || is_member (get (codes "error") d)) response neither
+
 -- what a message is, by its id, its method and its parameters
-abbrev pub heard_of : (id : Option Data) → (method : Option (List ℕ)) → (params : Option Data) → Heard
-heard_of id None params = neither
-heard_of None (Some method) params = notification (record { method = method; params = params })
-heard_of (Some id) (Some method) params = cond (is_id id) (request id (record { method = method; params = params })) neither
+abbrev pub heard_of : Data → (id : Option Data) → (method : Option (List ℕ)) → (params : Option Data) → Heard
+heard_of d id None params = without_method d
+heard_of d None (Some method) params = notification (record { method = method; params = params })
+heard_of d (Some id) (Some method) params = cond (is_id id) (request id (record { method = method; params = params })) neither
 
 -- what a message is
 abbrev pub heard_in : Data → Heard
-heard_in d = heard_of (get (codes "id") d) (text_in (codes "method") d) (get (codes "params") d)
+heard_in d = heard_of d (get (codes "id") d) (text_in (codes "method") d) (get (codes "params") d)

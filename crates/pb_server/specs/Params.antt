@@ -1,6 +1,6 @@
 -- What the parameters of a message say of a document.
 use Rattle.std.specs.Prelude.{ℕ, List, Option, None, Some, codes, option_and_then}
-use Rattle.serde_json.specs.Data.{Data, Items, no_items, item}
+use Rattle.serde_json.specs.Data.{Data, Items, null, boolean, number, string, array, object, no_items, item}
 use Rattle.serde_json.specs.Find.{get, as_array}
 use Rattle.pb_adapter_requests.specs.Requests.{number_in, text_in}
 
@@ -18,10 +18,15 @@ version_in params = option_and_then (number_in (codes "version")) (document_in p
 abbrev pub opened_text : Option Data → Option (List ℕ)
 opened_text params = option_and_then (text_in (codes "text")) (document_in params)
 
--- the text of a change, if it is of the whole text and not of a range of it
+-- the text of a change, if it is of the whole text and not of a range of it; null is no range
 abbrev pub whole_if : (range : Option Data) → Data → Option (List ℕ)
 whole_if None change = text_in (codes "text") change
-whole_if (Some range) change = None
+whole_if (Some null) change = text_in (codes "text") change
+whole_if (Some (boolean b)) change = None
+whole_if (Some (number n)) change = None
+whole_if (Some (string s)) change = None
+whole_if (Some (array ds)) change = None
+whole_if (Some (object ms)) change = None
 
 -- the text of a change, if it is of the whole text
 abbrev pub whole_text : Data → Option (List ℕ)

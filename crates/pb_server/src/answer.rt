@@ -167,6 +167,7 @@ fn answer_message<L: Language>(
             Ok(Some(response))
         }
         Message::Notification(call) => hear(alloc, language, session, call),
+        Message::Response => Ok(None),
         Message::Neither => {
             let response = refuse(
                 alloc,
@@ -179,7 +180,7 @@ fn answer_message<L: Language>(
     }
 }
 
-/// Answers the content of a message: a request by one response, a notification by none.
+/// Answers the content of a message: a request by one response, a notification and a response by none.
 pub fn answer_content<L: Language>(
     alloc: Global,
     language: &L,

@@ -1,9 +1,9 @@
 //! Conversations with a client.
 
 ghost use Rattle.std.specs.Prelude.{◌≡◌, ◌≢◌, ◌≤◌, ◌<◌, ◌⊎◌, ◌∷◌, [], IfErr, IfOk, IfSome, MatchBool, OnOk, false, true};
-ghost use Rattle.pb_conversations.specs.Conversations.{CountsBoth, CountsWrites, fault_words};
+ghost use Rattle.pb_conversations.specs.Conversations.{CountsBoth, CountsWrites, SaysBefore, fault_words};
 ghost use Rattle.pb_server.specs.Responses.{told_by};
-ghost use Rattle.pb_server.specs.Conversations.{TalksOut, TalksSome, WritesBroken, broken_data};
+ghost use Rattle.pb_server.specs.Conversations.{AnswersRead, TalksOut, TalksSome, WritesBroken, broken_data};
 
 use crate::answer::answer_content;
 use crate::language::Language;
@@ -42,7 +42,8 @@ fn broken(alloc: Global, fault: FrameFault) -> Result<Option<Value>, AllocError>
 fn break_off<O: Output>(alloc: Global, output: &mut O, fault: FrameFault) -> Stop
     ensures written { WritesBroken result fault (O.written output.old) (O.written output.new) }
     ensures counted { fault ≢ FrameFault.Device → CountsWrites result (O.failures output.old) (O.failures output.new) }
-    ensures device { fault ≡ FrameFault.Device → (result ≡ Stop.Device) × (O.failures output.new ≡ O.failures output.old) }
+    ensures device { fault ≡ FrameFault.Device → (result ≡ Stop.Device) × (O.failures output.new ≡ O.failures output.old)
+        × (O.written output.new ≡ O.written output.old) }
 {
     match fault {
         FrameFault::Memory => return Stop::Memory,
@@ -71,7 +72,8 @@ fn goes_on(session: &Session, heard: u64) -> bool
 
 /// Answers the messages of an input, each before the next is read, up to the end of the input or until the client
 /// goes. If what comes next is not a message, a last message says so, and the conversation breaks off. If out of
-/// memory, nothing of a message is written that was not made whole.
+/// memory, nothing of a message is written that was not made whole. If a read fails, exactly the messages that were
+/// read before are answered.
 pub fn converse<L: Language, I: Input, O: Output>(
     alloc: Global,
     language: &L,
@@ -83,6 +85,9 @@ pub fn converse<L: Language, I: Input, O: Output>(
         TalksOut L.Diagnoses L.Finds session.old bytes (O.written output.old) (O.written output.new) session.new)) }
     ensures some { IfErr result (λ e. IfSome (I.rest input.old) (λ bytes.
         TalksSome L.Diagnoses L.Finds session.old bytes (O.written output.old) (O.written output.new) e)) }
+    ensures answered { IfErr result (λ _. I.failures input.new ≢ I.failures input.old → IfSome (I.rest input.old) (λ bytes.
+        SaysBefore (AnswersRead L.Diagnoses L.Finds session.old) bytes (I.rest input.new)
+        (O.written output.old) (O.written output.new))) }
     ensures counted_reads { OnOk result (I.failures input.new ≡ I.failures input.old) }
     ensures counted_writes { OnOk result (O.failures output.new ≡ O.failures output.old) }
     ensures fault { IfErr result (λ e. CountsBoth e (I.failures input.old) (I.failures input.new)

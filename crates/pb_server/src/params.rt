@@ -46,13 +46,13 @@ pub fn opened_text<'v>(params: Option<&'v Value>) -> Option<&'v str>
     }
 }
 
-/// Returns the text of a change, if it is of the whole text.
+/// Returns the text of a change, if it is of the whole text: if it has no range, or one that is null.
 fn whole_text<'v>(change: &'v Value) -> Option<&'v str>
     ensures { option_map (λ t. t.now) result ≡ spec.whole_text (view change.now) }
 {
     match change.get("range") {
+        Some(Value::Null) | None => change.get("text").and_then(Value::as_str),
         Some(_) => None,
-        None => change.get("text").and_then(Value::as_str),
     }
 }
 

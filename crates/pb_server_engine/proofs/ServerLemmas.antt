@@ -1,15 +1,15 @@
 -- From what a conversation says to what is said of an input.
-use Rattle.std.proofs.Common.{◌≡◌, ℕ, List, Option, refl, subst, inl}
+use Rattle.std.proofs.Common.{◌≡◌, ℕ, List, Option, IfSome, refl, subst, inl}
 use Rattle.serde_json.specs.Data.{Data}
 use Rattle.pb_base.specs.Device.{appended}
 use Rattle.pb_command_io.specs.Answers.{Tells}
 use Rattle.pb_command_io.specs.declared.status.Status.{Status}
 use Rattle.pb_conversations.specs.declared.conversation.Stop.{Stop}
 use Rattle.pb_conversations.specs.declared.conversation.Stop.TheVariants as stop
-use Rattle.pb_conversations.specs.Conversations.{texts}
+use Rattle.pb_conversations.specs.Conversations.{SaysBefore, texts}
 use Rattle.pb_server.specs.Answers.{Serving}
-use Rattle.pb_server.specs.Conversations.{TalksOut, TalksSome, WritesBefore, fresh}
-use Rattle.pb_server_engine.specs.Servers.{Diagnoses, Finds, SaysOfServer, WritesText, broke_off, end_status, served, stop_status}
+use Rattle.pb_server.specs.Conversations.{AnswersRead, TalksOut, TalksSome, WritesBefore, fresh}
+use Rattle.pb_server_engine.specs.Servers.{AnswersMessages, Diagnoses, Finds, SaysOfServer, WritesText, broke_off, end_status, served, stop_status}
 
 -- what is written, if a conversation breaks off
 text_of_stop : (why : Stop) (rest : List ℕ) (messages : List Data) (old new : Option (List ℕ))
@@ -32,3 +32,10 @@ some_served s bytes old new why given is ends t =
     let t = subst (λ (s : Serving). TalksSome Diagnoses Finds s bytes old new why) is t in
     let (text, writes, wrote) = text_of_stop why t.rest t.messages old new t.written in
     (text, stop_status why, broke_off t.rest t.messages t.after t.talks why text writes, inl (wrote, ends))
+
+-- a read failed
+pub read_served : (s : Serving) (o left old new : Option (List ℕ)) → s ≡ fresh
+    → IfSome o (λ bytes. SaysBefore (AnswersRead Diagnoses Finds s) bytes left old new)
+    → IfSome o (λ bytes. SaysBefore AnswersMessages bytes left old new)
+read_served s o left old new is says =
+    subst (λ (s : Serving). IfSome o (λ bytes. SaysBefore (AnswersRead Diagnoses Finds s) bytes left old new)) is says

@@ -13,7 +13,7 @@ use Rattle.pb_diagnostics.specs.Diagnostics as diagnostics
 use Rattle.pb_frames.specs.Frames.{IsFrameFault}
 use Rattle.pb_frames.specs.declared.fault.FrameFault.{FrameFault}
 use Rattle.pb_server.specs.Answers.{Diagnosing, Finding, Serving}
-use Rattle.pb_server.specs.Conversations.{IsEnd, Talks, broken_data, fresh}
+use Rattle.pb_server.specs.Conversations.{AnswersRead, IsEnd, Talks, broken_data, fresh}
 use Rattle.pb_server.specs.Founds.{FoundData, refused, result}
 use Rattle.pb_server.specs.declared.query.Query.TheVariants as queries
 use Rattle.pb_server.specs.declared.session.Phase.{Phase}
@@ -90,6 +90,12 @@ pub data SaysOfServer (bytes : List ℕ) : List ℕ → Status → Type 0 where
       → IsEnd rest after (length t.contents) → SaysOfServer bytes (texts messages) (end_status after.phase)
   broke_off : (rest : List ℕ) (messages : List Data) (after : Serving) → Talking bytes rest messages after
       → (why : Stop) (text : List ℕ) → WritesText why rest messages text → SaysOfServer bytes text (stop_status why)
+
+-- ---- a read that fails
+
+-- the text is what is said to all messages that are whole in what was read
+abbrev pub AnswersMessages : (read text : List ℕ) → Type 0
+AnswersMessages read text = AnswersRead Diagnoses Finds fresh read text
 
 -- ---- faults
 

@@ -1,8 +1,9 @@
 //! The command `lsp`, over any input and output.
 
-ghost use Rattle.std.specs.Prelude.{◌≡◌, IfSome};
+ghost use Rattle.std.specs.Prelude.{◌≡◌, ◌≢◌, IfSome};
 ghost use Rattle.pb_command_io.specs.Answers.{Tells};
-ghost use Rattle.pb_server_engine.specs.Servers.{SaysOfServer, TellsAnyFault, end_status, stop_status};
+ghost use Rattle.pb_conversations.specs.Conversations.{SaysBefore};
+ghost use Rattle.pb_server_engine.specs.Servers.{AnswersMessages, SaysOfServer, TellsAnyFault, end_status, stop_status};
 
 use crate::parbegin::Parbegin;
 use pb_base::{Input, Output};
@@ -37,10 +38,12 @@ fn status_of(stop: Stop) -> Status
 /// The status is `Done` then if the client had asked that the server make an end, and else `Refused`. If what comes
 /// next in the input is no message, a last message says so, and the status is `Refused`. If out of memory, nothing of
 /// a message is written that was not made whole, and the status is `Memory`. If a read or a write fails, the status
-/// is `Device`.
+/// is `Device`; if it is a read, exactly the messages that were read before are answered.
 pub fn server_engine<I: Input, O: Output>(alloc: Global, input: &mut I, output: &mut O) -> Status
     ensures text { IfSome (I.rest input.old) (λ bytes.
         Tells (SaysOfServer bytes) (O.written output.old) (O.written output.new) result) }
+    ensures answered { I.failures input.new ≢ I.failures input.old → IfSome (I.rest input.old) (λ bytes.
+        SaysBefore AnswersMessages bytes (I.rest input.new) (O.written output.old) (O.written output.new)) }
     ensures faults { TellsAnyFault
         (record { reads = I.failures input.old; writes = O.failures output.old; written = O.written output.old })
         (record { reads = I.failures input.new; writes = O.failures output.new; written = O.written output.new })

@@ -67,8 +67,18 @@ fn is_integer_of(process: Option<usize>, one: &Place<'_>) -> bool
     }
 }
 
+/// Returns an integer: its declaration is its name.
+fn integer_value(alloc: Global, text: &[u8], one: &Place<'_>) -> Result<Value, NoMemory>
+    ensures { IfOk result (λ v. view v ≡ spec.integer_data text.now (place one.now)) }
+{
+    let extent = Extent {
+        start: one.at,
+        end: one.at.saturating_add(one.text.len()),
+    };
+    symbol_value(alloc, text, one, extent, Vec::new(alloc))
+}
+
 /// Appends an integer, if it is declared in a process.
-#[tactic(auto, using(crate::proofs::Ends::end_at))]
 fn add_integer(
     alloc: Global,
     out: &mut Vec<Value>,
@@ -80,11 +90,7 @@ fn add_integer(
         ++ map (spec.integer_data text.now) (filter (spec.is_integer_of process) (place one.now ∷ []))) }
 {
     if is_integer_of(process, one) {
-        let extent = Extent {
-            start: one.at,
-            end: one.at.saturating_add(one.text.len()),
-        };
-        let value = symbol_value(alloc, text, one, extent, Vec::new(alloc))?;
+        let value = integer_value(alloc, text, one)?;
         out.push(value)?;
     }
     Ok(())

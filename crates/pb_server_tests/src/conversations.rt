@@ -1,6 +1,6 @@
 //! Conversations with the server, as bytes.
 
-use pb_base::{MemoryInput, NoMemory};
+use pb_base::{FaultyInput, MemoryInput, NoMemory};
 use pb_command_io::Status;
 use pb_conversations::Said;
 use pb_frames::write_frame;
@@ -78,7 +78,6 @@ const CASES: [Case; 4] = [
             "{\"error\":{\"code\":-32700,\"message\":\"this is not JSON\"},\"id\":null,\"jsonrpc\":\"2.0\"}",
             "{\"error\":{\"code\":-32600,\"message\":\"this is not a request\"},\"id\":null,\"jsonrpc\":\"2.0\"}",
             "{\"error\":{\"code\":-32600,\"message\":\"this is not a request\"},\"id\":null,\"jsonrpc\":\"2.0\"}",
-            "{\"error\":{\"code\":-32600,\"message\":\"this is not a request\"},\"id\":null,\"jsonrpc\":\"2.0\"}",
             "{\"jsonrpc\":\"2.0\",\"method\":\"textDocument/publishDiagnostics\",\"params\":{\"diagnostics\":[],\"uri\":\"file:///a.pb\",\"version\":7}}",
             "{\"jsonrpc\":\"2.0\",\"method\":\"textDocument/publishDiagnostics\",\"params\":{\"diagnostics\":[{\"code\":\"N3\",\"message\":\"integer y is not declared in process a\\nhint: add it to the integers that the process declares\",\"range\":{\"end\":{\"character\":8,\"line\":3},\"start\":{\"character\":7,\"line\":3}},\"relatedInformation\":[],\"severity\":1,\"source\":\"parbegin\"}],\"uri\":\"file:///a.pb\",\"version\":9}}",
         ],
@@ -112,7 +111,7 @@ const CASES: [Case; 4] = [
         ],
         status: Status::Refused,
     },
-    // Two documents; the input ends.
+    // Two documents, a response of the client, and a range that is null; the input ends.
     Case {
         asked: &[
             "{\"jsonrpc\":\"2.0\",\"id\":1,\"method\":\"initialize\",\"params\":{}}",
@@ -120,6 +119,8 @@ const CASES: [Case; 4] = [
             "{\"jsonrpc\":\"2.0\",\"method\":\"textDocument/didOpen\",\"params\":{\"textDocument\":{\"uri\":\"file:///b.pb\",\"languageId\":\"parbegin\",\"version\":1,\"text\":\"process a\\nbegin\\n  integer x;\\n  x := x\\nend\\n\"}}}",
             "{\"jsonrpc\":\"2.0\",\"method\":\"textDocument/didClose\",\"params\":{\"textDocument\":{\"uri\":\"file:///a.pb\"}}}",
             "{\"jsonrpc\":\"2.0\",\"method\":\"textDocument/didChange\",\"params\":{\"textDocument\":{\"uri\":\"file:///b.pb\",\"version\":2},\"contentChanges\":[{\"text\":\"\"}]}}",
+            "{\"jsonrpc\":\"2.0\",\"id\":9,\"error\":{\"code\":-32601,\"message\":\"unknown\"}}",
+            "{\"jsonrpc\":\"2.0\",\"method\":\"textDocument/didChange\",\"params\":{\"textDocument\":{\"uri\":\"file:///b.pb\",\"version\":3},\"contentChanges\":[{\"range\":null,\"text\":\"process a begin skip end\"}]}}",
         ],
         said: &[
             "{\"id\":1,\"jsonrpc\":\"2.0\",\"result\":{\"capabilities\":{\"codeActionProvider\":true,\"completionProvider\":{},\"definitionProvider\":true,\"documentSymbolProvider\":true,\"hoverProvider\":true,\"inlayHintProvider\":true,\"positionEncoding\":\"utf-16\",\"referencesProvider\":true,\"renameProvider\":true,\"textDocumentSync\":{\"change\":1,\"openClose\":true}},\"serverInfo\":{\"name\":\"parbegin\"}}}",
@@ -127,6 +128,7 @@ const CASES: [Case; 4] = [
             "{\"jsonrpc\":\"2.0\",\"method\":\"textDocument/publishDiagnostics\",\"params\":{\"diagnostics\":[],\"uri\":\"file:///b.pb\",\"version\":1}}",
             "{\"jsonrpc\":\"2.0\",\"method\":\"textDocument/publishDiagnostics\",\"params\":{\"diagnostics\":[],\"uri\":\"file:///a.pb\"}}",
             "{\"jsonrpc\":\"2.0\",\"method\":\"textDocument/publishDiagnostics\",\"params\":{\"diagnostics\":[{\"code\":\"P1\",\"message\":\"the text has no process\\nhint: a program has at least one: process p begin print 1 end\",\"range\":{\"end\":{\"character\":0,\"line\":0},\"start\":{\"character\":0,\"line\":0}},\"relatedInformation\":[],\"severity\":1,\"source\":\"parbegin\"}],\"uri\":\"file:///b.pb\",\"version\":2}}",
+            "{\"jsonrpc\":\"2.0\",\"method\":\"textDocument/publishDiagnostics\",\"params\":{\"diagnostics\":[],\"uri\":\"file:///b.pb\",\"version\":3}}",
         ],
         status: Status::Refused,
     },
@@ -157,6 +159,46 @@ fn conversations_are_answered(rt: HostRuntime) -> Result<(), NoMemory> {
     Ok(())
 }
 
+/// Two requests before `initialize`, and what is said to each.
+const FIRST: &str = "{\"jsonrpc\":\"2.0\",\"id\":1,\"method\":\"shutdown\"}";
+
+const ASKED: &[&str] = &[
+    FIRST,
+    "{\"jsonrpc\":\"2.0\",\"id\":2,\"method\":\"shutdown\"}",
+];
+
+const SAID_FIRST: &[&str] = &[
+    "{\"error\":{\"code\":-32002,\"message\":\"the server is not initialized\"},\"id\":1,\"jsonrpc\":\"2.0\"}",
+];
+
+const SAID_BOTH: &[&str] = &[
+    "{\"error\":{\"code\":-32002,\"message\":\"the server is not initialized\"},\"id\":1,\"jsonrpc\":\"2.0\"}",
+    "{\"error\":{\"code\":-32002,\"message\":\"the server is not initialized\"},\"id\":2,\"jsonrpc\":\"2.0\"}",
+];
+
+#[test]
+fn what_was_read_before_a_fault_is_answered(rt: HostRuntime) -> Result<(), NoMemory> {
+    let asked = framed(rt.alloc(), ASKED)?;
+    let first = framed(rt.alloc(), &[FIRST])?.as_slice().len() as u64;
+    let none: &[&str] = &[];
+    for (passing, answered) in [
+        (0, none),
+        (3, none),
+        (first.saturating_sub(1), none),
+        (first, SAID_FIRST),
+        (first.saturating_add(30), SAID_FIRST),
+        (first.saturating_mul(2), SAID_BOTH),
+    ] {
+        let wanted = framed(rt.alloc(), answered)?;
+        let mut said = Said::new(rt.alloc());
+        let mut input = FaultyInput::new(asked.as_slice(), passing, 1);
+        let status = server_engine(rt.alloc(), &mut input, &mut said);
+        assert!(rt; status == Status::Device);
+        assert!(rt; said.as_slice() == wanted.as_slice());
+    }
+    Ok(())
+}
+
 #[test]
 fn what_is_no_message_ends_the_conversation(rt: HostRuntime) -> Result<(), NoMemory> {
     for (bytes, why) in [
@@ -165,6 +207,10 @@ fn what_is_no_message_ends_the_conversation(rt: HostRuntime) -> Result<(), NoMem
             "the input ends within a message",
         ),
         ("Content-Length: 4194305\r\n\r\n", "the message is too long"),
+        (
+            "content-length:123456789\r\n\r\n",
+            "the message is too long",
+        ),
         (
             "Content-Size: 2\r\n\r\n{}",
             "this is not the header of a message",

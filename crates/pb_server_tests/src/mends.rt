@@ -5,7 +5,7 @@ use pb_diagnostics::actions;
 use std::alloc::Global;
 
 /// Texts, and the actions that mend them.
-const CASES: [(&str, &str); 12] = [
+const CASES: [(&str, &str); 13] = [
     (
         "process a begin prnt 1 end\n",
         "[{\"edit\":{\"changes\":{\"file:///a.pb\":[{\"newText\":\"print\",\"range\":{\"end\":{\"character\":20,\"line\":0},\"start\":{\"character\":16,\"line\":0}}}]}},\"kind\":\"quickfix\",\"title\":\"write `print`\"}]",
@@ -46,6 +46,11 @@ const CASES: [(&str, &str); 12] = [
     (
         "resource a = 1;\nprocess p begin hold 2 of a do skip od end\nprocess q begin hold 3 of a do skip od end\n",
         "[{\"edit\":{\"changes\":{\"file:///a.pb\":[{\"newText\":\"2\",\"range\":{\"end\":{\"character\":14,\"line\":0},\"start\":{\"character\":13,\"line\":0}}}]}},\"kind\":\"quickfix\",\"title\":\"make the capital of a 2\"}]",
+    ),
+    // A carriage return alone ends a line.
+    (
+        "process a\rbegin x := 1 end\r",
+        "[{\"edit\":{\"changes\":{\"file:///a.pb\":[{\"newText\":\" integer x;\",\"range\":{\"end\":{\"character\":5,\"line\":1},\"start\":{\"character\":5,\"line\":1}}}]}},\"kind\":\"quickfix\",\"title\":\"declare integer x\"}]",
     ),
     ("process a begin skip end\n", "[]"),
     ("process a ? begin skip end\n", "[]"),

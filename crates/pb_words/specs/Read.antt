@@ -88,6 +88,7 @@ HasSearchOptions rows o = HasNumber rows (codes "states") o.states × HasLend ro
     × HasFlag rows (codes "first-deadlock") o.first_deadlock × HasFlag rows (codes "prints") o.prints
     × HasFlag rows (codes "fair") o.fair
     × HasFlag rows (codes "expect") o.expect × HasFlag rows (codes "any-order") o.any_order
+    × HasFlag rows (codes "endless") o.endless
     × HasFlag rows (codes "graph") o.graph
     × HasOptionalNumberIn rows (codes "run") 1 MAX_STATES o.run × HasOptionalNumberIn rows (codes "deadlock") 1 MAX_STATES o.deadlock
 

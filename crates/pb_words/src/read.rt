@@ -170,6 +170,7 @@ fn outcomes_options(matches: &ArgMatches<'_>) -> Option<OutcomesOptions>
         fair: flag(matches, "fair"),
         expect: flag(matches, "expect"),
         any_order: flag(matches, "any-order"),
+        endless: flag(matches, "endless"),
         graph: flag(matches, "graph"),
         run,
         deadlock,

@@ -48,8 +48,8 @@ class Plan(NamedTuple):
     """What `plan` says of texts whose processes run beside one another.
 
     `bottleneck` is the resource of which most is lacking, or None if no request ever waits. `order` is an order of the
-    resources that every process follows, so that even the cash alone cannot deadlock; or None if there is none, and then
-    `circle` has nested holds that make a circle.
+    resources that every process follows, or of those alone of which there is less than `free`, so that even the cash alone
+    cannot deadlock; or None if there is none, and then `circle` has nested holds of such resources that make a circle.
     """
 
     claims: list[Claim]

@@ -101,8 +101,7 @@ order tape
         output: b"p claim 6 tape lines 5 7 8
 tape capital 6 least 6 free 6
 no request waits
-no order
-p holds tape line 5 around tape line 7
+order
 ",
     },
     Call {

@@ -5,13 +5,13 @@ use Rattle.pb_c_call.specs.Replies.{KeptBytes, Replies}
 use Rattle.pb_c_call.proofs.GivenReplies.{Writes, given, replied}
 use Rattle.pb_c_call.proofs.exports.pb_call.Goals as goal
 
-pub returns : goal.returns
-returns c =
+pub returns-clause-given : goal.returns-clause-given
+returns-clause-given c =
     let writes = subst (λ (read : List (Bor Text)). Writes read c.new-source.result c.new-reply.result.bytes c.answer_alone-status.new.output.bytes
     c.answer_alone-status.result) c.as_slice.ensures.value c.answer_alone-status.ensures in
     inl (given (Replies (map (λ word. word.text.now) c.args.words.now) c.args.input.now) c.put_front.new.to c.args.output.now
-    c.answer_alone-status.new.output.bytes c.as_slice-bytes.result.now c.answer_alone-status.result c.number-2.result
+    c.answer_alone-status.new.output.bytes c.as_slice-bytes.result.now c.answer_alone-status.result c.number_of.result
     (replied (map (λ word. word.text.now) c.args.words.now) c.args.input.now c.in-Ok.texts.items c.new-source.result c.new-reply.result.bytes
     c.answer_alone-status.new.output.bytes c.answer_alone-status.result c.in-Ok.ensures.read c.new-source.ensures
     (ap (λ (k : KeptBytes). k.bytes) c.new-reply.ensures) writes)
-    c.number-2.ensures c.as_slice-bytes.ensures c.put_front.ensures.length c.put_front.ensures.front)
+    c.number_of.ensures.number c.as_slice-bytes.ensures c.put_front.ensures.length c.put_front.ensures.front)

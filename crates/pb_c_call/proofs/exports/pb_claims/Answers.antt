@@ -4,11 +4,11 @@ use Rattle.pb_c_call.specs.Replies.{KeptBytes, Tellings}
 use Rattle.pb_c_call.proofs.GivenReplies.{given, told}
 use Rattle.pb_c_call.proofs.exports.pb_claims.Goals as goal
 
-pub returns : goal.returns
-returns c =
+pub returns-clause-given : goal.returns-clause-given
+returns-clause-given c =
     given (Tellings SaysOfClaims c.args.text.now) c.put_front.new.to c.args.output.now
-    c.claims_engine-status.new.output.bytes c.as_slice-bytes.result.now c.claims_engine-status.result c.number.result
+    c.claims_engine-status.new.output.bytes c.as_slice-bytes.result.now c.claims_engine-status.result c.number_of.result
     (told SaysOfClaims c.args.text.now c.new-source.result c.new-reply.result.bytes
     c.claims_engine-status.new.output.bytes c.claims_engine-status.result c.new-source.ensures
     (ap (λ (k : KeptBytes). k.bytes) c.new-reply.ensures) c.claims_engine-status.ensures.text)
-    c.number.ensures c.as_slice-bytes.ensures c.put_front.ensures.length c.put_front.ensures.front
+    c.number_of.ensures.number c.as_slice-bytes.ensures c.put_front.ensures.length c.put_front.ensures.front

@@ -6,9 +6,10 @@ unfolding outcomes_command
 returns c =
     c.with_given_number.ensures _
     (c.with_given_number-outcomes.ensures _
+    (c.with_flag-outcomes-7.ensures _
     (c.with_flag-outcomes-6.ensures _
     (c.with_flag-outcomes-5.ensures _
     (c.with_flag-outcomes-4.ensures _
     (c.with_flag-outcomes-3.ensures _
     (c.with_flag-outcomes-2.ensures _
-    (c.with_flag-outcomes.ensures _ (c.with_lend-outcomes.ensures _ (c.with_number-outcomes.ensures _ c.plain-outcomes.ensures)))))))))
+    (c.with_flag-outcomes.ensures _ (c.with_lend-outcomes.ensures _ (c.with_number-outcomes.ensures _ c.plain-outcomes.ensures))))))))))

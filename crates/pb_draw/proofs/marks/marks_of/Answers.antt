@@ -1,14 +1,9 @@
-use Rattle.std.proofs.Common.{◌≡◌, ◌+◌, ◌∙◌, ap, cond, None, Option, ℕ}
-use Rattle.std.specs.Prelude.{option_and_then, slice_get}
+use Rattle.std.proofs.Common.{◌≡◌, ◌∙◌}
 use Rattle.pb_history.specs.Entries.{picks_of}
-use Rattle.pb_history.specs.Positions.{IsAfterBy}
 use Rattle.pb_code.specs.View.{labels_view}
-use Rattle.pb_draw.specs.Assignments.{stored_in}
-use Rattle.pb_debug_positions.specs.Searches.{value_in}
-use Rattle.pb_machine.specs.Views.{machine_view}
-use Rattle.pb_draw.specs.Marks.{assigned, happening_at, happening_of}
+use Rattle.pb_draw.specs.Marks.{happening_at}
+use Rattle.pb_draw.proofs.AccessSteps.{access_here}
 use Rattle.pb_draw.proofs.PickMarks.{happening_here, line_here, marks_more}
-use Rattle.pb_draw.proofs.Stores.{stored_here}
 use Rattle.pb_draw.proofs.marks.marks_of.Goals as goal
 
 pub loop-at-init : goal.loop-at-init
@@ -27,12 +22,11 @@ loop-at-preserved c =
     let stands = c.advance-event.ensures.stands c.args.lending c.requires c.loop-at.invariant.stands in
     let what : c.happening-what.result ≡ happening_at c.args.integers v.code picks i =
     c.happening-what.ensures
-    ∙ (ap (λ (o : Option ℕ). happening_of c.advance-event.result
-    (option_and_then (λ x. assigned x (value_in (slice_get (machine_view c.advance-event.new.machine).processes pick.process) x)) o))
-    c.assigned_by-integer.ensures
-    ∙ happening_here c.args.lending v picks c.args.integers i pick c.advance-event.result _ c.advance-event.new.machine stands
-    c.pick-pick.ensures c.advance-event.ensures.event
-    (stored_here c.args.lending v picks i pick c.loop-at.machine c.loop-at.invariant.stands c.pick-pick.ensures)) in
+    ∙ happening_here c.args.lending v picks c.args.integers i pick c.advance-event.result c.access_of-access.result c.loop-at.machine
+    c.advance-event.new.machine c.read_by-read.result c.assigned_by-assigned.result c.loop-at.invariant.stands stands c.pick-pick.ensures
+    c.advance-event.ensures.event
+    (c.access_of-access.ensures ∙ access_here c.args.lending v picks i pick c.loop-at.machine c.loop-at.invariant.stands c.pick-pick.ensures)
+    c.read_by-read.ensures c.assigned_by-assigned.ensures in
     record {
       stands = stands;
       marks = marks_more c.args.integers v.code labels picks i pick c.happening-what.result c.line_of-line.result _ _

@@ -1,6 +1,7 @@
-use Rattle.std.proofs.Common.{arith, Bool, length, sym, ap, ◌∙◌, subst}
+use Rattle.std.proofs.Common.{arith, Bool, List, length, sym, ap, ◌∙◌, subst}
 use Rattle.std.specs.Prelude.{All}
 use Rattle.pb_base.specs.Lines.{NameTable}
+use Rattle.pb_circles.specs.declared.link.Link.{Link}
 use Rattle.pb_code.specs.View.{labels_view}
 use Rattle.pb_draw.specs.Marks.{IsNamed}
 use Rattle.pb_code.specs.Whole.{Code}
@@ -31,19 +32,26 @@ returns c =
     let drawing = c.in_ok-drawing.drawing in
     let picture = c.in_ok-picture.picture in
     let code = c.args.verified.now.code in
-    let laid_out : IsLayout code.names (labels_view c.args.labels.now) code.capital drawing (is_stuck c.ending_of-ending.result) picture =
-    subst (λ (b : Bool). IsLayout code.names (labels_view c.args.labels.now) code.capital drawing b picture) c.is_stuck.ensures
-    (subst (λ (x : Code). IsLayout x.names (labels_view c.args.labels.now) x.capital drawing c.is_stuck.result picture) c.code-code.ensures.code c.in_ok-picture.ensures) in
+    let circle = c.in_ok-circle.circle.items in
+    let laid_out : IsLayout code.names (labels_view c.args.labels.now) code.capital drawing (is_stuck c.ending_of-ending.result) circle picture =
+    subst (λ (b : Bool). IsLayout code.names (labels_view c.args.labels.now) code.capital drawing b circle picture) c.is_stuck.ensures
+    (subst (λ (links : List Link). IsLayout code.names (labels_view c.args.labels.now) code.capital drawing c.is_stuck.result links picture)
+    c.as_slice.ensures.value
+    (subst (λ (x : Code). IsLayout x.names (labels_view c.args.labels.now) x.capital drawing c.is_stuck.result c.as_slice.result.now picture)
+    c.code-code.ensures.code c.in_ok-picture.ensures)) in
     let few = c.in_ok-drawing.ensures.rows in
     record {
       ending = c.ending_of-ending.result;
       ends = c.ending_of-ending.ensures c.args.lending c.requires.machine;
       picture = record {
+        circle = circle;
+        waits = c.in_ok-circle.ensures;
         drawing = drawing;
         picture = picture;
         drawn = c.in_ok-drawing.ensures.drawing;
         laid_out = laid_out;
         stacked = laid_out.rows c.in_ok-drawing.ensures.different (omega (arith, few));
+        nested = c.in_ok-drawing.ensures.nested;
         rising = laid_out.rising c.in_ok-drawing.ensures.ordered;
         written = c.in_ok-text.ensures;
       };

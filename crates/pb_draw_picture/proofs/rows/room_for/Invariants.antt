@@ -1,13 +1,10 @@
-use Rattle.std.proofs.Common.{◌≡◌, ◌<◌, ◌≤◌, ◌^◌, ℕ, true, Some}
-use Rattle.std.specs.Prelude.{slice_get, slice_index_or}
-use Rattle.pb_draw.specs.declared.drawing.Bar.{Bar}
-use Rattle.pb_draw_picture.specs.Places.{is_arm}
+use Rattle.std.proofs.Common.{◌≡◌, ◌≤◌, ◌^◌, drop, max}
+use Rattle.pb_draw_picture.specs.Rows as spec
 use Rattle.pb_draw_picture.proofs.rows.room_for.Given as goal
 
--- there is room for the holds so far
-abbrev pub invariant-loop-k : goal.invariant-loop-k
-invariant-loop-k l = record {
-  room : (k : ℕ) (bar : Bar) → k < l.k → slice_get l.bars k ≡ Some bar → is_arm l.pick bar.pick ≡ true
-      → slice_index_or l.depths k 0 < l.room;
+-- with the holds to come it is the room for all
+abbrev pub invariant-loop-bar : goal.invariant-loop-bar
+invariant-loop-bar l = record {
+  room : spec.room_for l.pick l.bars ≡ max l.room (spec.room_for l.pick (drop l.bar-index l.bars));
   few : l.room ≤ 2 ^ 32;
 }

@@ -1,4 +1,4 @@
-use Rattle.std.proofs.Common.{◌+◌, ◌++◌, List, get_or, take, drop, sym, ap, ◌∙◌, length, replicate, arith, length-append}
+use Rattle.std.proofs.Common.{◌+◌, ◌++◌, refl, List, get_or, take, drop, sym, ap, ◌∙◌, length, replicate, arith, length-append}
 use Rattle.std.proofs.lemmas.List.{drop_more, length-replicate}
 use Rattle.pb_base.specs.declared.pick.Pick.{Pick}
 use Rattle.pb_history.specs.declared.counted.CountedPick.{CountedPick}
@@ -28,8 +28,11 @@ returns-then-before-counted c = λ code spells.
       parts = sym (take_drop i picks) ∙ ap (λ (cs : List CountedPick). take i picks ++ cs) next;
       reads = (c.loop-i.invariant.parted code spells.reads).0;
       there = omega (arith, within);
-      least = omega (arith, counted);
-      most = omega (arith, counted, less);
+      numbered = refl;
+      pick = refl;
+      count = refl;
+      made = omega (arith, counted);
+      fewer = omega (arith, less);
     }
 
 pub loop-i-preserved : goal.loop-i-preserved

@@ -3,5 +3,5 @@ use Rattle.pb_messages.proofs.message.replayed_message.Goals as goal
 
 pub returns : goal.returns
 returns c =
-    text_replayed (λ told. told.items) c.args.lending c.args.bytes.now _ _ c.picked_text_message.result c.two_parts.ensures
-    c.picked_text_message.ensures
+    text_replayed (λ told. told.items) c.args.lending c.line_of-before.result c.args.bytes.now _ _ c.picked_text_message.result c.two_parts.ensures
+    c.line_of-before.ensures c.picked_text_message.ensures

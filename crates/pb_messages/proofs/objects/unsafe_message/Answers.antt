@@ -6,4 +6,4 @@ use Rattle.pb_messages.proofs.objects.unsafe_message.Goals as goal
 pub returns : goal.returns
 returns c =
     object_told (λ told. told.items) c.args.bytes.now (Unsafe c.args.fault) c.in-Some.cause c.worded.result
-    c.requires (sym c.in-Some.ensures) c.worded.ensures
+    c.requires (sym c.in-Some.ensures) c.worded.ensures.told

@@ -25,5 +25,5 @@ returns-in-Ok-replay_counted_by c =
     let spelled = subst (λ (code : Code). SpellsPicks code c.args.lines.text.now c.in-Ok.picks.items) c.code.ensures.code c.in-Ok.ensures.read in
     let read = subst (λ (picks : List CountedPick). SpellsPicks c.args.verified.now.code c.args.lines.text.now picks)
     (sym c.deref.ensures.value) spelled in
-    subst (λ (told : List ℕ). SaysOfPickLines c.args.lending c.args.verified.now.code c.args.lines.text.now told) (sym c.new.ensures.items)
+    subst (λ (told : List ℕ). SaysOfPickLines c.args.lending c.args.verified.now.code c.args.lines.before c.args.lines.text.now told) (sym c.new.ensures.items)
     (made c.deref.result.now replayed.1.entries (machine_view replayed.0) read c.in-Ok-replay_counted_by.ensures.replay)

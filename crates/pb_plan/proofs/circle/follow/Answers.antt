@@ -2,7 +2,7 @@ use Rattle.std.proofs.Common.{◌≡◌, ◌⊎◌, ◌+◌, ◌∷◌, ℕ, Lis
 use Rattle.std.specs.Prelude.{slice_get, remove}
 use Rattle.std.proofs.lemmas.Option.{slice_get_within}
 use Rattle.pb_names.specs.View.{process_view}
-use Rattle.pb_plan.specs.Circles.{IsCircle, IsEdge, IsOnPath, IsPath}
+use Rattle.pb_plan.specs.Circles.{IsCircleAmong, IsEdgeAmong, IsOnPath, IsPath}
 use Rattle.pb_plan.specs.Nests.{IsAmong}
 use Rattle.pb_plan.specs.declared.edge.Edge.{Edge}
 use Rattle.pb_plan.proofs.CircleLemmas.{circle_at, cover_more, path_more}
@@ -16,8 +16,8 @@ returns-in-Some g c =
     let found = c.in-Some.ensures.some in
     let items : c.in_ok-from_slice.field-0.items ≡ take (k + 1) path =
     c.in_ok-from_slice.ensures.items ∙ ap (take (k + 1)) c.deref-in-Some.ensures.value in
-    subst (IsCircle processes) (sym items)
-    (circle_at processes path c.loop-k.at k found.0 c.loop-k.invariant.path
+    subst (IsCircleAmong c.args.among.now processes) (sym items)
+    (circle_at processes c.args.among.now path c.loop-k.at k found.0 c.loop-k.invariant.path
     (subst (λ (xs : List Edge). slice_get xs k ≡ Some found.0) c.deref.ensures.value found.1) found.2)
 
 pub unreachable-requires : goal.unreachable-requires
@@ -49,9 +49,11 @@ loop-k-preserved g c =
     let there = subst (λ (xs : List ℕ). slice_get xs i ≡ Some c.loop-k.at) c.deref-in-loop-k.ensures.value c.in-Some-place_in.ensures.some in
     let pushed : c.insert.new.self.items ≡ edge ∷ path = c.in_ok-insert.ensures.items in
     let removed = c.remove.ensures.items in
+    let among = c.args.among.now in
     record {
-      path = subst (λ (xs : List Edge). IsPath (IsEdge processes) xs edge.nest.outer) (sym pushed)
-          (path_more (IsEdge processes) path c.loop-k.at edge c.loop-k.invariant.path is.is is.inner_is
+      path = subst (λ (xs : List Edge). IsPath (IsEdgeAmong processes among) xs edge.nest.outer) (sym pushed)
+          (path_more (IsEdgeAmong processes among) path c.loop-k.at edge c.loop-k.invariant.path
+          (is.is, (is.member, subst (IsAmong among) (sym is.inner_is) c.loop-k.invariant.there)) is.inner_is
           (λ on. c.in_default.ensures.none (subst (λ (xs : List Edge). IsOnPath xs c.loop-k.at) (sym c.deref.ensures.value) on)));
       there = is.member;
       covers = λ q in'.

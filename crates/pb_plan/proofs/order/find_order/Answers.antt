@@ -1,23 +1,31 @@
-use Rattle.std.proofs.Common.{◌≡◌, ◌∙◌, true, false, arith, eq-eqb, map, sym, vec_len}
-use Rattle.std.proofs.lemmas.Bool.{eqb-true}
+use Rattle.std.proofs.Common.{◌∙◌, Vec, Global, ℕ, List, map, subst}
+use Rattle.std.specs.Prelude.{IfOk, IfSome}
+use Rattle.std.specs.List.Sorted.{IsPermutation}
 use Rattle.pb_names.specs.View.{process_view}
-use Rattle.pb_plan.proofs.OrderLemmas.{all_followed, none_followed}
+use Rattle.pb_plan.proofs.EachHolds.{followed_of_all, followed_of_some}
+use Rattle.pb_plan.proofs.OrderLemmas.{each_found, none_found}
+use Rattle.pb_plan.specs.Orders.{IsFollowed}
+use Rattle.pb_plan.specs.Scarce.{IsFollowedAmong}
 use Rattle.pb_plan.proofs.order.find_order.Goals as goal
 
-pub returns-then-is_empty-clause-followed : goal.returns-then-is_empty-clause-followed
-returns-then-is_empty-clause-followed g c =
-    let n = eqb-true (vec_len c.in_ok-sorted.sorted.left) 0 (sym c.if-is_empty.ensures) in
-    let l = c.in_ok-sorted.sorted.left.ok.0 in
-    all_followed (map process_view c.args.processes.now) c.args.resources c.requires c.in_ok-sorted.sorted.order.items
-    c.in_ok-sorted.sorted.left.items (omega (arith, n, l)) c.in_ok-sorted.ensures.begun
+pub returns-clause-some : goal.returns-clause-some
+returns-clause-some g c =
+    subst (λ (xs : List ℕ). IfOk c.find_order_among.result (λ found. IfSome found (λ order. IsPermutation xs order.items)))
+    (c.deref.ensures.value ∙ c.in_ok-all.ensures) c.find_order_among.ensures.some
+
+pub returns-clause-followed : goal.returns-clause-followed
+returns-clause-followed g c =
+    let processes = map process_view c.args.processes.now in
+    each_found c.find_order_among.result (λ (o : Vec ℕ Global). IsFollowedAmong c.deref.result.now o.items processes)
+    (λ o. IsFollowed o.items processes)
+    (λ o is.
+    followed_of_all c.args.resources o.items processes c.requires
+    (subst (λ (xs : List ℕ). IsFollowedAmong xs o.items processes) (c.deref.ensures.value ∙ c.in_ok-all.ensures) is))
+    c.find_order_among.ensures.followed
 
 pub returns-clause-none : goal.returns-clause-none
 returns-clause-none g c =
     let processes = map process_view c.args.processes.now in
-    let l = c.in_ok-sorted.sorted.left.ok.0 in
-    none_followed processes c.args.resources c.requires c.in_ok-sorted.sorted.left.items
-    (λ none.
-    let w : true ≡ false =
-    sym (eq-eqb (vec_len c.in_ok-sorted.sorted.left) 0 (omega (arith, none, l))) ∙ sym c.if-is_empty.ensures in
-    cc)
-    c.in_ok-sorted.ensures.left
+    none_found c.find_order_among.result ((order : List ℕ) → IsFollowedAmong c.deref.result.now order processes → ⊥)
+    ((order : List ℕ) → IsFollowed order processes → ⊥)
+    (λ none order is. none order (followed_of_some c.deref.result.now order processes is)) c.find_order_among.ensures.none

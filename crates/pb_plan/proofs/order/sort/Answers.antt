@@ -9,7 +9,7 @@ use Rattle.pb_plan.proofs.order.sort.Goals as goal
 pub loop-i-preserved : goal.loop-i-preserved
 loop-i-preserved g c =
     let processes = map process_view c.args.processes.now in
-    let n = c.args.resources in
+    let among = c.args.among.now in
     let left = c.loop-i.left.items in
     let order = c.loop-i.order.items in
     let i = c.in-Some.i in
@@ -18,9 +18,9 @@ loop-i-preserved g c =
     let same : r ≡ free.r = c.remove-r.ensures.value ∙ get_or_from_slice_get left i free.r r free.there in
     let pushed : c.push.new.self.items ≡ order ++ free.r ∷ [] =
     c.in_ok-push.ensures.items ∙ ap (λ (x : ℕ). order ++ x ∷ []) same in
-    subst (λ (xs : List ℕ). IsBegun processes n xs c.remove-r.new.self.items) (sym pushed)
-    (subst (IsBegun processes n (order ++ free.r ∷ [])) (sym c.remove-r.ensures.items)
-    (begun_more processes n c.requires order left i free.r free.there free.free c.loop-i.invariant))
+    subst (λ (xs : List ℕ). IsBegun processes among xs c.remove-r.new.self.items) (sym pushed)
+    (subst (IsBegun processes among (order ++ free.r ∷ [])) (sym c.remove-r.ensures.items)
+    (begun_more processes c.args.resources c.requires among order left i free.r free.there free.free c.loop-i.invariant))
 
 pub returns-clause-left : goal.returns-clause-left
 returns-clause-left g c =

@@ -1,7 +1,10 @@
+use Rattle.std.proofs.Common.{Vec, Global, ◌∙◌, ℕ, List, ap, option_map, subst}
 use Rattle.pb_codegen.proofs.TextOutcomes.{capital_width, claims_width}
 use Rattle.pb_names.specs.View.{resolved_view}
 use Rattle.pb_plan_engine.proofs.OrderLemmas.{ask_below}
 use Rattle.pb_plan_engine.proofs.PlanLemmas.{capitals_are_small}
+use Rattle.pb_plan.specs.Needs.{scarce}
+use Rattle.pb_plan_engine.specs.PlanLines.{IsOrderIfAny}
 use Rattle.pb_plan_engine.proofs.plan.plan.Goals as goal
 
 pub capital-requires-clause-small : goal.capital-requires-clause-small
@@ -28,3 +31,23 @@ pub order_of-requires : goal.order_of-requires
 order_of-requires g c =
     let is = c.requires.numbered in
     ask_below is.tree (resolved_view c.args.program.now) is.numbered
+
+pub scarce-requires : goal.scarce-requires
+scarce-requires g c =
+    let is = c.requires.numbered in
+    capital_width (resolved_view c.args.program.now) c.in_ok-capital.capital c.args.claims.now c.in_ok-capital.ensures
+    (claims_width is.tree (resolved_view c.args.program.now) c.args.claims.now is.numbered is.claimed)
+
+pub plan_text-requires-clause-few : goal.plan_text-requires-clause-few
+plan_text-requires-clause-few g c =
+    c.deref-2.ensures.value ∙ c.in_ok-few.ensures ∙ ap (scarce c.args.claims.now) c.in_ok-capital.ensures
+
+pub plan_text-requires-clause-ordered : goal.plan_text-requires-clause-ordered
+plan_text-requires-clause-ordered g c =
+    subst (λ (xs : List ℕ). IsOrderIfAny (resolved_view c.args.program.now) xs (option_map (λ (o : Vec ℕ Global). o.items) c.in_ok-order.order))
+    (c.deref.ensures.value ∙ c.in_ok-few.ensures ∙ ap (scarce c.args.claims.now) c.in_ok-capital.ensures) c.in_ok-order.ensures
+
+pub status-status-requires-clause-ordered : goal.status-status-requires-clause-ordered
+status-status-requires-clause-ordered g c =
+    subst (λ (xs : List ℕ). IsOrderIfAny (resolved_view c.args.program.now) xs (option_map (λ (o : Vec ℕ Global). o.items) c.in_ok-order.order))
+    (c.deref.ensures.value ∙ c.in_ok-few.ensures ∙ ap (scarce c.args.claims.now) c.in_ok-capital.ensures) c.in_ok-order.ensures

@@ -7,9 +7,9 @@ use Rattle.pb_names.specs.Resolves.{resource_names}
 use Rattle.pb_names.specs.View.{process_view, resolved_view, resource_view}
 use Rattle.pb_names.specs.declared.resolved.Process.{Process as GivenProcess}
 use Rattle.pb_names.specs.declared.resolved.Resource.{Resource}
-use Rattle.pb_plan.specs.Circles.{IsBelow, IsCircle}
+use Rattle.pb_plan.specs.Circles.{IsBelow, IsCircleAmong}
 use Rattle.pb_plan.specs.Nests.{AskBelow}
-use Rattle.pb_plan.specs.Orders.{IsFollowed}
+use Rattle.pb_plan.specs.Scarce.{IsFollowedAmong}
 use Rattle.pb_plan_engine.specs.PlanLines.{circle_lines}
 use Rattle.pb_plan.specs.declared.edge.Edge.{Edge}
 use Rattle.pb_plan_engine.proofs.OrderLemmas.{none_of, some_of}
@@ -32,7 +32,7 @@ unreachable-requires g c =
     let same : map process_view c.deref.result.now ≡ (resolved_view c.args.program.now).processes =
     ap (λ (ps : List (GivenProcess _)). map process_view ps) c.deref.ensures.value in
     let found = none_of c.in_ok-found.found c.in_default.is c.in_ok-found.ensures.none in
-    c.requires.none found.0 (subst (IsFollowed found.0) same found.1)
+    c.requires.none found.0 (subst (IsFollowedAmong c.args.few.now found.0) same found.1)
 
 pub put_circle-requires : goal.put_circle-requires
 put_circle-requires g c =
@@ -56,14 +56,14 @@ returns g c =
     let view = resolved_view c.args.program.now in
     let same : map process_view c.deref.result.now ≡ view.processes =
     ap (λ (ps : List (GivenProcess _)). map process_view ps) c.deref.ensures.value in
-    let is = some_of (λ (v : Vec Edge Global). IsCircle (map process_view c.deref.result.now) v.items) c.in_ok-found.found
+    let is = some_of (λ (v : Vec Edge Global). IsCircleAmong c.args.few.now (map process_view c.deref.result.now) v.items) c.in_ok-found.found
     c.in-Some.circle c.in-Some.is c.in_ok-found.ensures.circle in
     let names = map (λ (n : Vec ℕ Global). n.items) c.args.names.now in
     let resources : map (λ (r : Resource _). r.name.items) c.deref-2.result.now ≡ resource_names view =
     ap (λ (rs : List (Resource _)). map (λ (r : Resource _). r.name.items) rs) c.deref-2.ensures.value
     ∙ names_of_resources c.args.program.now in (
       c.in-Some.circle.items,
-      subst (λ (ps : List Process). IsCircle ps c.in-Some.circle.items) same is,
+      subst (λ (ps : List Process). IsCircleAmong c.args.few.now ps c.in-Some.circle.items) same is,
       c.in_ok-put_circle.ensures
           ∙ (ap (λ (es : List Edge). c.args.text.items
           ++ circle_lines names

@@ -3,23 +3,35 @@ use Rattle.std.proofs.lemmas.Result.{MatchResult-weaker}
 use Rattle.pb_accept.specs.Causes.{cause_line}
 use Rattle.pb_options.specs.declared.code.Code.TheVariants.{K1}
 use Rattle.pb_base.specs.Lines.{line}
+use Rattle.std.specs.Prelude.{All}
 use Rattle.pb_code.specs.Limits.{KeepsLimits}
 use Rattle.pb_code.specs.View.{code_view}
+use Rattle.pb_code.specs.Whole.{Code}
 use Rattle.pb_verifier.specs.Verified.{VerifiedCode}
 use Rattle.pb_verifier.specs.declared.fault.VerifyFault.TheVariants.{OutOfLimits}
 use Rattle.pb_options.specs.Lends.{lending_for}
-use Rattle.pb_search_engine.proofs.ExpectLemmas.{bad_said, compared_said}
+use Rattle.pb_search_engine.specs.Requirements.{MayBeRequired}
+use Rattle.pb_search_engine.proofs.ExpectLemmas.{asked_said, bad_said}
+use Rattle.pb_search_engine.proofs.RequirementLemmas.{may_all}
 use Rattle.pb_search_engine.proofs.expect.reply.Goals as goal
 
-pub read_prints-requires : goal.read_prints-requires
-read_prints-requires c = subst KeepsLimits (sym c.code.ensures.code) (c.code.ensures.verified.faultless OutOfLimits)
+pub read_asked-requires : goal.read_asked-requires
+read_asked-requires c = subst KeepsLimits (sym c.code.ensures.code) (c.code.ensures.verified.faultless OutOfLimits)
+
+pub answered-requires-clause-may : goal.answered-requires-clause-may
+answered-requires-clause-may c =
+    let same = c.code.ensures.code ∙ ap (λ (v : VerifiedCode). v.code) c.verified.ensures in
+    let asked = c.in-Ok.asked in
+    let read = c.in-Ok.ensures.read in
+    subst (λ (code : Code). All (MayBeRequired code) asked.requirements.items) same
+    (may_all (code_view c.code.result.now) c.args.lines.now asked.requirements.items read.0 read.1.reads)
 
 pub returns-in-Ok : goal.returns-in-Ok
 returns-in-Ok c =
-    MatchResult-weaker c.compared.result c.compared.ensures
-    (λ r says. compared_said c.args.options.fair (lending_for c.args.options.lend) c.args.options.any_order c.args.compiled.now.verified.code (code_view c.code.result.now)
-    c.args.compiled.now.labels c.args.options.states c.args.lines.now c.in-Ok.prints.items c.deref.result.now
-    (c.code.ensures.code ∙ ap (λ (v : VerifiedCode). v.code) c.verified.ensures) c.deref.ensures.value c.in-Ok.ensures.read r.text.items r.status says)
+    MatchResult-weaker c.answered.result c.answered.ensures
+    (λ r says. asked_said c.args.options.fair (lending_for c.args.options.lend) c.args.options.any_order c.args.compiled.now.verified.code (code_view c.code.result.now)
+    c.args.compiled.now.labels c.args.options.states c.args.lines.now c.in-Ok.asked.requirements.items c.in-Ok.asked.prints.items
+    (c.code.ensures.code ∙ ap (λ (v : VerifiedCode). v.code) c.verified.ensures) c.in-Ok.ensures.read r.text.items r.status says)
     (λ e h. h)
 
 pub returns-in-Err-NotPrint : goal.returns-in-Err-NotPrint

@@ -1,8 +1,9 @@
-use Rattle.std.proofs.Common.{ℕ, List, Option, Some, None, option_map, IfSome, Vec, Global, ◌∙◌, subst, arith, refl}
+use Rattle.std.proofs.Common.{ℕ, List, Option, Some, None, option_map, IfSome, Vec, Global, ◌∙◌, subst, arith, refl, inl, inr}
 use Rattle.pb_base.proofs.DeviceLemmas.{if_known}
+use Rattle.pb_conversations.proofs.ConversationLemmas.{device_or}
 use Rattle.pb_frames.specs.Frames.{IsRead}
 use Rattle.pb_server.proofs.ConversationLemmas.{so_far_nothing, so_far_all, so_far_end, so_far_memory}
-use Rattle.pb_server.proofs.ConversationLemmas.{so_far_unread, so_far_more, so_far_broken}
+use Rattle.pb_server.proofs.ConversationLemmas.{so_far_read, so_far_unread, so_far_more, so_far_broken}
 use Rattle.pb_server.specs.Answers.{AnswersContent}
 use Rattle.pb_server.specs.Responses.{told_by}
 use Rattle.pb_server.proofs.conversation.converse.Goals as goal
@@ -34,6 +35,22 @@ returns-in-Err-clause-some g c =
     so_far_unread g.L.Language.Diagnoses g.L.Language.Finds c.args.session.now bytes c.loop-alloc.heard (g.I.Input.rest c.loop-alloc.input)
     (g.O.Output.written c.args.output.now) (g.O.Output.written c.loop-alloc.output) c.loop-alloc.session (c.loop-alloc.invariant.says bytes is)
     c.in-Err.fault c.break_off.result (g.O.Output.written c.break_off.new.output) c.in-Err.ensures.refused c.break_off.ensures.written)
+
+pub returns-in-Err-clause-answered : goal.returns-in-Err-clause-answered
+returns-in-Err-clause-answered g c = λ changed. elim (device_or c.in-Err.fault) [
+  | inl is ↦ if_known (g.I.Input.rest c.args.input.now) _ (λ bytes known.
+      so_far_read g.L.Language.Diagnoses g.L.Language.Finds c.args.session.now bytes c.loop-alloc.heard (g.I.Input.rest c.loop-alloc.input)
+      (g.O.Output.written c.args.output.now) (g.O.Output.written c.loop-alloc.output) c.loop-alloc.session
+      (c.loop-alloc.invariant.says bytes known) (g.I.Input.rest c.read_frame.new.input) (g.O.Output.written c.break_off.new.output)
+      (c.in-Err.ensures.part is) (c.break_off.ensures.device is).2)
+  | inr other ↦ absurd (changed (c.in-Err.ensures.no_fault other ∙ c.loop-alloc.invariant.reads))
+]
+
+pub returns-in_default-clause-answered : goal.returns-in_default-clause-answered
+returns-in_default-clause-answered g c = λ changed. absurd (changed (c.in-Ok-Some.ensures.counted ∙ c.loop-alloc.invariant.reads))
+
+pub returns-in-Err-write_reply-clause-answered : goal.returns-in-Err-write_reply-clause-answered
+returns-in-Err-write_reply-clause-answered g c = λ changed. absurd (changed (c.in-Ok-Some.ensures.counted ∙ c.loop-alloc.invariant.reads))
 
 pub returns-in_default-clause-some : goal.returns-in_default-clause-some
 returns-in_default-clause-some g c =

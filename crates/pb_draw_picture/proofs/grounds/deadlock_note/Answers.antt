@@ -1,7 +1,0 @@
-use Rattle.std.proofs.Common.{refl}
-use Rattle.pb_draw_picture.specs.Grounds.{deadlock_note}
-use Rattle.pb_draw_picture.proofs.grounds.deadlock_note.Goals as goal
-
-pub returns : goal.returns
-unfolding deadlock_note
-returns c = refl

@@ -1,0 +1,140 @@
+-- Lines that say requirements, and whether these are met.
+use Rattle.std.proofs.Common.{◌≡◌, ◌≢◌, ◌+◌, ◌<◌, ◌≤◌, ◌^◌, ℕ, Bool, true, false, ◌||◌, List, [], ◌∷◌, ◌++◌, append_assoc, codes, Option, None, Some}
+use Rattle.std.proofs.Common.{get_or, length, map, take, refl, sym, ap, subst, ◌∙◌, arith}
+use Rattle.std.specs.Prelude.{ℤ, pos, All, IfNone, IfSome, MatchOption}
+use Rattle.std.specs.Fmt.{decimal, signed_decimal}
+use Rattle.std.specs.List.{list_any}
+use Rattle.std.proofs.lemmas.Fmt.{signed_decimal_injective}
+use Rattle.std.proofs.lemmas.List.{append_cancel_right, get_or-map, length-map, take_all, take_more}
+use Rattle.std.proofs.lemmas.List.Elements.{All-cons, All-nil, All-push}
+use Rattle.std.proofs.lemmas.List.Folds.{list_any_at, list_any_more}
+use Rattle.pb_base.specs.declared.limits.TheConstants.{MAX_AMOUNT}
+use Rattle.pb_code.specs.Limits.{IsSigned, IsUpTo}
+use Rattle.pb_code.specs.Whole.{Code}
+use Rattle.pb_picks.specs.PickLines.{IsFirstLine}
+use Rattle.pb_picks.proofs.PickParts.{behind_line}
+use Rattle.pb_search_engine.specs.Requirements.{AreMet, IsMet, MayBeClaimed, MayBeRequired, ReadsRequirements, SpellsRequirement, claim_text, part_text}
+use Rattle.pb_search_engine.specs.declared.requirements.Part.{Part}
+use Rattle.pb_search_engine.specs.declared.requirements.Part.TheVariants.{Hold, Parbegin}
+use Rattle.pb_search_engine.specs.declared.requirements.Requirement.{Requirement}
+use Rattle.pb_search_engine.specs.declared.requirements.Requirement.TheVariants.{Claims, Has}
+use Rattle.pb_search_engine.proofs.PrintLemmas.{signed_fits}
+
+-- ---- lines
+
+pub one_requirement_more : (code : Code) (text : List ℕ) (before : List Requirement) (rest : List ℕ) (r : Requirement) (line after : List ℕ)
+    → ReadsRequirements code text before rest → rest ≢ [] → IsFirstLine rest line after → SpellsRequirement code line r
+    → ReadsRequirements code text (before ++ (r ∷ [])) after
+one_requirement_more code text [] rest r line after reads some first says =
+    subst (λ (t : List ℕ). ReadsRequirements code t (r ∷ []) after) (sym reads) (some, line, after, first, says, refl)
+one_requirement_more code text (b ∷ before) rest r line after reads some first says =
+    (reads.0, reads.1, reads.2, reads.3, reads.4, one_requirement_more code reads.2 before rest r line after reads.5 some first says)
+
+-- what follows the requirements is no longer than all
+pub reads_within : (code : Code) (text : List ℕ) (requirements : List Requirement) (rest : List ℕ)
+    → ReadsRequirements code text requirements rest → length rest ≤ length text
+reads_within code text [] rest reads = let e = ap (λ (t : List ℕ). length t) reads in omega (arith, e)
+reads_within code text (r ∷ requirements) rest reads =
+    let a = behind_line text reads.1 reads.2 reads.3 in
+    let b = reads_within code reads.2 requirements rest reads.5 in
+    omega (arith, a, b)
+
+-- what lines say may be required
+pub may_all : (code : Code) (text : List ℕ) (requirements : List Requirement) (rest : List ℕ)
+    → ReadsRequirements code text requirements rest → All (MayBeRequired code) requirements
+may_all code text [] rest reads = All-nil (MayBeRequired code)
+may_all code text (r ∷ requirements) rest reads =
+    All-cons (MayBeRequired code) r requirements reads.4.may (may_all code reads.2 requirements rest reads.5)
+
+-- a line that requires no part and no claim says no requirement
+pub says_none : (code : Code) (line : List ℕ) → ((part : Part) → line ≢ part_text part)
+    → ((amount resource : ℕ) → MayBeClaimed code amount resource → line ≢ codes "claims at least " ++ claim_text code.names amount resource)
+    → (r : Requirement) → SpellsRequirement code line r → ⊥
+says_none code line parts claims (Claims amount resource) says = claims amount resource says.may says.spelled
+says_none code line parts claims (Has part) says = parts part says.spelled
+
+pub no_part : (line : List ℕ) → line ≢ part_text Parbegin → line ≢ part_text Hold → (part : Part) → line ≢ part_text part
+no_part line a b Parbegin = a
+no_part line a b Hold = b
+
+-- ---- amounts
+
+-- a word that is no integer is no amount
+pub amount_none : (word : List ℕ) → ((value : ℤ) → IsSigned value → word ≡ signed_decimal value → ⊥)
+    → (amount : ℕ) → IsUpTo MAX_AMOUNT amount → word ≢ decimal amount
+amount_none word none amount up e = let most : amount ≤ 1000000 = up.1 in none (pos amount) (omega (arith, most)) e
+
+-- an integer that was read is the amount that is written, or none is
+pub amount_told : (word : List ℕ) (value given : ℤ) (r : Option ℕ) → IsSigned value → word ≡ signed_decimal value → given ≡ value
+    → IfSome r (λ amount. (given ≡ pos amount) × IsUpTo MAX_AMOUNT amount)
+    → IfNone r ((amount : ℕ) → IsUpTo MAX_AMOUNT amount → given ≢ pos amount)
+    → MatchOption r ((amount : ℕ) → IsUpTo MAX_AMOUNT amount → word ≢ decimal amount)
+    (λ amount. IsUpTo MAX_AMOUNT amount × (word ≡ decimal amount))
+amount_told word value given None fits is same some none = λ amount up e.
+    let most : amount ≤ 1000000 = up.1 in
+    let small : amount < 2 ^ 63 = omega (arith, most) in
+    none amount up (same ∙ signed_decimal_injective value (pos amount) (signed_fits value fits).sfits small (sym is ∙ e))
+amount_told word value given (Some amount) fits is same some none = (some.1, is ∙ ap signed_decimal (sym same ∙ some.0))
+
+-- what stands before a name, and before the space
+pub before_name : (text name front tail : List ℕ) → text ≡ front ++ name → text ≡ tail ++ (codes " " ++ name) → front ≡ tail ++ codes " "
+before_name text name front tail e f =
+    append_cancel_right front (tail ++ codes " ") name (sym e ∙ (f ∙ sym (append_assoc tail (codes " ") name)))
+
+-- the amount and the space stand before the name
+pub amount_front : (text name : List ℕ) (amount : ℕ) → text ≡ decimal amount ++ (codes " " ++ name) → text ≡ (decimal amount ++ codes " ") ++ name
+amount_front text name amount is = is ∙ sym (append_assoc (decimal amount) (codes " ") name)
+
+pub before_space : (front word tail : List ℕ) → front ≡ word ++ codes " " → front ≡ tail ++ codes " " → word ≡ tail
+before_space front word tail e f = append_cancel_right word tail (codes " ") (sym e ∙ f)
+
+-- the amount before the space and the name is that of the word
+pub amount_before : (text name front word : List ℕ) (r : Option ℕ) → text ≡ front ++ name → front ≡ word ++ codes " "
+    → MatchOption r ((amount : ℕ) → IsUpTo MAX_AMOUNT amount → word ≢ decimal amount)
+    (λ amount. IsUpTo MAX_AMOUNT amount × (word ≡ decimal amount))
+    → MatchOption r ((amount : ℕ) → IsUpTo MAX_AMOUNT amount → text ≢ decimal amount ++ (codes " " ++ name))
+    (λ amount. IsUpTo MAX_AMOUNT amount × (text ≡ decimal amount ++ (codes " " ++ name)))
+amount_before text name front word None e f told = λ amount up is.
+    told amount up (before_space front word (decimal amount) f (before_name text name front (decimal amount) e is))
+amount_before text name front word (Some amount) e f told = (
+  told.0,
+  e ∙ (ap (λ (t : List ℕ). t ++ name) (f ∙ ap (λ (t : List ℕ). t ++ codes " ") told.1) ∙ append_assoc (decimal amount) (codes " ") name),
+)
+
+-- ---- requirements that are met
+
+pub met_more : (code : Code) (requirements : List Requirement) (i : ℕ) (d : Requirement) → i < length requirements
+    → AreMet code (take i requirements) → IsMet code (get_or requirements i d) → AreMet code (take (i + 1) requirements)
+met_more code requirements i d within before one =
+    subst (AreMet code) (sym (take_more requirements i d within))
+    (All-push (IsMet code) (take i requirements) (get_or requirements i d) before one)
+
+pub met_all : (code : Code) (requirements : List Requirement) (i : ℕ) → length requirements ≤ i → AreMet code (take i requirements)
+    → AreMet code requirements
+met_all code requirements i end before = subst (AreMet code) (take_all i requirements end) before
+
+-- ---- elements that pass a test
+
+module _ {A B : Type 0} (test : B → Bool) (view : A → B) (xs : List A) (i : ℕ) where
+  -- none so far, and not the next
+  pub none_more : (x : A) → i < length xs → x ≡ get_or xs i x → list_any test (take i (map view xs)) ≡ false → test (view x) ≡ false
+      → list_any test (take (i + 1) (map view xs)) ≡ false
+  none_more x within at before one =
+      let views = map view xs in
+      let size = length-map xs view in
+      let there = get_or-map view xs i x (view x) within ∙ ap view (sym at) in
+      list_any_more test views i (view x) (omega (arith, within, size))
+      ∙ (ap (λ (b : Bool). b || test (get_or views i (view x))) before ∙ (ap test there ∙ one))
+
+  -- none up to the end
+  pub none_there : length xs ≤ i → list_any test (take i (map view xs)) ≡ false → list_any test (map view xs) ≡ false
+  none_there end before =
+      let size = length-map xs view in
+      subst (λ (l : List B). list_any test l ≡ false) (take_all i (map view xs) (omega (arith, end, size))) before
+
+  -- this one
+  pub some_there : (x : A) → i < length xs → x ≡ get_or xs i x → test (view x) ≡ true → list_any test (map view xs) ≡ true
+  some_there x within at one =
+      let size = length-map xs view in
+      let there = get_or-map view xs i x (view x) within ∙ ap view (sym at) in
+      list_any_at test (map view xs) i (view x) (omega (arith, within, size)) (ap test there ∙ one)

@@ -1,0 +1,242 @@
+//! What a text has to have beside its prints: the line that says it, and whether it is met.
+
+ghost use Rattle.std.specs.Prelude.{◌≡◌, ◌≢◌, ◌<◌, ◌≤◌, ◌↔◌, ◌++◌, ℕ, List, All, IfNone, IfOk, IfSome, MatchOption, codes, length, pos, true};
+ghost use Rattle.std.specs.Fmt.{decimal};
+ghost use Rattle.std.specs.List.{list_any};
+ghost use Rattle.pb_base.specs.Lines.{names_view};
+ghost use Rattle.pb_base.specs.Steppers.{Bundle};
+ghost use Rattle.pb_base.specs.declared.limits.TheConstants.{MAX_AMOUNT as MOST};
+ghost use Rattle.pb_code.specs.Limits.{IsUpTo, KeepsLimits};
+ghost use Rattle.pb_code.specs.View.{code_view, instr_view, process_view};
+ghost use Rattle.pb_search_engine.specs.Requirements as spec;
+ghost use Rattle.pb_search_engine.specs.declared.requirements.Part.{Part as AnyPart};
+ghost use Rattle.pb_search_engine.specs.declared.requirements.Requirement.{Requirement as AnyRequirement};
+ghost use Rattle.pb_search_engine.specs.declared.requirements.Requirement.TheVariants.{Claims as ClaimsSome};
+
+use crate::names::name_at;
+use crate::print_lines::{after, value_of};
+use pb_base::limits::MAX_AMOUNT;
+use pb_base::writing::{put, put_name, put_number};
+use pb_base::{Names, NoMemory};
+use pb_code::{Code, Instr, ProcessCode};
+use std::alloc::Global;
+
+/// What a process may have to have.
+#[derive(Clone, Copy, Debug, PartialEq, Eq)]
+pub enum Part {
+    /// A parbegin.
+    Parbegin,
+    /// A hold.
+    Hold,
+}
+
+/// What a text has to have beside its prints.
+#[derive(Clone, Copy, Debug, PartialEq, Eq)]
+pub enum Requirement {
+    /// Some process claims at least this amount of the resource with this number.
+    Claims { amount: u32, resource: u8 },
+    /// Some process has this part.
+    Has(Part),
+}
+
+/// Returns the requirement that a line says, if it says one.
+pub(crate) fn requirement_of(code: &Code, line: &[u8]) -> Option<Requirement>
+    requires { KeepsLimits (code_view code.now) }
+    ensures { MatchOption result ((r : AnyRequirement) → spec.SpellsRequirement (code_view code.now) line.now r → ⊥)
+        (λ r. spec.SpellsRequirement (code_view code.now) line.now r) }
+{
+    match part_of(line) {
+        Some(part) => Some(Requirement::Has(part)),
+        None => {
+            let (amount, resource) = claim_of(code, line)?;
+            Some(Requirement::Claims { amount, resource })
+        }
+    }
+}
+
+/// Returns the part that a line requires, if it requires one.
+fn part_of(line: &[u8]) -> Option<Part>
+    ensures { MatchOption result ((part : AnyPart) → line.now ≢ spec.part_text part) (λ part. line.now ≡ spec.part_text part) }
+{
+    if line == part_words(Part::Parbegin) {
+        return Some(Part::Parbegin);
+    }
+    if line == part_words(Part::Hold) {
+        return Some(Part::Hold);
+    }
+    None
+}
+
+/// Returns how it is written that some process has a part.
+fn part_words(part: Part) -> &'static [u8]
+    ensures { result.now ≡ spec.part_text part }
+{
+    match part {
+        Part::Parbegin => b"has a parbegin",
+        Part::Hold => b"has a hold",
+    }
+}
+
+/// Returns the amount and the resource of a line, if it requires a claim.
+fn claim_of(code: &Code, line: &[u8]) -> Option<(u32, u8)>
+    requires { KeepsLimits (code_view code.now) }
+    ensures { MatchOption result
+        ((amount resource : ℕ) → spec.MayBeClaimed (code_view code.now) amount resource
+        → line.now ≢ codes "claims at least " ++ spec.claim_text (names_view code.now.names) amount resource)
+        (λ x. spec.MayBeClaimed (code_view code.now) x.0 x.1
+        × (line.now ≡ codes "claims at least " ++ spec.claim_text (names_view code.now.names) x.0 x.1)) }
+{
+    let rest = after(line, b"claims at least ")?;
+    amount_and_resource(code, rest)
+}
+
+/// Returns the amount and the resource that a text is, as `K R`, if it is so.
+fn amount_and_resource(code: &Code, text: &[u8]) -> Option<(u32, u8)>
+    requires { KeepsLimits (code_view code.now) }
+    ensures { MatchOption result
+        ((amount resource : ℕ) → spec.MayBeClaimed (code_view code.now) amount resource
+        → text.now ≢ spec.claim_text (names_view code.now.names) amount resource)
+        (λ x. spec.MayBeClaimed (code_view code.now) x.0 x.1 × (text.now ≡ spec.claim_text (names_view code.now.names) x.0 x.1)) }
+{
+    for r in 0..code.names.resources.len() {
+        match amount_before(text, &code.names.resources[r]) {
+            Some(amount) => return Some((amount, r as u8)),
+            None => {}
+        }
+    }
+    None
+}
+
+/// Returns the amount that stands before a space and a name, if a text is so.
+fn amount_before(text: &[u8], name: &[u8]) -> Option<u32>
+    ensures { MatchOption result
+        ((amount : ℕ) → IsUpTo MOST amount → text.now ≢ decimal amount ++ (codes " " ++ name.now))
+        (λ amount. IsUpTo MOST amount × (text.now ≡ decimal amount ++ (codes " " ++ name.now))) }
+{
+    let front = before(text, name)?;
+    let word = before(front, b" ")?;
+    amount_of(word)
+}
+
+/// Returns what stands before these bytes, if the text ends with them.
+fn before<'t>(text: &'t [u8], end: &[u8]) -> Option<&'t [u8]>
+    ensures { MatchOption result ((front : List ℕ) → text.now ≢ front ++ end.now)
+        (λ front. text.now ≡ front.now ++ end.now) }
+{
+    text.strip_suffix(end)
+}
+
+/// Returns the amount that a word is, if it is one as it is written.
+fn amount_of(word: &[u8]) -> Option<u32>
+    ensures { MatchOption result ((amount : ℕ) → IsUpTo MOST amount → word.now ≢ decimal amount)
+        (λ amount. IsUpTo MOST amount × (word.now ≡ decimal amount)) }
+{
+    let value = value_of(word)?;
+    as_amount(value)
+}
+
+/// Returns an integer as an amount from 1 to 1,000,000, if it is one.
+fn as_amount(value: i64) -> Option<u32>
+    ensures some { IfSome result (λ amount. (value ≡ pos amount) × IsUpTo MOST amount) }
+    ensures none { IfNone result ((amount : ℕ) → IsUpTo MOST amount → value ≢ pos amount) }
+{
+    if value < 1 || value > i64::from(MAX_AMOUNT) {
+        return None;
+    }
+    Some(value as u32)
+}
+
+/// Returns how a requirement is written.
+pub(crate) fn text_of(
+    alloc: Global,
+    names: &Names,
+    requirement: Requirement,
+) -> Result<Vec<u8>, NoMemory>
+    ensures { IfOk result (λ text. text.items ≡ spec.requirement_text (names_view names.now) requirement) }
+{
+    let mut text = Vec::new(alloc);
+    match requirement {
+        Requirement::Claims { amount, resource } => {
+            let name = name_at(&names.resources, resource as usize);
+            put_number(&mut text, b"claims at least ", amount)?;
+            put_name(&mut text, b" ", name)?;
+        }
+        Requirement::Has(part) => put(&mut text, part_words(part))?,
+    }
+    Ok(text)
+}
+
+/// Returns the first requirement that is not met, if there is one.
+pub(crate) fn first_unmet(code: &Code, requirements: &[Requirement]) -> Option<Requirement>
+    requires limits { KeepsLimits (code_view code.now) }
+    requires may { All (spec.MayBeRequired (code_view code.now)) requirements.now }
+    ensures some { IfSome result (λ r. spec.IsFirstUnmet (code_view code.now) requirements.now r) }
+    ensures none { IfNone result (spec.AreMet (code_view code.now) requirements.now) }
+{
+    for i in 0..requirements.len() {
+        if !is_met(code, requirements[i]) {
+            return Some(requirements[i]);
+        }
+    }
+    None
+}
+
+/// Returns whether a requirement is met.
+fn is_met(code: &Code, requirement: Requirement) -> bool
+    requires limits { KeepsLimits (code_view code.now) }
+    requires may { spec.MayBeRequired (code_view code.now) requirement }
+    ensures { (result ≡ true) ↔ spec.IsMet (code_view code.now) requirement }
+{
+    match requirement {
+        Requirement::Claims { amount, resource } => is_claimed(code, amount, resource),
+        Requirement::Has(part) => some_has(code, part),
+    }
+}
+
+/// Returns whether some process claims at least this amount of a resource.
+fn is_claimed(code: &Code, amount: u32, resource: u8) -> bool
+    requires limits { KeepsLimits (code_view code.now) }
+    requires may { spec.MayBeClaimed (code_view code.now) amount resource }
+    ensures { (result ≡ true) ↔ spec.IsMet (code_view code.now) (ClaimsSome amount resource) }
+{
+    for p in 0..code.processes.len() {
+        if code.claims.get(p, resource as usize) >= u64::from(amount) {
+            return true;
+        }
+    }
+    false
+}
+
+/// Returns whether some process has a part.
+fn some_has(code: &Code, part: Part) -> bool
+    ensures { result ≡ list_any (spec.has_part part) (code_view code.now).processes }
+{
+    for p in 0..code.processes.len() {
+        if has(&code.processes[p], part) {
+            return true;
+        }
+    }
+    false
+}
+
+/// Returns whether a process has a part.
+fn has(process: &ProcessCode, part: Part) -> bool
+    ensures { result ≡ spec.has_part part (process_view process.now) }
+{
+    for i in 0..process.instrs.len() {
+        if is_of(part, process.instrs[i]) {
+            return true;
+        }
+    }
+    false
+}
+
+/// Returns whether an instruction is one of a part.
+fn is_of(part: Part, instr: Instr) -> bool
+    ensures { (bundles : List Bundle) → result ≡ spec.is_of part (instr_view bundles instr) }
+{
+    match part {
+        Part::Parbegin => matches!(instr, Instr::Fork { .. }),
+        Part::Hold => matches!(instr, Instr::Take(_)),
+    }
+}
