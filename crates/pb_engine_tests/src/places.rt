@@ -24,7 +24,10 @@ fn bytes_as_they_are_shown(rt: HostRuntime) {
 #[test]
 fn characters_as_they_are_shown(rt: HostRuntime) {
     let seen = printable(rt.alloc(), b"caf\xc3\xa9 \xe4\xb8\xad \xf0\x9f\x8d\xb4");
-    assert!(rt; seen.is_ok_and(|seen| seen.as_slice() == b"caf\xc3\xa9 \xe4\xb8\xad \xf0\x9f\x8d\xb4".as_slice()));
+    assert!(rt;
+        seen.is_ok_and(|seen| seen.as_slice()
+            == b"caf\xc3\xa9 \xe4\xb8\xad \xf0\x9f\x8d\xb4".as_slice())
+    );
     let hidden = printable(rt.alloc(), b"\xef\xbb\xbfa\xc1\x81\xe2\x80");
     assert!(rt; hidden.is_ok_and(|hidden| hidden.as_slice() == b"???a????".as_slice()));
 }

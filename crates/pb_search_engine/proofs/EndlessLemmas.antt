@@ -26,8 +26,7 @@ pub circle_shown : (mode : Mode) (code : Code) → IsFaultless code → (fair : 
     → HaveProcesses code.names lead × HaveProcesses code.names round
 circle_shown mode code faultless fair lead round is =
     let both = have_processes mode code faultless (lead ++ round) is.place
-    (comes_on (TraceLeads mode code) (trace_opening code) is.place is.place lead round is.into is.back) in
-    (
+    (comes_on (TraceLeads mode code) (trace_opening code) is.place is.place lead round is.into is.back) in (
       have_processes mode code faultless lead is.place is.into,
       all_right (λ (pick : Pick). HasProcess code.names pick.process) lead round both,
     )
