@@ -11,7 +11,8 @@ terminal too: there standard error is seen, and tables in the place of lines. Th
 it is installed, and the examples; `--unproved` is left out, which changes nothing of what is written. A block that names a
 language and a path behind its opening backquotes, as in "rust crates/NAME/src/main.rt", shows a file, and has to be that
 file. A path is a word of a document, in backquotes or not, that begins with the name of a folder at the top of the
-repository. What README.md, "To begin", shows and is not typed here has to be measured by benches/first_call.py, and the
+repository. A link has to lead to a file and a heading in it, and a heading that is named, as in docs/NAME.md, "Heading", or
+its first words, has to be there. No cell of a table in docs/formats/ has more than 40 words. What README.md, "To begin", shows and is not typed here has to be measured by benches/first_call.py, and the
 counts of crates there and in docs/BUILDING.md have to be those of the tools. Its status is 0 if all is as wanted, and 1 if
 not.
 """
@@ -27,13 +28,19 @@ from pseudo_terminal import Terminal, played
 from script.crates import crates_below
 from script.tools import COMMANDS_OF
 
-DOCUMENTS = [TOP / "README.md", TOP / "examples/README.md", TOP / "extras/README.md", *sorted((TOP / "docs").glob("*.md"))]
+FOLDERS = ("examples", "extras", "benches", "checks")
+DOCUMENTS = [TOP / "README.md", *(TOP / name / "README.md" for name in FOLDERS), *sorted((TOP / "docs").rglob("*.md"))]
+# The most words of a cell of a table in docs/formats/.
+WORDS = 40
 # Of these the commands are typed at a terminal, which is as wide as their lines are at most.
 AT_A_TERMINAL = [TOP / "docs/COURSE.md"]
 COLUMNS = 125
 FIRST_CALL = TOP / "benches/first_call.py"
 BLOCK = re.compile(r"^( *)```([^\n]*)\n(.*?)^\1```$", re.M | re.S)
 PROMPT = re.compile(r"\d+/\d+> ")
+LINK = re.compile(r"\]\(([^)#\s]*)(?:#([^)\s]*))?\)")
+# A document and a heading in it.
+NAMED = re.compile(r'(docs/[\w/]+\.md),\s"([^"]+)"')
 PATH = re.compile(r"(?<![\w/.])(?:crates|docs|examples|checks|benches|extras|script)/[\w./{},*-]*[\w}*]\.\w+")
 
 
@@ -115,6 +122,37 @@ def try_counts(tally):
         tally.expect(is_said, f"{document.name}: a row begins with {row} and has not {count} crates")
 
 
+def headings_of(document):
+    """Returns the headings of a document."""
+    return re.findall(r"^#+ (.*)$", BLOCK.sub("", document.read_text()), re.M)
+
+
+def anchor_of(heading):
+    """Returns the word by which a link names a heading."""
+    return re.sub(r"[^\w -]", "", heading.lower()).replace(" ", "-")
+
+
+def try_links(tally, document):
+    """Looks whether each link of a document leads to a file and a heading, and each heading that it names is there."""
+    text = BLOCK.sub("", document.read_text())
+    for path, anchor in LINK.findall(text):
+        if "://" in path:
+            continue
+        there = (document.parent / path).resolve() if path else document
+        is_found = there.exists() and (not anchor or anchor in map(anchor_of, headings_of(there)))
+        tally.expect(is_found, f"{document.name}: there is no {path}#{anchor}")
+    for path, heading in NAMED.findall(text):
+        is_found = any(it.startswith(" ".join(heading.split())) for it in headings_of(TOP / path))
+        tally.expect(is_found, f'{document.name}: there is no {path}, "{heading}"')
+
+
+def try_cells(tally, document):
+    """Looks whether no cell of a table is too long to be read."""
+    for line in re.findall(r"^[|] (.*) [|]$", document.read_text(), re.M):
+        for cell in re.split(r"(?<!\\)[|]", line):
+            tally.expect(len(cell.split()) <= WORDS, f"{document.name}: a cell has more than {WORDS} words:", cell)
+
+
 def is_there(path):
     """Whether a path with braces or stars names files that are all there."""
     braces = re.search(r"\{(.*?)\}", path)
@@ -141,6 +179,9 @@ def main():
                     # (any crate or file)
                     continue
                 tally.expect(is_there(path), f"{document.name}: there is no {path}")
+            try_links(tally, document)
+            if document.parent.name == "formats":
+                try_cells(tally, document)
     try_begin(tally)
     try_counts(tally)
     print(f"{len(DOCUMENTS)} documents, {typed} commands")

@@ -5,7 +5,7 @@
 
 Of five objects it tries every proper prefix, every byte changed to each of five others, each two lines exchanged, and
 each line doubled or left out; and objects at each limit of the format and one beyond it. `exec --steps 10000` must end
-with a status for a refusal or a run, in the lines that docs/FORMATS.md names; what a run holds is counted here, and
+with a status for a refusal or a run, in the lines that docs/formats/ names; what a run holds is counted here, and
 must never be over the capital; `migrate` must refuse the same objects with the same line, and what it writes must be
 run to the same lines. It is run by hand; its status is 0 if all is as wanted, and 1 if not.
 """

@@ -3,7 +3,7 @@
 
     checks/json_lines.py [PROGRAM]     PROGRAM is the one that ./parbegin has built if none is given
 
-What the object of each line must be is read from the line by the patterns below, a second reading of docs/FORMATS.md.
+What the object of each line must be is read from the line by the patterns below, a second reading of docs/formats/json.md.
 Each object must fit docs/schema/json_lines.schema.json, and the status must be the same. Its status is 0 if all is as
 wanted, and 1 if not.
 """
@@ -26,7 +26,7 @@ DEADLOCK = 9
 EXACT = 2**53 - 1
 NAME, NUMBER, PAIRS = "[A-Za-z][A-Za-z0-9_]*", "-?(?:0|[1-9][0-9]*)", r"(?P<amounts>(?: [1-9][0-9]* [A-Za-z][A-Za-z0-9_]*)+)"
 LABEL, CODE = "[A-Za-z0-9_.-]+", "(?:[A-Z](?:0|[1-9][0-9]*)|input|output)"
-# The pattern of each line, as docs/FORMATS.md writes it, with what its object has at first. A word in angle brackets is the
+# The pattern of each line, as docs/formats/json.md writes it, with what its object has at first. A word in angle brackets is the
 # key of a name or a number. First those of the parts of an outcome or a deadlock.
 PARTS: list[tuple[str, dict[str, Any]]] = [
     ("<process> ended", {"kind": "ended"}), ("<process> faulted", {"kind": "faulted"}), ("<process> waits", {"kind": "waits"}),

@@ -13,7 +13,7 @@ import xml.etree.ElementTree
 from calls import DONE, TOP, Tally, call, recorded
 
 FOLDER = TOP / "docs/pictures"
-DOCUMENTS = [TOP / "README.md", *sorted((TOP / "docs").glob("*.md"))]
+DOCUMENTS = [TOP / "README.md", *sorted((TOP / "docs").rglob("*.md"))]
 SVG = "{http://www.w3.org/2000/svg}"
 EVENTS = {"grant", "return", "print", "fault", "end"}
 

@@ -4,7 +4,7 @@
     checks/plans.py [PROGRAM]     PROGRAM is the one that ./parbegin has built if none is given
 
 The table of plans, its CSV, which text of which file a number is when files are planned together, the places of a circle and
-of a refusal in each format, and that another capital changes nothing but what docs/FORMATS.md, "Plans", says. What is written
+of a refusal in each format, and that another capital changes nothing but what docs/formats/plans.md, "Plans", says. What is written
 as JSON and as SARIF must fit docs/schema/, if Python has the module jsonschema. Its status is 0 if all is as wanted, and 1 if
 not.
 """

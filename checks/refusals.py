@@ -5,7 +5,7 @@
     checks/refusals.py --write [PROGRAM]     writes docs/REFUSALS.md anew, after a change of crates/pb_explain
 
 The list that `explain` writes must be the first lines of the pages. Each example must write what its page shows, with one
-refusal line, which has the code of the page. Every refusal line of docs/FORMATS.md must have a page, and both completions
+refusal line, which has the code of the page. Every refusal line of docs/formats/ must have a page, and both completions
 every code. Its status is 0 if all is as wanted, and 1 if not.
 """
 import os
@@ -18,7 +18,7 @@ import tempfile
 from calls import DONE, TOP, WORDS, Tally, call, program
 
 DOCUMENT = TOP / "docs/REFUSALS.md"
-FORMATS = TOP / "docs/FORMATS.md"
+FORMATS = sorted((TOP / "docs/formats").glob("*.md"))
 COMPLETIONS = TOP / "extras/completion/parbegin.bash", TOP / "extras/completion/parbegin.fish"
 # The page of a code: its first line, the meaning, an example with what it writes, and what to do.
 PAGE = re.compile(
@@ -29,7 +29,7 @@ PAGE = re.compile(
 HEAD = """# Refusals
 
 What each refusal of an input means, an example that is refused so, and what to do about it.
-checks/refusals.py writes this page from what `parbegin explain` says, and makes the calls. docs/FORMATS.md
+checks/refusals.py writes this page from what `parbegin explain` says, and makes the calls. docs/formats/program.md
 has the order in which the causes are looked for.
 """
 
@@ -75,8 +75,8 @@ def main():
         for code, page in found.items():
             tally.expect(PAGE.fullmatch(page), code, "the page is not of its form:", page)
             try_example(tally, code, page, folder)
-    told = set(re.findall(r"^\| `refused (\w+)", FORMATS.read_text(), re.M))
-    tally.expect(told == set(found), "the codes of docs/FORMATS.md:", told ^ set(found))
+    told = {code for page in FORMATS for code in re.findall(r"^\| `refused (\w+)", page.read_text(), re.M)}
+    tally.expect(told == set(found), "the codes of docs/formats/:", told ^ set(found))
     for file in COMPLETIONS:
         missing = [code for code in found if not re.search(rf"\b{code}\b", file.read_text())]
         tally.expect(not missing, file.name, "has not the codes", missing)

@@ -5,7 +5,7 @@
 
 PROGRAM is the program parbegin, with words that come before each command, if any. FILE has a text, or a text with the
 picks of a run behind a line `%%`, as `record` writes it; or an object in the place of a text. The program writes the
-data, each document as a line of JSON in which there is no `<` (docs/FORMATS.md, "Documents for a page"); here it is put
+data, each document as a line of JSON in which there is no `<` (docs/formats/pictures.md, "Documents for a page"); here it is put
 into the template beside this file. Nothing of a text is looked at here, and no number is changed. The page has all
 schedules by the banker, and if there are resources those by the cash alone, if they have at most 50,000 configurations or
 what `--states` says. `--lend cash` is for the run: its picks are made by the cash alone, and of a text it is drawn, with

@@ -1,7 +1,7 @@
 "use strict";
 // The page of a program: a recorded run to go along, and all schedules to walk through.
 //
-// It shows what the program `parbegin` has written (docs/FORMATS.md, "Documents for a page"), and works nothing out
+// It shows what the program `parbegin` has written (docs/formats/pictures.md, "Documents for a page"), and works nothing out
 // about a program: what is enabled, what a pick changes, why an arm waits and how the banker can finish is in the data.
 //
 // A state is a list. With A arms in all, numbered process by process, its entries are
@@ -52,7 +52,7 @@ const upFrom = (first, count) => Array.from({ length: count }, (_, i) => first +
 
 // ---- the data
 
-/** What an object says of a program (docs/FORMATS.md, "Objects"): its resources and its processes. */
+/** What an object says of a program (docs/formats/objects.md): its resources and its processes. */
 function readObject(object) {
   const lines = object.split("\n").map((line) => line.split(" ")), next = () => lines.shift();
   const many = (count, read) => Array.from({ length: Number(count) }, read);
