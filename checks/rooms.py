@@ -9,7 +9,9 @@ each room, in the same order, with that sentence, and a table of the room's crat
 stands before one that it uses, no folder of crates/ is without its line, and a line of the drawing leads from one room
 down to another exactly if the first uses the second and does not reach it by way of a third. And the table of the
 section on `run` has the files that its contract cites, by themselves or through one another, each behind those that it
-cites. The status is 0 if all that is so, and 1 if not.
+cites. Of the tables of commands each command of script/tools.py has a row, with its tool; each file of a row is there, the
+engine's file cites the file of its contract, and a command of one word has an engine there. The status is 0 if all that is
+so, and 1 if not.
 """
 from __future__ import annotations
 
@@ -19,6 +21,10 @@ from collections import defaultdict
 from pathlib import Path
 
 TOP = Path(__file__).resolve().parent.parent
+sys.path.insert(1, str(TOP))
+
+from script.tools import CALLS, COMMANDS, crate_of, tool_of  # noqa: E402
+
 WORDS = 15
 UP, DOWN, LEFT, RIGHT = (-1, 0), (1, 0), (0, -1), (0, 1)
 LINES = {
@@ -36,6 +42,8 @@ LINES = {
 Rooms = dict[str, tuple[str, list[str]]]
 RUN = TOP / "crates/pb_engines/src/run.rt"
 SECTION = "## What the contract of `run` rests on\n"
+TABLES_OF_COMMANDS = "## From a command to its files\n"
+FOLDERS = ("checks", "extras", "script")
 CITED = re.compile(r"^(?:pub |ghost )?use Rattle\.(pb_\w+)\.specs\.(declared\.)?(\w+)", re.M)
 
 
@@ -197,11 +205,45 @@ def faults_of_run(document: str) -> list[str]:
     return faults
 
 
+def path_of_cell(cell: str) -> Path:
+    """Returns the file that a cell of a table of commands names: below crates/, or with a folder of its own."""
+    return TOP / cell if cell.partition("/")[0] in FOLDERS else TOP / "crates" / cell
+
+
+def faults_of_engine(command: str, tool: str, engine: str, contract: str) -> list[str]:
+    """Returns what a row of a command of the program has wrong beside files that are not there."""
+    word = command.partition(" ")[0]
+    faults = [] if word in COMMANDS and crate_of(tool_of(word) or "") == tool else [f"{command}: {tool} has no such command"]
+    file = path_of_cell(engine)
+    if not file.is_file():
+        return faults
+    if path_of_cell(contract) not in cited_by(file):
+        faults.append(f"{command}: {engine} does not cite {contract}")
+    if word == command and not re.search(r"^pub fn \w+_engine\b", file.read_text(encoding="utf-8"), re.M):
+        faults.append(f"{command}: {engine} has no engine")
+    return faults
+
+
+def faults_of_commands(document: str) -> list[str]:
+    """Returns what the tables of commands have wrong."""
+    section = document.partition(TABLES_OF_COMMANDS)[2].partition("\n## ")[0]
+    rows = [row.split(" | ") for row in re.findall(r"^\| (`.*) \|$", section, re.M)]
+    names = [name for row in rows for name in re.findall(r"`([^`]+)`", row[0])]
+    faults = [f"the tables of commands lack {name}" for name in sorted({*COMMANDS, *CALLS} - set(names))]
+    for row in rows:
+        command = row[0].split("`")[1]
+        faults += [f"{command}: there is no {it}" for it in row[1:-1] if "/" in it and not path_of_cell(it).is_file()]
+        if len(row) == 6:
+            faults += faults_of_engine(command, *row[1:4])
+    return faults
+
+
 def main() -> int:
     rooms, uses = read_crates((TOP / "crates.txt").read_text(encoding="utf-8"))
     document = (TOP / "docs/ARCHITECTURE.md").read_text(encoding="utf-8")
     wanted, drawn = wanted_arrows(rooms, uses), drawn_arrows(document.split("```")[1].splitlines())
     faults = faults_of_order(rooms, uses) + faults_of_tables(rooms, uses, tables_of(document)) + faults_of_run(document)
+    faults += faults_of_commands(document)
     faults += [f"the drawing lacks {above} -> {below}" for above, below in sorted(wanted - drawn)]
     faults += [f"the drawing has {above} -> {below}" for above, below in sorted(drawn - wanted)]
     for fault in faults:
