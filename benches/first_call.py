@@ -8,7 +8,7 @@ Each is measured in a clone of its own, by an `rt` that finds nothing of what th
 no option and no variable: it keeps its files beside the folder of the kit that its own file is in. So each clone has
 a kit of its own, of links to the files of the kit and copies of `rt`, and what is kept is gone with the clone. With
 each figure it prints the median of the milliseconds that the loop of gate_minutes.py takes meanwhile, so that a slow or a
-busy host is seen. The first code blocks of README.md are such calls, as checks/documents.py compares.
+busy host is seen. The first code block of README.md and the first calls of docs/BUILDING.md are such calls, as checks/documents.py compares.
 """
 from __future__ import annotations
 

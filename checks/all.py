@@ -44,6 +44,7 @@ QUICK = (
     "checks/example_tests.py",
     "checks/schedules.py",
     "checks/rooms.py",
+    "checks/believed.py",
     "checks/wrong_bodies_apply.py",
     "checks/bodies_chosen.py",
 )

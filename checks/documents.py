@@ -12,9 +12,10 @@ it is installed, and the examples; `--unproved` is left out, which changes nothi
 language and a path behind its opening backquotes, as in "rust crates/NAME/src/main.rt", shows a file, and has to be that
 file. A path is a word of a document, in backquotes or not, that begins with the name of a folder at the top of the
 repository. A link has to lead to a file and a heading in it, and a heading that is named, as in docs/NAME.md, "Heading", or
-its first words, has to be there. No cell of a table in docs/formats/ has more than 40 words. What README.md, "To begin", shows and is not typed here has to be measured by benches/first_call.py, and the
-counts of crates there and in docs/BUILDING.md have to be those of the tools. Its status is 0 if all is as wanted, and 1 if
-not.
+its first words, has to be there. No cell of a table in docs/formats/ has more than 40 words. A block whose label has `part of`
+before the path shows lines of that file, whose indent does not matter. README.md has at most 1,000 words. The first call that
+it shows, the tests that it names, and the first calls in docs/BUILDING.md have to be measured by benches/first_call.py, and the
+counts of crates in docs/BUILDING.md have to be those of the tools. Its status is 0 if all is as wanted, and 1 if not.
 """
 import importlib.util
 import pathlib
@@ -32,6 +33,7 @@ FOLDERS = ("examples", "extras", "benches", "checks")
 DOCUMENTS = [TOP / "README.md", *(TOP / name / "README.md" for name in FOLDERS), *sorted((TOP / "docs").rglob("*.md"))]
 # The most words of a cell of a table in docs/formats/.
 WORDS = 40
+WORDS_OF_README = 1000
 # Of these the commands are typed at a terminal, which is as wide as their lines are at most.
 AT_A_TERMINAL = [TOP / "docs/COURSE.md"]
 COLUMNS = 125
@@ -70,6 +72,15 @@ def files_of(text):
             yield path, block
 
 
+def is_shown(path, shown):
+    """Whether a file is as a document shows it, or has the lines that are shown as a part of it."""
+    file = TOP / path.removeprefix("part of ")
+    if not file.is_file() or file == TOP / path:
+        return file.is_file() and file.read_text() == shown
+    lines, part = ([line.strip() for line in text.splitlines()] for text in (file.read_text(), shown))
+    return any(lines[at : at + len(part)] == part for at in range(len(lines)))
+
+
 def install(folder):
     """Puts the script, the program and the examples into a folder, and returns where commands run."""
     top = folder / "top"
@@ -94,18 +105,21 @@ def written_by(command, shown, top, at_a_terminal=False):
 
 def try_begin(tally):
     """Looks whether what a newcomer types first is measured, and whether nothing is proved before the first answer."""
-    part = (TOP / "README.md").read_text().partition("\n## To begin\n")[2].partition("\n| If you |")[0]
+    text = (TOP / "README.md").read_text()
+    tally.expect(len(text.split()) <= WORDS_OF_README, "README.md has more words:", len(text.split()))
+    rows = (TOP / "docs/BUILDING.md").read_text()
     where = importlib.util.spec_from_file_location("first_call", FIRST_CALL)
     bench = importlib.util.module_from_spec(where)
     where.loader.exec_module(bench)
     measured = {call.replace("examples/devices.pb", "FILE") for calls in bench.CALLS.values() for call in calls}
-    typed = [re.split(" <<| [|] ", command)[0] for command, _ in commands_of(part)]
+    typed = [re.split(" <<| [|] ", command)[0] for command, _ in commands_of(text)]
     tally.expect("--unproved" in typed[0], "README.md: the first command proves something:", typed[0])
-    shown = [*typed[:1], *re.findall(r"^    (\S.*)$", part, re.M), *re.findall(r"^\| `([^`]*)`", part, re.M)]
-    tally.expect(len(shown) > 5, "README.md shows too few calls", shown)
+    tests = re.findall(r"^    (\S.*)$", BLOCK.sub("", text), re.M)
+    shown = [*typed[:1], *tests, *re.findall(r"^\| `(\./parbegin [^`]*)`", rows, re.M)]
+    tally.expect(len(tests) == 2 and len(shown) > 5, "too few first calls are shown", shown)
     for call in shown:
         is_measured = call.replace("examples/devices.pb", "FILE") in measured
-        tally.expect(is_measured, "README.md shows a first call that benches/first_call.py does not measure:", call)
+        tally.expect(is_measured, "a first call is shown that benches/first_call.py does not measure:", call)
 
 
 def try_counts(tally):
@@ -113,13 +127,13 @@ def try_counts(tally):
     crates = {tool: set(crates_below([tool])) for tool in COMMANDS_OF}
     counts = {f"parbegin-{tool} |": str(len(of_tool)) for tool, of_tool in crates.items()}
     counts |= {f"`./parbegin {command}`": str(len(crates[tool])) for command, tool in (("bank", "bank"), ("run FILE", "run"))}
-    behind = len(crates["search"] - crates["run"])
-    counts["`./parbegin outcomes FILE`"] = f"{len(crates['search'])}; behind `run` {behind}"
+    after = len(crates["search"] - crates["run"])
+    counts["`./parbegin outcomes FILE`"] = f"{len(crates['search'])}; after `run` {after}"
     counts["`./parbegin build`, all tools"] = str(len(set().union(*crates.values())))
+    text = (TOP / "docs/BUILDING.md").read_text()
     for row, count in counts.items():
-        document = TOP / ("docs/BUILDING.md" if row.startswith("parbegin-") else "README.md")
-        is_said = re.search(rf"^[|] {re.escape(row)}.*[|] {re.escape(count)} [|]", document.read_text(), re.M)
-        tally.expect(is_said, f"{document.name}: a row begins with {row} and has not {count} crates")
+        is_said = re.search(rf"^[|] {re.escape(row)}.*[|] {re.escape(count)} [|]", text, re.M)
+        tally.expect(is_said, f"docs/BUILDING.md: a row begins with {row} and has not {count} crates")
 
 
 def headings_of(document):
@@ -172,8 +186,7 @@ def main():
                 got = written_by(command, written, top, document in AT_A_TERMINAL)
                 tally.expect(got == written, f"{document.name}: `{command}` writes", *got)
             for path, shown in files_of(text):
-                is_same = (TOP / path).is_file() and (TOP / path).read_text() == shown
-                tally.expect(is_same, f"{document.name} shows {path} as it is not")
+                tally.expect(is_shown(path, shown), f"{document.name} shows {path} as it is not")
             for path in PATH.findall(text):
                 if "NAME" in path:
                     # (any crate or file)
