@@ -45,6 +45,7 @@ QUICK = (
     "checks/schedules.py",
     "checks/rooms.py",
     "checks/believed.py",
+    "checks/promises.py",
     "checks/wrong_bodies_apply.py",
     "checks/bodies_chosen.py",
 )
