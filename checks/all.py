@@ -46,6 +46,7 @@ QUICK = (
     "checks/rooms.py",
     "checks/believed.py",
     "checks/promises.py",
+    "checks/wording.py",
     "checks/wrong_bodies_apply.py",
     "checks/bodies_chosen.py",
 )

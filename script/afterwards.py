@@ -1,4 +1,4 @@
-"""What is said at a terminal behind a run: in which line a process faulted, or which processes had not ended."""
+"""What is said at a terminal after a run: in which line a process faulted, or which processes had not ended."""
 from __future__ import annotations
 
 import subprocess
@@ -35,7 +35,7 @@ def say_more(start: list[str], command: str, options: list[str], name: str, stat
 
 
 def say_of_picks(start: list[str], given: bytes, options: list[str], status: int) -> None:
-    """Says where processes faulted by the picks behind a text, or which had not ended."""
+    """Says where processes faulted by the picks after a text, or which had not ended."""
     # (no more than what the program has said is said of a file that was changed meanwhile, or of too many picks)
     with suppress(OSError, Refused, ValueError, IndexError):
         session = end_of(start, given, options)

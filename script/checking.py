@@ -19,7 +19,7 @@ from script.standard import drop_output
 FORMATS = ("text", "gcc", "json", "sarif")
 STANDARD_INPUT = "<stdin>"
 # So much is checked by one call at most: answers come while later files are read. A text of this length must not get a
-# line feed behind it, which would make it too long.
+# line feed after it, which would make it too long.
 MOST_TEXTS, MOST_BYTES, LONG_TEXT = 256, 1_000_000, 65_536
 
 
@@ -138,7 +138,7 @@ def groups(read: Iterable[Read]) -> Iterator[list[Read]]:
 
 
 def tell_text(name: str, answer: Answer) -> None:
-    """Writes the lines of an answer behind the name of its file, and its messages to standard error."""
+    """Writes the lines of an answer after the name of its file, and its messages to standard error."""
     out = sys.stdout
     out.writelines(f"{shown(name)}: {line}\n" for line in answer.lines)
     out.flush()

@@ -10,7 +10,7 @@ from script.tools import crate_of
 Crates = dict[str, list[str]]
 SOURCES = ("src", "specs", "proofs")
 # Minutes of a processor that each crate took as the gate proved all from nothing on 29 November 2026, on a host with
-# other work. The crates with the longest chain of minutes behind them start first. One that is not listed counts as one
+# other work. The crates with the longest chain of minutes after them start first. One that is not listed counts as one
 # minute.
 MINUTES = {
     "pb_accept": 1.7, "pb_adapter": 2.1, "pb_adapter_engine": 1, "pb_adapter_requests": 1.1, "pb_adapter_values": 1.8,

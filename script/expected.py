@@ -92,7 +92,7 @@ def circle_of(start: list[str], words: list[str], text: bytes) -> Circle | None:
 
 
 def prints_of(lines: list[str]) -> list[str]:
-    """Returns the lines behind a line `%%` that are to be printed."""
+    """Returns the lines after a line `%%` that are to be printed."""
     return [line for line in lines if not REQUIRES.match(line)]
 
 

@@ -40,14 +40,14 @@ class Words(NamedTuple):
 
 
 def takes_value(start: list[str], command: str, option: str) -> bool:
-    """Returns whether the option of a command has a value behind it, as the program's help says."""
+    """Returns whether the option of a command has a value after it, as the program's help says."""
     plain = [word for word in start if word != "--json"]
     ran = subprocess.run([*plain, command, "--help"], stdin=subprocess.DEVNULL, capture_output=True, check=False)
     return re.search(rf"{re.escape(option)}[ =]<", ran.stdout.decode(errors="replace")) is not None
 
 
 def sort_words(start: list[str], command: str, words: list[str]) -> Words:
-    """Says of each word whether it names a file. What is behind an option that has a value is that value."""
+    """Says of each word whether it names a file. What is after an option that has a value is that value."""
     sorted_words = Words([], [])
     for before, word in zip(["", *words], words):
         follows = before.startswith("--") and "=" not in before
@@ -175,7 +175,7 @@ def advice_on_prints(name: str, parts: list[bytes]) -> str | None:
     """Returns what is missing for `outcomes --expect`."""
     if len(parts) > 1:
         return None
-    return f"{name} has no line %% with the prints that are expected behind it: so none are"
+    return f"{name} has no line %% with the prints that are expected after it: so none are"
 
 
 def advice(command: str, words: list[str], name: str, given: bytes) -> str | None:
@@ -196,7 +196,7 @@ def advice(command: str, words: list[str], name: str, given: bytes) -> str | Non
     if command in OF_MESSAGES and given.strip() and not given.startswith(MESSAGE):
         return f"{name} holds no messages: an editor starts {command} and writes them; extras/README.md says how"
     if command in OF_PICKS and len(parts) == 1:
-        return f"{name} has no line %% with picks behind it: record writes a text with those of a run"
+        return f"{name} has no line %% with picks after it: record writes a text with those of a run"
     if command in OF_OBJECTS and not is_object(given) and given.strip():
         return f"{name} is no object, which begins with PBO: run runs a text, and emit writes its object"
     return None

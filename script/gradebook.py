@@ -59,7 +59,7 @@ def plain_name(name: str) -> str:
 
 
 def lines_of(grades: Iterable[Grade], names: list[str], as_csv: bool) -> Iterator[str]:
-    """Yields a line for each submission, as it comes: of CSV, of a table at a terminal, or its verdict behind its name."""
+    """Yields a line for each submission, as it comes: of CSV, of a table at a terminal, or its verdict after its name."""
     if as_csv:
         yield csv_line(["submission", "status", *COLUMNS[1:]])
         for it in grades:

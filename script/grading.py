@@ -23,7 +23,7 @@ HELP = """Judge the texts of a folder, each against one exercise
 Usage: parbegin grade [OPTIONS] FOLDER EXERCISE
 
 FOLDER has the submissions: all files below it whose names end in .pb. EXERCISE is a file with the lines that each run
-has to print, as `outcomes --expect` reads them behind a line %%, and before these any that require something of the text, as
+has to print, as `outcomes --expect` reads them after a line %%, and before these any that require something of the text, as
 `has a parbegin`. Lines before them that begin with // are comments, and one that begins so and goes on with an option has
 options of the exercise, as in `// --any-order`.
 
@@ -33,7 +33,7 @@ Options:
       --lend <WHO>   As for `outcomes --expect`
       --states <N>   As for `outcomes --expect`
       --jobs <N>     The most submissions that are judged side by side [default: one for each processor]
-      --csv          Write a line of CSV for each submission, behind a line with the names of the columns
+      --csv          Write a line of CSV for each submission, after a line with the names of the columns
       --html <FILE>  Write a report for a browser too, and a page of each run that is not as expected
   -h, --help         Print help
 

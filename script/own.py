@@ -16,7 +16,7 @@ BEFORE = ("--quiet", "--json", "help")
 
 
 class Own(NamedTuple):
-    """A call of such a command: the command, the words before it that say how, and the words behind it."""
+    """A call of such a command: the command, the words before it that say how, and the words after it."""
 
     command: str
     before: list[str]
@@ -28,7 +28,7 @@ def own_call(words: list[str]) -> Own | None:
     at = next((at for at, word in enumerate(words) if word not in BEFORE), len(words))
     if at == len(words) or words[at] not in MODULES or words[:at].count("help") > 1:
         return None
-    # (these may stand behind the command too)
+    # (these may stand after the command too)
     behind = [word for word in words[at + 1 :] if word in BEFORE[:2]]
     return Own(words[at], words[:at] + behind, [word for word in words[at + 1 :] if word not in BEFORE[:2]])
 

@@ -29,7 +29,7 @@ class Picks:
         return self.arms[bisect_right(self.starts, pick) - 1]
 
     def end_of(self, run: int) -> int:
-        """Returns the number of the first pick behind a run of one arm."""
+        """Returns the number of the first pick after a run of one arm."""
         return self.starts[run + 1] if run + 1 < len(self.starts) else self.total
 
     def last_of(self, arm: str, before: int, count: int) -> list[int] | None:

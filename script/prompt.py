@@ -96,7 +96,7 @@ class Prompt(Completion, cmd.Cmd):
         """Remembers a move, which an empty line makes once more, and tells of its picks."""
         before, self.last_move = self.session.position, line
         if self.session.move(command) is None:
-            self.say({"next": "no event behind this position", "prev": "no event before this position"}.get(
+            self.say({"next": "no event after this position", "prev": "no event before this position"}.get(
                 command, "it does not come there in the picks that follow"))
             return
         self.tell_from(before)
@@ -188,7 +188,7 @@ class Prompt(Completion, cmd.Cmd):
         """Carries out `pick P.a`."""
         total = self.session.picks.total
         if self.session.position != total:
-            raise Mistake(f"a pick is tried behind the last one: `to {total}` goes there")
+            raise Mistake(f"a pick is tried after the last one: `to {total}` goes there")
         arm = self.arm(words)
         place = self.session.places(arm.split(".")[0])[arm]
         if isinstance(place, str):

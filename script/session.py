@@ -107,7 +107,7 @@ class Session:
         return [first, *(self.read() for _ in range(count - 1))]
 
     def move(self, command: str) -> str | None:
-        """Makes a move, and returns what is told behind the new position, or nothing if there is no such position."""
+        """Makes a move, and returns what is told after the new position, or nothing if there is no such position."""
         answer = self.ask(command)
         at, _, told = answer.removeprefix("at ").partition(" ")
         if not answer.startswith("at "):
@@ -146,7 +146,7 @@ class Session:
         return self.integers(process)[integer]
 
     def changes(self, process: str, integer: str, first: int, last: int) -> Iterator[int]:
-        """Yields the positions behind the first one and up to the last just behind which a pick changed an integer, the
+        """Yields the positions after the first one and up to the last just after which a pick changed an integer, the
         last first."""
         at = last
         while True:

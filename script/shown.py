@@ -6,7 +6,7 @@ from collections.abc import Iterator
 from script.happenings import Teller
 from script.session import Session
 
-# A text of more lines is shown around its arms, with so many lines before and behind.
+# A text of more lines is shown around its arms, with so many lines before and after.
 MOST_LINES, AROUND = 40, 3
 
 

@@ -12,7 +12,7 @@ from script.kit import rt_path
 from script.places import TOP, is_installed, say, stop
 from script.tools import any_tool, command_of, crate_of, tool_of
 
-# How the lines begin that a trial run writes to standard error behind those of the program, before its last one.
+# How the lines begin that a trial run writes to standard error after those of the program, before its last one.
 LINES_OF_A_TRIAL = ("checked: ", "races: ")
 UNPROVED = (
     "this is not the proved program: the sources of {} are compiled with no proof, and run once"
@@ -38,7 +38,7 @@ def tried(tool: str, words: list[str]) -> str:
 
 
 def messages_of(told: str) -> list[str]:
-    """Returns the lines that the program wrote, without those of the trial run behind them."""
+    """Returns the lines that the program wrote, without those of the trial run after them."""
     lines = told.splitlines()[:-1]
     while lines and lines[-1].startswith(LINES_OF_A_TRIAL):
         lines.pop()

@@ -21,7 +21,7 @@ HEAD = "No tool is built yet, so this is of the manual page. `./parbegin --unpro
 def plain(line: str) -> str:
     """Returns a line of the manual page without what says how it is set."""
     found = LETTERS.fullmatch(line)
-    # (words in quotation marks, and those behind them, stand together)
+    # (words in quotation marks, and those after them, stand together)
     words = re.sub(r'"([^"]*)" ?', r"\1", found[1]) if found else line
     return re.sub(" +", " ", words.replace("\\-", "-").replace("\\&", ""))
 

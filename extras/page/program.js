@@ -1,8 +1,8 @@
 "use strict";
 // The page of a program: a recorded run to go along, and all schedules to walk through.
 //
-// It shows what the program `parbegin` has written (docs/formats/pictures.md, "Documents for a page"), and works nothing out
-// about a program: what is enabled, what a pick changes, why an arm waits and how the banker can finish is in the data.
+// It shows what the program `parbegin` has written (docs/formats/pictures.md, "Documents for a page"). What is enabled, what a
+// pick changes, why an arm waits and how the banker can finish is in the data; words.js computes in words what a pick does.
 //
 // A state is a list. With A arms in all, numbered process by process, its entries are
 //   A places      the place of each arm's next instruction, or IDLE, ENDED or FAULTED
