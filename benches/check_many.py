@@ -15,7 +15,7 @@ import tempfile
 from pathlib import Path
 from time import perf_counter
 
-sys.path.insert(0, str(Path(__file__).resolve().parent.parent / "checks"))
+sys.path.insert(0, str(Path(__file__).resolve().parent.parent / "checks/lib"))
 from calls import installed  # noqa: E402
 
 PLANS, JOBS, ROUNDS = 1_000, 12, 5

@@ -4,11 +4,12 @@
     benches/first_call.py [NAME ..]     the names of CALLS; of several calls under a name only the last is measured, behind
                                         the others; `gate` only if it is named, all others if none is
 
-Each is measured in a clone of its own, by an `rt` that finds nothing of what the kit keeps on this machine. For that `rt` has
-no option and no variable: it keeps its files beside the folder of the kit that its own file is in. So each clone has
-a kit of its own, of links to the files of the kit and copies of `rt`, and what is kept is gone with the clone. With
-each figure it prints the median of the milliseconds that the loop of gate_minutes.py takes meanwhile, so that a slow or a
-busy host is seen. The first code block of README.md and the first calls of docs/BUILDING.md are such calls, as checks/documents.py compares.
+Each is measured in a clone of its own, by an `rt` that finds nothing of what the kit keeps on this machine. For that
+`rt` has no option and no variable: it keeps its files beside the folder of the kit that its own file is in. So each
+clone has a kit of its own, of links to the files of the kit and copies of `rt`, and what is kept is gone with the
+clone. With each figure it prints the median of the milliseconds that the loop of gate_minutes.py takes meanwhile, so
+that a slow or a busy host is seen. The first code block of README.md and the first calls of docs/BUILDING.md are such
+calls, as checks/quick/documents.py compares.
 """
 from __future__ import annotations
 

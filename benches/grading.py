@@ -17,7 +17,7 @@ from pathlib import Path
 from time import perf_counter
 
 TOP = Path(__file__).resolve().parent.parent
-sys.path.insert(0, str(TOP / "checks"))
+sys.path.insert(0, str(TOP / "checks/lib"))
 from calls import installed  # noqa: E402
 
 TEXTS, ROUNDS = 100, 3

@@ -26,11 +26,13 @@ from collections import Counter
 from pathlib import Path
 from typing import NamedTuple
 
-from bodies import TOP, crates, others_of, read_record, sum_of
-from benches.gate_minutes import loop
-from script.crates import MINUTES
-from script.kept import take_libraries
-from wrong_bodies import LET_THROUGH, UNTRIED, copy_crates, told_counts, try_crate
+sys.path.insert(0, str(Path(__file__).resolve().parent / "lib"))
+
+from bodies import TOP, crates, others_of, read_record, sum_of  # noqa: E402
+from benches.gate_minutes import loop  # noqa: E402
+from script.crates import MINUTES  # noqa: E402
+from script.kept import take_libraries  # noqa: E402
+from wrong_bodies import LET_THROUGH, UNTRIED, copy_crates, told_counts, try_crate  # noqa: E402
 
 # The minutes in which the tries have to end, since the gate began.
 CLOCK, PROCESSORS = 150.0, 190.0

@@ -11,16 +11,18 @@ status is 0 if all is as wanted, and 1 if not.
 import re
 import sys
 import textwrap
-from pathlib import PurePath
+from pathlib import Path, PurePath
 
-from calls import KINDS, TOP, constant
+sys.path.insert(0, str(Path(__file__).resolve().parent / "lib"))
+
+from calls import KINDS, TOP, constant  # noqa: E402
 
 FOLDER = TOP / "examples"
 EXPECTED = FOLDER / "expected"
 TESTS = TOP / "crates/pb_engine_tests/src/examples"
 TEXTS = TOP / "crates/pb_example_texts/src"
 STATUSES = {0: "Done", 1: "Refused", 2: "Words", 3: "Limit", 4: "Fault", 5: "Memory", 6: "Device", 7: "Threads", 9: "Deadlock", 10: "Unexpected"}
-# A longer input is left to checks/examples.py: pb_tests makes texts of that length itself.
+# A longer input is left to checks/quick/examples.py: pb_tests makes texts of that length itself.
 LONGEST = 6_000
 # A constant has at most 10,000 parts, of which each byte of a text is one.
 LARGEST = 9_000

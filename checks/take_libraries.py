@@ -12,8 +12,9 @@ import sys
 from pathlib import Path
 
 TOP = Path(__file__).resolve().parent.parent
-sys.path.insert(0, str(TOP))
+sys.path[:0] = [str(TOP / "checks/lib"), str(TOP)]
 sys.dont_write_bytecode = True
+
 from script.kept import KEPT_LIBRARIES, kept  # noqa: E402
 from bodies import crates  # noqa: E402
 

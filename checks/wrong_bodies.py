@@ -28,8 +28,10 @@ from collections import Counter
 from collections.abc import Callable, Iterator
 from pathlib import Path
 
-from bodies import TOP, crates, edits_of, record, sum_of
-from script.kept import take_libraries
+sys.path.insert(0, str(Path(__file__).resolve().parent / "lib"))
+
+from bodies import TOP, crates, edits_of, record, sum_of  # noqa: E402
+from script.kept import take_libraries  # noqa: E402
 
 # What rt says of an edit, and how it begins to say each of what an edit can come to.
 TOLD = re.compile(r"rt: must-fail (\w+)/([\w.-]+)\.edit: (.*)")

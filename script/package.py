@@ -37,7 +37,8 @@ CONTENTS = (
     ("extras/library/*.c", "share/doc/parbegin/extras/library"), ("extras/library/*.stdout", "share/doc/parbegin/extras/library"),
     ("extras/python", "share/doc/parbegin/extras"), ("extras/rust", "share/doc/parbegin/extras"),
     ("crates/pb_example_[bp]*", "share/doc/parbegin/crates"), ("crates/pb_c_bank/specs", "share/doc/parbegin/crates/pb_c_bank"),
-    ("checks/languages*", "share/doc/parbegin/checks"), ("checks/python_bank.py", "share/doc/parbegin/checks"),
+    ("checks/languages", "share/doc/parbegin/checks"), ("checks/slow/languages.py", "share/doc/parbegin/checks/slow"),
+    ("checks/slow/python_bank.py", "share/doc/parbegin/checks/slow"),
 )
 NO_CONTENTS = ("out", "target", "__pycache__", "*.pyc")
 CONTROL = """Package: parbegin

@@ -5,7 +5,7 @@ import os
 
 from script.places import TOP, is_installed
 
-# The commands of each tool. tools.sh has the same table, and checks/tools.py compares both with what the tools answer.
+# The commands of each tool. tools.sh has the same table, and checks/quick/tools.py compares both with what the tools answer.
 COMMANDS_OF = {
     "bank": ("bank",),
     "run": ("check", "claims", "emit", "exec", "explain", "migrate", "record", "replay", "run"),
