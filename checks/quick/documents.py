@@ -12,7 +12,7 @@ with the script, as it is installed, and the examples; `--unproved` is left out,
 written. A block that names a language and a path behind its opening backquotes, as in "rust crates/NAME/src/main.rt",
 shows a file, and has to be that file. A path is a word of a document, in backquotes or not, that begins with the name
 of a folder at the top of the repository. A link has to lead to a file and a heading in it, and a heading that is named,
-as in docs/NAME.md, "Heading", or its first words, has to be there. No cell of a table in docs/formats/ has more than 40
+as in docs/NAME.md, "Heading", or its first words, has to be there. No cell of a table of the formats has more than 40
 words. A block whose label has `part of` before the path shows lines of that file, whose indent does not matter.
 README.md has at most 1,000 words. The first call that it shows, the tests that it names, and the first calls in
 docs/BUILDING.md have to be measured by benches/first_call.py, and the counts of crates in docs/BUILDING.md have to be
@@ -197,7 +197,7 @@ def main():
                     continue
                 tally.expect(is_there(path), f"{document.name}: there is no {path}")
             try_links(tally, document)
-            if document.parent.name == "formats":
+            if document.parent.name == "formats" or document.name == "FORMATS.md":
                 try_cells(tally, document)
     try_begin(tally)
     try_counts(tally)
