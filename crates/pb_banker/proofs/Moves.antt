@@ -112,7 +112,37 @@ others_than-all n order p all l =
     (IsPermutation-trans (range_with_len 0 n) (cut.before ++ p ∷ cut.after) (p ∷ (cut.before ++ cut.after))
     (subst (λ (ys : List ℕ). IsPermutation (range_with_len 0 n) ys) whole all) (IsPermutation-middle cut.before p cut.after))
 
--- ---- p moved behind all others
+-- ---- p moved to the front, and behind all others
+
+pub moved_to_front : (n : ℕ) (order : List ℕ) (p k : ℕ) (front : List ℕ) → IsCutAt n order p k → n ≤ length order
+    → front ≡ drop k (take (k + 1) order) ++ take k (take (k + 1) order)
+    → take n (front ++ drop (k + 1) order) ≡ p ∷ others_than p (take n order)
+moved_to_front n order p k front cut long is =
+    let b : List ℕ = cut.before in
+    let a : List ℕ = cut.after in
+    let r : List ℕ = drop n order in
+    let w : List ℕ = cut.before ++ p ∷ [] in
+    let lw : length (cut.before ++ p ∷ []) ≡ k + 1 = length-append cut.before (p ∷ []) ∙ ap (λ (m : ℕ). m + 1) cut.place in
+    let up : take (k + 1) order ≡ cut.before ++ p ∷ [] =
+    ap (take (k + 1)) cut.split ∙ take_at (cut.before ++ p ∷ []) (cut.after ++ drop n order) (k + 1) lw in
+    let down : drop (k + 1) order ≡ cut.after ++ drop n order =
+    ap (drop (k + 1)) cut.split ∙ drop_at (cut.before ++ p ∷ []) (cut.after ++ drop n order) (k + 1) lw in
+    let turned : front ≡ p ∷ cut.before =
+    is ∙ ap (λ (ys : List ℕ). drop k ys ++ take k ys) up
+    ∙ ap (λ (ys : List ℕ). ys ++ take k (cut.before ++ p ∷ [])) (drop_at cut.before (p ∷ []) k cut.place)
+    ∙ ap (λ (ys : List ℕ). p ∷ ys) (take_at cut.before (p ∷ []) k cut.place) in
+    let len : length (p ∷ (cut.before ++ cut.after)) ≡ n =
+    (let e = length-append cut.before cut.after in
+    let f = length-append cut.before (p ∷ cut.after) in
+    let g : length (take n order) ≡ length (cut.before ++ p ∷ cut.after) = ap length cut.whole in
+    let m = length-take-le n order long in
+    omega (arith, e, f, g, m)) in
+    ap (λ (ys : List ℕ). take n (ys ++ drop (k + 1) order)) turned
+    ∙ ap (λ (ys : List ℕ). take n ((p ∷ cut.before) ++ ys)) down
+    ∙ ap (take n) (sym (append_assoc (p ∷ cut.before) cut.after (drop n order)))
+    ∙ take_at (p ∷ (cut.before ++ cut.after)) (drop n order) n len
+    ∙ ap (λ (ys : List ℕ). p ∷ ys)
+    (sym (others_than-cut p cut.before cut.after cut.none_before cut.none_after) ∙ ap (others_than p) (sym cut.whole))
 
 pub moved_to_back : (n : ℕ) (order : List ℕ) (p k : ℕ) (back : List ℕ) → IsCutAt n order p k → n ≤ length order
     → back ≡ drop 1 (take (n - k) (drop k order)) ++ take 1 (take (n - k) (drop k order))

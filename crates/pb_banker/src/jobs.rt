@@ -34,7 +34,7 @@ pub fn no_rows(capital: &Capital) -> Accounts
 }
 
 /// Gives a slot these claims. The newcomer comes last in the order.
-pub fn enter(accounts: &mut Accounts, order: &mut [u8; MAX_PROCESSES], p: usize, claims: &[u32])
+fn enter(accounts: &mut Accounts, order: &mut [u8; MAX_PROCESSES], p: usize, claims: &[u32])
     requires sound { IsSound accounts.old }
     requires finishes { Finishes (state_of accounts.old) (take accounts.old.processes order.old) }
     requires newcomer { MayJoin (state_of accounts.old) p claims.now }

@@ -22,6 +22,17 @@ pub fn place_of(order: &[u8; MAX_PROCESSES], count: usize, p: usize) -> usize
     count
 }
 
+/// Moves a process before all others of an order, which stay as they were.
+pub fn move_to_front(order: &mut [u8; MAX_PROCESSES], count: usize, p: usize)
+    requires few { count ≤ MAX_PROCESSES }
+    requires process { p < count }
+    requires everyone { IsPermutation (range_with_len 0 count) (take count order.old) }
+    ensures { take count order.new ≡ p ∷ others_than p (take count order.old) }
+{
+    let place = place_of(order, count, p);
+    order[..place + 1].rotate_right(1);
+}
+
 /// Puts a process after all others of an order, which stay as they were. It is moved if it has a place.
 pub fn put_last(order: &mut [u8; MAX_PROCESSES], count: usize, p: usize)
     requires few { count ≤ MAX_PROCESSES }
