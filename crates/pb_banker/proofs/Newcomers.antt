@@ -1,23 +1,24 @@
--- A newcomer keeps the state safe: he can be last.
-use Rattle.std.proofs.Common.{◌≡◌, ◌≢◌, ℕ, zero, suc, ◌+◌, ◌-◌, ◌<◌, ◌≤◌, List, [], ◌∷◌, ◌++◌, length, get_or, take, drop}
+-- A newcomer keeps the state safe, since he can be last; and who leaves can stay where he is.
+use Rattle.std.proofs.Common.{◌≡◌, ◌≢◌, ℕ, zero, suc, ◌+◌, ◌-◌, ◌<◌, ◌≤◌, Bool, not, List, [], ◌∷◌, ◌++◌, length, get_or}
 use Rattle.std.proofs.Common.{arith, sym, ap, subst, ◌∙◌, refl, inl, inr, replicate}
-use Rattle.std.specs.Prelude.{Contains}
+use Rattle.std.specs.Prelude.{nat_eq}
 use Rattle.std.specs.List.{range_with_len}
 use Rattle.std.specs.List.Sorted.{IsPermutation}
 use Rattle.std.proofs.lemmas.Bool.{cases_eq, cases_lt, eq-eqb}
 use Rattle.std.proofs.lemmas.Bool.Decides.{eqb_tells}
-use Rattle.std.proofs.lemmas.List.{take-append-drop, drop_more, length-replicate, get_or-replicate, get_or_past}
-use Rattle.std.proofs.lemmas.List.Sums.{sum_by-cons, sum_by-append, sum_by_push}
-use Rattle.std.proofs.lemmas.List.Sorted.{IsPermutation-middle, IsPermutation-trans, IsPermutation-append_left, IsPermutation-append_comm}
-use Rattle.std.proofs.lemmas.List.Sorted.{Contains-permutation, sum_by-IsPermutation}
+use Rattle.std.proofs.lemmas.List.{length-replicate, get_or-replicate, get_or_past}
+use Rattle.std.proofs.lemmas.List.Sums.{sum_by-cons, sum_by_push}
+use Rattle.std.proofs.lemmas.List.Sorted.{IsPermutation-trans, IsPermutation-append_left, IsPermutation-append_comm}
 use Rattle.pb_base.specs.Banker.{BankerState, capital, claim, loan, row_of, processes, resources, everyone, held_by, cash}
-use Rattle.pb_base.specs.Banker.{Finishes, IsSafe, IsWellFormed}
+use Rattle.pb_base.specs.Banker.{Finishes, IsWellFormed}
 use Rattle.pb_base.proofs.Tails.{EachTail}
-use Rattle.pb_base.proofs.Groups.{mark, times, times-none, times-range, sum_by-same_on}
+use Rattle.pb_base.proofs.Groups.{mark, times, times-none, sum_by-same_on}
 use Rattle.pb_base.proofs.BankerLaws.{order_below}
 use Rattle.pb_base.proofs.Safety.{FitsBefore, Finishes-tails, Finishes-from_tails}
 use Rattle.pb_banker.specs.Jobs.{put_row, joined, MayJoin, NewcomersStaySafe}
-use Rattle.pb_banker.proofs.SetMembers.{Contains-range}
+use Rattle.pb_banker.specs.Askers.{others_than}
+use Rattle.pb_banker.proofs.Moves.{others_than-all, others_than-none}
+use Rattle.pb_banker.proofs.Parts.{part_tails, part_times}
 use Rattle.pb_banker.proofs.WaitingCounts.{range-push}
 
 -- ---- a table with another row
@@ -50,33 +51,6 @@ zeros_at n r =
       | inl l ↦ get_or-replicate {A = ℕ} n r 0 0 l
       | inr l ↦ get_or_past (replicate {A = ℕ} n 0) r 0 (let e = length-replicate {A = ℕ} n 0 in omega (arith, e, l))
     ]
-
--- ---- an order without one process
-
--- p occurs once in an order, so neither before nor after itself
-once_in : (s : BankerState) (before : List ℕ) (p : ℕ) (after : List ℕ) → IsPermutation (everyone s) (before ++ p ∷ after)
-    → (times p before ≡ 0) × (times p after ≡ 0)
-once_in s before p after all =
-    let once : times p (everyone s) ≤ 1 = times-range p 0 (processes s) in
-    let same : times p (before ++ p ∷ after) ≡ times p (everyone s) = sum_by-IsPermutation (mark p) (everyone s) (before ++ p ∷ after) all in
-    let split : times p (before ++ p ∷ after) ≡ times p before + times p (p ∷ after) = sum_by-append (mark p) before (p ∷ after) in
-    let cons : times p (p ∷ after) ≡ mark p p + times p after = sum_by-cons (mark p) p after in
-    let one : mark p p ≡ 1 = rw (eq-eqb p p refl) refl in
-    (omega (arith, once, same, split, cons, one), omega (arith, once, same, split, cons, one))
-
--- those before p fit also without p
-without_tails : (s : BankerState) (p : ℕ) (after before : List ℕ) → EachTail (FitsBefore s) (before ++ p ∷ after)
-    → EachTail (FitsBefore s) (before ++ after)
-without_tails s p after [] h = h.1
-without_tails s p after (x ∷ xs) h = (
-  λ r lr.
-      (let old : claim s x r + held_by s (xs ++ p ∷ after) r ≤ capital s r = h.0 r lr in
-      let a : held_by s (xs ++ p ∷ after) r ≡ held_by s xs r + held_by s (p ∷ after) r = sum_by-append (λ q. loan s q r) xs (p ∷ after) in
-      let b : held_by s (p ∷ after) r ≡ loan s p r + held_by s after r = sum_by-cons (λ q. loan s q r) p after in
-      let d : held_by s (xs ++ after) r ≡ held_by s xs r + held_by s after r = sum_by-append (λ q. loan s q r) xs after in
-      omega (arith, old, a, b, d)),
-  without_tails s p after xs h.1,
-)
 
 -- ---- the state with a newcomer
 
@@ -216,59 +190,68 @@ module _ (s : BankerState) (good : IsWellFormed s) (p : ℕ) (claims : List ℕ)
         last_tails xs rest h.1,
       )
 
-  stays_safe : (order : List ℕ) → Finishes s order → IsSafe (joined s p claims)
-  stays_safe order h =
+  pub last_finishes : (order : List ℕ) → Finishes s order → Finishes (joined s p claims) (others_than p order ++ p ∷ [])
+  last_finishes order h =
       let n = many_joined in
       let slot = may.slot in
-      let tails = Finishes-tails s order good.lent h in
-      elim (cases_lt p (processes s)) [
+      let others : ℕ → Bool = λ q. not (nat_eq q p) in
+      let none : times p (others_than p order) ≡ 0 = part_times (λ q. not (nat_eq q p)) p (ap not (eq-eqb p p refl)) order in
+      let tails : EachTail (FitsBefore s) (others_than p order) =
+      part_tails s (λ q. not (nat_eq q p)) order (Finishes-tails s order good.lent h) in
+      Finishes-from_tails (joined s p claims) (others_than p order ++ p ∷ []) IsWellFormed-joined.lent
+      (elim (cases_lt p (processes s)) [
         | inl l ↦
             (let same : everyone (joined s p claims) ≡ everyone s =
             ap (λ (m : ℕ). range_with_len 0 m) (let e : processes (joined s p claims) ≡ processes s = omega (arith, n, l) in e) in
-            let at : Contains order p = Contains-permutation (everyone s) order p h.everyone (Contains-range (processes s) p l) in
-            let before : List ℕ = take at.0 order in
-            let after : List ℕ = drop (at.0 + 1) order in
-            let cut : drop at.0 order ≡ p ∷ drop (at.0 + 1) order =
-            drop_more order at.0 p at.1 ∙ ap (λ (q : ℕ). q ∷ drop (at.0 + 1) order) at.2 in
-            let split : take at.0 order ++ p ∷ drop (at.0 + 1) order ≡ order =
-            ap (λ (ys : List ℕ). take at.0 order ++ ys) (sym cut) ∙ take-append-drop at.0 order in
-            let parts : IsPermutation (everyone s) (take at.0 order ++ p ∷ drop (at.0 + 1) order) =
-            subst (λ (ys : List ℕ). IsPermutation (everyone s) ys) (sym split) h.everyone in
-            let once = once_in s (take at.0 order) p (drop (at.0 + 1) order) parts in
-            let rest : EachTail (FitsBefore s) (take at.0 order ++ drop (at.0 + 1) order) =
-            without_tails s p (drop (at.0 + 1) order) (take at.0 order)
-            (subst (λ (ys : List ℕ). EachTail (FitsBefore s) ys) (sym split) tails) in
-            let none : times p (take at.0 order ++ drop (at.0 + 1) order) ≡ 0 =
-            (let e = sum_by-append (mark p) (take at.0 order) (drop (at.0 + 1) order) in
-            let e0 = once.0 in
-            let e1 = once.1 in
-            omega (arith, e, e0, e1)) in
-            let moved : IsPermutation (everyone s) ((take at.0 order ++ drop (at.0 + 1) order) ++ p ∷ []) =
-            IsPermutation-trans (everyone s) (p ∷ (take at.0 order ++ drop (at.0 + 1) order)) ((take at.0 order ++ drop (at.0 + 1) order) ++ p ∷ [])
-            (IsPermutation-trans (everyone s) (take at.0 order ++ p ∷ drop (at.0 + 1) order) (p ∷ (take at.0 order ++ drop (at.0 + 1) order))
-            parts (IsPermutation-middle (take at.0 order) p (drop (at.0 + 1) order)))
-            (IsPermutation-append_comm (p ∷ []) (take at.0 order ++ drop (at.0 + 1) order)) in (
-              (take at.0 order ++ drop (at.0 + 1) order) ++ p ∷ [],
-              Finishes-from_tails (joined s p claims) ((take at.0 order ++ drop (at.0 + 1) order) ++ p ∷ []) IsWellFormed-joined.lent
-                  (subst (λ (ys : List ℕ). IsPermutation ys ((take at.0 order ++ drop (at.0 + 1) order) ++ p ∷ [])) (sym same) moved)
-                  (last_tails (take at.0 order ++ drop (at.0 + 1) order) none rest),
-            ))
+            subst (λ (ys : List ℕ). IsPermutation ys (others_than p order ++ p ∷ [])) (sym same)
+            (IsPermutation-trans (everyone s) (p ∷ others_than p order) (others_than p order ++ p ∷ [])
+            (others_than-all (processes s) order p h.everyone l)
+            (IsPermutation-append_comm (p ∷ []) (others_than p order))))
         | inr l ↦
             (let at : p ≡ processes s = omega (arith, slot, l) in
             let e : processes (joined s p claims) ≡ suc (processes s) = omega (arith, n, at) in
             let z : 0 + processes s ≡ p = omega (arith, at) in
             let push : everyone (joined s p claims) ≡ everyone s ++ p ∷ [] =
             ap (λ (m : ℕ). range_with_len 0 m) e ∙ range-push 0 (processes s) ∙ ap (λ (m : ℕ). range_with_len 0 (processes s) ++ m ∷ []) z in
-            let none : times p order ≡ 0 =
+            let out : times p order ≡ 0 =
             times-none p order (λ k d i is. (let b = order_below s order h.everyone k d i in absurd (omega (arith, b, is, at)))) in
-            let all : IsPermutation (everyone s ++ p ∷ []) (order ++ p ∷ []) = IsPermutation-append_left (p ∷ []) (everyone s) order h.everyone in (
-              order ++ p ∷ [],
-              Finishes-from_tails (joined s p claims) (order ++ p ∷ []) IsWellFormed-joined.lent
-                  (subst (λ (ys : List ℕ). IsPermutation ys (order ++ p ∷ [])) (sym push) all)
-                  (last_tails order none tails),
-            ))
-      ]
+            subst (λ (ys : List ℕ). IsPermutation ys (others_than p order ++ p ∷ [])) (sym push)
+            (subst (λ (ys : List ℕ). IsPermutation (everyone s ++ p ∷ []) (ys ++ p ∷ [])) (sym (others_than-none p order out))
+            (IsPermutation-append_left (p ∷ []) (everyone s) order h.everyone)))
+      ])
+      (last_tails (others_than p order) none tails)
+
+  -- ---- who claims nothing can stay where he is
+
+  kept_tails : ((r : ℕ) → r < resources s → get_or claims r 0 ≡ 0) → (xs : List ℕ) → EachTail (FitsBefore s) xs
+      → EachTail (FitsBefore (joined s p claims)) xs
+  kept_tails nothing [] h = tt
+  kept_tails nothing (x ∷ xs) h = (
+    λ r lr.
+        (let old : claim s x r + held_by s xs r ≤ capital s r = h.0 r lr in
+        let held = held-joined xs r lr in
+        elim (cases_eq x p) [
+          | inl e ↦
+              (let a : claim (joined s p claims) x r ≡ get_or claims r 0 = ap (λ (q : ℕ). claim (joined s p claims) q r) e ∙ claim-joined r in
+              let b = nothing r lr in
+              omega (arith, old, held, a, b))
+          | inr ne ↦ (let a = claim-joined_other x r ne in omega (arith, old, held, a))
+        ]),
+    kept_tails nothing xs h.1,
+  )
+
+  pub kept_finishes : ((r : ℕ) → r < resources s → get_or claims r 0 ≡ 0) → p < processes s → (order : List ℕ)
+      → Finishes s order → Finishes (joined s p claims) order
+  kept_finishes nothing l order h =
+      let n = many_joined in
+      let same : everyone (joined s p claims) ≡ everyone s =
+      ap (λ (m : ℕ). range_with_len 0 m) (let e : processes (joined s p claims) ≡ processes s = omega (arith, n, l) in e) in
+      Finishes-from_tails (joined s p claims) order IsWellFormed-joined.lent
+      (subst (λ (ys : List ℕ). IsPermutation ys order) (sym same) h.everyone)
+      (kept_tails nothing order (Finishes-tails s order good.lent h))
 
 pub newcomers_stay_safe : NewcomersStaySafe
-newcomers_stay_safe s good p claims may safe =
-    (IsWellFormed-joined s good p claims may, stays_safe s good p claims may safe.0 safe.1)
+newcomers_stay_safe s good p claims may safe = (
+  IsWellFormed-joined s good p claims may,
+  (others_than p safe.0 ++ p ∷ [], last_finishes s good p claims may safe.0 safe.1),
+)

@@ -4,14 +4,17 @@ use Rattle.std.proofs.Common.{sym, ap, subst, ◌∙◌, inl, inr, replicate}
 use Rattle.std.proofs.lemmas.Bool.{cases_eq, cases_lt}
 use Rattle.std.proofs.lemmas.List.{ext_get_or, length-set, get_or-set_same, get_or-set_other, take-set, drop-set-lt}
 use Rattle.std.proofs.lemmas.List.{get_or-map, length-replicate, take-replicate}
-use Rattle.pb_base.specs.Banker.{BankerState, row_of, processes, resources, cash, IsSafe, IsLeastFirst}
+use Rattle.pb_base.specs.Banker.{BankerState, row_of, processes, resources, cash, Finishes, IsSafe, IsLeastFirst}
 use Rattle.pb_base.specs.Banker.{IsWellFormed, without_loans}
 use Rattle.pb_banker.specs.declared.accounts.Accounts.{Accounts}
 use Rattle.pb_banker.specs.Accounts.{state_of, corner, IsSound}
+use Rattle.pb_banker.specs.Askers.{others_than}
 use Rattle.pb_banker.specs.Jobs.{put_row, joined, left, MayJoin}
+use Rattle.pb_banker.proofs.KeptOrders.{Finishes-without_loans}
 use Rattle.pb_banker.proofs.TableCorners.{row_of-corner, length-corner}
 use Rattle.pb_banker.proofs.TableCells.{processes_of, resources_of}
-use Rattle.pb_banker.proofs.Newcomers.{length-put_row, row-put_row_same, row-put_row_other, cash-joined, IsWellFormed-joined, newcomers_stay_safe, zeros_at}
+use Rattle.pb_banker.proofs.Newcomers.{length-put_row, row-put_row_same, row-put_row_other, cash-joined, IsWellFormed-joined, zeros_at}
+use Rattle.pb_banker.proofs.Newcomers.{many_joined, last_finishes, kept_finishes}
 
 abbrev pub seated : Accounts → ℕ → ℕ → List ℕ → List ℕ → Accounts
 seated a n p row none = record a { processes = n; claims = set a.claims p row; loans = set a.loans p none }
@@ -110,10 +113,22 @@ found_least a safe n order few found short =
           subst (λ (k : ℕ). IsLeastFirst (state_of a) (take k order)) e (found e))
     ]
 
-pub safe_seated : (a b : Accounts) (p : ℕ) (claims : List ℕ) → IsSound a → IsSafe (state_of a) → MayJoin (state_of a) p claims
-    → state_of b ≡ joined (state_of a) p claims → IsSafe (state_of b)
-safe_seated a b p claims h safe may is =
-    subst IsSafe (sym is) (newcomers_stay_safe (state_of a) h.well_formed p claims may safe).1
+-- a newcomer who comes last
+pub finishes_seated : (a b : Accounts) (p : ℕ) (claims order next : List ℕ) → IsSound a → IsSound b
+    → Finishes (state_of a) (take a.processes order) → MayJoin (state_of a) p claims → state_of b ≡ joined (state_of a) p claims
+    → take (p + 1 + (a.processes - (p + 1))) next ≡ others_than p (take a.processes order) ++ p ∷ []
+    → Finishes (state_of b) (take b.processes next)
+finishes_seated a b p claims order next h g f may is last =
+    let many : b.processes ≡ p + 1 + (a.processes - (p + 1)) =
+    (let e = processes_of a h in
+    let d = processes_of b g in
+    let n : processes (state_of b) ≡ processes (joined (state_of a) p claims) = ap processes is in
+    let m = many_joined (state_of a) h.well_formed p claims may in
+    omega (arith, e, d, n, m)) in
+    subst (λ (s : BankerState). Finishes s (take b.processes next)) (sym is)
+    (subst (λ (xs : List ℕ). Finishes (joined (state_of a) p claims) xs)
+    (sym (ap (λ (m : ℕ). take m next) many ∙ last))
+    (last_finishes (state_of a) h.well_formed p claims may (take a.processes order) f))
 
 -- ---- leaving
 
@@ -150,15 +165,44 @@ may_leave s p claims good l is =
           ∙ get_or-map (λ _. 0) (row_of s.loans p) r 0 0 (omega (arith, w, lr)));
     }
 
--- the tables after all is taken back, and then the claims
-pub left_is : (a b x : Accounts) → IsSound a → IsSound b → (p : ℕ) → state_of b ≡ without_loans (state_of a) p
-    → state_of x ≡ joined (state_of b) p (take b.resources (replicate {A = ℕ} 16 0)) → state_of x ≡ left (state_of a) p
-left_is a b x h g p back is =
+-- claims of nothing
+no_claims : (a b : Accounts) (p : ℕ) → IsSound b → state_of b ≡ without_loans (state_of a) p
+    → take b.resources (replicate {A = ℕ} 16 0) ≡ replicate {A = ℕ} (resources (state_of a)) 0
+no_claims a b p g back =
     let er : b.resources ≡ resources (state_of a) = sym (resources_of b g) ∙ ap (λ (s : BankerState). resources s) back in
     let narrow : b.resources ≤ 16 = (let e = resources_of b g in let f = g.well_formed.few_resources in omega (arith, e, f)) in
-    let zeros : take b.resources (replicate {A = ℕ} 16 0) ≡ replicate {A = ℕ} (resources (state_of a)) 0 =
-    take-replicate {X = ℕ} b.resources 16 0 narrow ∙ ap (λ (m : ℕ). replicate {A = ℕ} m 0) er in
+    take-replicate {X = ℕ} b.resources 16 0 narrow ∙ ap (λ (m : ℕ). replicate {A = ℕ} m 0) er
+
+-- the tables after all is taken back, and then the claims
+pub left_is : (a b x : Accounts) → IsSound b → (p : ℕ) → state_of b ≡ without_loans (state_of a) p
+    → state_of x ≡ joined (state_of b) p (take b.resources (replicate {A = ℕ} 16 0)) → state_of x ≡ left (state_of a) p
+left_is a b x g p back is =
     is
-    ∙ ap (λ (claims : List ℕ). joined (state_of b) p claims) zeros
+    ∙ ap (λ (claims : List ℕ). joined (state_of b) p claims) (no_claims a b p g back)
     ∙ ap (λ (s : BankerState). joined s p (replicate {A = ℕ} (resources (state_of a)) 0)) back
     ∙ joined-emptied (state_of a) p (replicate {A = ℕ} (resources (state_of a)) 0)
+
+-- who leaves stays where he is in the order
+pub left_finishes : (a b x : Accounts) → IsSound a → IsSound b → IsSound x → (p : ℕ) (order : List ℕ) → p < a.processes
+    → Finishes (state_of a) (take a.processes order) → state_of b ≡ without_loans (state_of a) p
+    → state_of x ≡ joined (state_of b) p (take b.resources (replicate {A = ℕ} 16 0)) → Finishes (state_of x) (take x.processes order)
+left_finishes a b x h g j p order l f back is =
+    let n = processes_of a h in
+    let lp : p < processes (state_of a) = omega (arith, n, l) in
+    let claims : List ℕ = take b.resources (replicate {A = ℕ} 16 0) in
+    let may : MayJoin (without_loans (state_of a) p) p (take b.resources (replicate {A = ℕ} 16 0)) =
+    may_leave (state_of a) p (take b.resources (replicate {A = ℕ} 16 0)) h.well_formed lp (no_claims a b p g back) in
+    let good : IsWellFormed (without_loans (state_of a) p) = subst IsWellFormed back g.well_formed in
+    let state : state_of x ≡ joined (without_loans (state_of a) p) p (take b.resources (replicate {A = ℕ} 16 0)) =
+    is ∙ ap (λ (s : BankerState). joined s p (take b.resources (replicate {A = ℕ} 16 0))) back in
+    let many : x.processes ≡ a.processes =
+    (let d = processes_of x j in
+    let e : processes (state_of x) ≡ processes (joined (without_loans (state_of a) p) p (take b.resources (replicate {A = ℕ} 16 0))) = ap processes state in
+    let m = many_joined (without_loans (state_of a) p) good p (take b.resources (replicate {A = ℕ} 16 0)) may in
+    omega (arith, n, l, d, e, m)) in
+    let zeros : (r : ℕ) → r < resources (state_of a) → get_or (take b.resources (replicate {A = ℕ} 16 0)) r 0 ≡ 0 =
+    λ r lr. ap (λ (c : List ℕ). get_or c r 0) (no_claims a b p g back) ∙ zeros_at (resources (state_of a)) r in
+    subst (λ (s : BankerState). Finishes s (take x.processes order)) (sym state)
+    (subst (λ (m : ℕ). Finishes (joined (without_loans (state_of a) p) p (take b.resources (replicate {A = ℕ} 16 0))) (take m order)) (sym many)
+    (kept_finishes (without_loans (state_of a) p) good p (take b.resources (replicate {A = ℕ} 16 0)) may zeros lp (take a.processes order)
+    (Finishes-without_loans (state_of a) p (take a.processes order) h.well_formed lp f)))

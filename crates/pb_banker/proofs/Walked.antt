@@ -5,9 +5,9 @@ use Rattle.std.specs.Prelude.{Contains}
 use Rattle.std.specs.List.Sorted.{IsPermutation}
 use Rattle.std.proofs.lemmas.Bool.{false≢true, cases_eq, eq-eqb}
 use Rattle.std.proofs.lemmas.List.{length-append, get_or_append_left, get_or_at, take-append-le, take-append-drop, take_at, take_more, length-take-le, get_or-take}
-use Rattle.std.proofs.lemmas.List.{get_or-set_same, get_or-set_other, length-set, get_or-replicate, length-replicate}
+use Rattle.std.proofs.lemmas.List.{get_or-set_other, length-set, get_or-replicate, length-replicate}
 use Rattle.std.proofs.lemmas.List.Sums.{sum_by-append, get_or-le-sum_by}
-use Rattle.std.proofs.lemmas.List.Sorted.{IsPermutation-pop_more, sum_by-IsPermutation}
+use Rattle.std.proofs.lemmas.List.Sorted.{sum_by-IsPermutation}
 use Rattle.pb_base.specs.Banker.{BankerState, loan, processes, everyone, members, cash, held_by, FitsAfter}
 use Rattle.pb_base.proofs.Cases.{bool_cases}
 use Rattle.pb_base.proofs.Groups.{mark, times, times-range, range_below}
@@ -16,8 +16,8 @@ use Rattle.pb_banker.specs.Accounts.{state_of, FitsIn, IsSound}
 use Rattle.pb_banker.specs.Jobs.{IsUsed}
 use Rattle.pb_banker.specs.Orders.{free_slots, GoesWell, IsFinishingOrder, IsFirstShort}
 use Rattle.pb_banker.proofs.TableCells.{processes_of, resources_of}
-use Rattle.pb_banker.proofs.Search.{marked, EachFits, in_order, Progress, Progress-start}
-use Rattle.pb_banker.proofs.SetMembers.{filter-without, filter-same, filter-has, Contains-range}
+use Rattle.pb_banker.proofs.Search.{marked, EachFits, in_order, InTurn, InTurn-more, Progress, Progress-start}
+use Rattle.pb_banker.proofs.SetMembers.{filter-same, filter-has, Contains-range}
 use Rattle.pb_banker.proofs.Walk.{IsAvailable, IsAvailable-start, IsAvailable-more, FitsAfter-from_FitsIn, room_for}
 
 -- an order so far: who is not in it waits, each fits after those before it, and what there is then
@@ -78,24 +78,15 @@ pub Walked-more : (s : BankerState) (used : List Bool) (order : List ℕ) (waiti
 Walked-more s used order waiting available next p h l small has waits fits have =
     let wide = h.long in
     let inside : p < length waiting = omega (arith, small, wide) in
-    let gone : marked (set waiting p false) p ≡ false = get_or-set_same waiting p false false inside in
     let kept : (q : ℕ) → q ≢ p → marked (set waiting p false) q ≡ marked waiting q = λ q ne. get_or-set_other waiting p q false false ne in
-    let less : IsPermutation (members s (marked waiting)) (p ∷ members s (marked (set waiting p false))) =
-    filter-without (marked waiting) (marked (set waiting p false)) p waits gone kept 0 (processes s) (omega arith) (omega (arith, l)) in
+    let turn : InTurn s (order ++ p ∷ []) (set waiting p false) =
+    InTurn-more s order waiting p (record { parts = h.parts; fits = h.fits }) l inside waits fits in
     let many : length (order ++ p ∷ []) ≡ length order + 1 = length-append order (p ∷ []) in
     let front : take (length order) (order ++ p ∷ []) ≡ order = take_at order (p ∷ []) (length order) refl in
     let last : get_or (order ++ p ∷ []) (length order) 0 ≡ p = get_or_at order p [] 0 (length order) refl in
     record {
-      parts = IsPermutation-pop_more (everyone s) order (members s (marked waiting)) (members s (marked (set waiting p false))) p h.parts less;
-      fits = λ k b.
-          elim (cases_eq k (length order)) [
-            | inl at ↦ rw (at, front, last) fits
-            | inr ne ↦
-                (let lt : k < length order = below_or_at k (length order) (omega (arith, b, many)) ne in
-                let t : take k (order ++ p ∷ []) ≡ take k order = take-append-le k order (p ∷ []) (omega (arith, lt)) in
-                let g : get_or (order ++ p ∷ []) k 0 ≡ get_or order k 0 = get_or_append_left order (p ∷ []) 0 k lt in
-                rw (t, g) (h.fits k lt))
-          ];
+      parts = turn.parts;
+      fits = turn.fits;
       have = have;
       taken = λ q lq free.
           elim (cases_eq q p) [

@@ -9,8 +9,8 @@ ghost use Rattle.pb_banker.specs.Value.{start_state};
 
 use crate::accounts::Accounts;
 use crate::answer::Answer;
+use crate::asker::decide_by_asker;
 use crate::banker::rising;
-use crate::decide::decide;
 use crate::jobs::{admit, no_rows, vacate};
 use crate::order::OrderSaid;
 use crate::reason::{Joined, Reason};
@@ -96,8 +96,7 @@ impl Bank {
         ensures well_formed { IsWellFormed self.new.state }
         ensures safe { IsSafe self.new.state }
     {
-        let mut looked = 0;
-        decide(&mut self.accounts, &mut self.order, &mut looked, p, bundle)
+        decide_by_asker(&mut self.accounts, &mut self.order, p, bundle)
     }
 
     /// Makes a loan that is allowed.

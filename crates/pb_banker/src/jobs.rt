@@ -2,13 +2,14 @@
 
 ghost use Rattle.std.specs.Prelude.{◌≡◌, ◌<◌, ◌≤◌, ◌+◌, ◌-◌, ℕ, [], length, take, IfNone, IfSome};
 ghost use Rattle.std.specs.Prelude.{slice_index, slice_set, true, false};
-ghost use Rattle.pb_base.specs.Banker.{Finishes, IsSafe, resources};
+ghost use Rattle.pb_base.specs.Banker.{Finishes, resources};
 ghost use Rattle.pb_banker.specs.Accounts.{state_of, IsSound};
 ghost use Rattle.pb_banker.specs.Value.{start_state};
 ghost use Rattle.pb_banker.specs.Jobs.{MayJoin, joined, left, IsWithinCapital, IsFirstOver, IsFirstFree, IsUsed};
 ghost use Rattle.pb_banker.specs.Jobs.{SaysOfJoining, IsKept, value_of};
 
 use crate::accounts::{Accounts, Row, capital_row};
+use crate::places::put_last;
 use crate::reason::Joined;
 use pb_base::limits::{MAX_PROCESSES, MAX_RESOURCES};
 use pb_base::{Bundle, Capital};
@@ -32,34 +33,31 @@ pub fn no_rows(capital: &Capital) -> Accounts
     }
 }
 
-/// Gives a slot these claims, and keeps an order in which all finish.
-pub fn enter(accounts: &mut Accounts, order: &mut [u8; MAX_PROCESSES], p: usize, claims: &[u32])
+/// Gives a slot these claims. The newcomer comes last in the order.
+fn enter(accounts: &mut Accounts, order: &mut [u8; MAX_PROCESSES], p: usize, claims: &[u32])
     requires sound { IsSound accounts.old }
-    requires safe { IsSafe (state_of accounts.old) }
+    requires finishes { Finishes (state_of accounts.old) (take accounts.old.processes order.old) }
     requires newcomer { MayJoin (state_of accounts.old) p claims.now }
     ensures sound { IsSound accounts.new }
     ensures state { state_of accounts.new ≡ joined (state_of accounts.old) p claims.now }
     ensures finishes { Finishes (state_of accounts.new) (take accounts.new.processes order.new) }
 {
+    put_last(order, accounts.processes, p);
     seat(accounts, p, claims);
-    let mut looked = 0;
-    let found = accounts.search(&mut looked);
-    let next = found.order;
-    *order = next;
 }
 
-/// Takes back all that a slot holds, and its claims.
-pub fn clear(accounts: &mut Accounts, order: &mut [u8; MAX_PROCESSES], p: usize)
+/// Takes back all that a slot holds, and its claims. It stays where it is in the order.
+fn clear(accounts: &mut Accounts, order: &[u8; MAX_PROCESSES], p: usize)
     requires sound { IsSound accounts.old }
-    requires finishes { Finishes (state_of accounts.old) (take accounts.old.processes order.old) }
+    requires finishes { Finishes (state_of accounts.old) (take accounts.old.processes order.now) }
     requires slot { p < accounts.old.processes }
     ensures sound { IsSound accounts.new }
     ensures state { state_of accounts.new ≡ left (state_of accounts.old) p }
-    ensures finishes { Finishes (state_of accounts.new) (take accounts.new.processes order.new) }
+    ensures finishes { Finishes (state_of accounts.new) (take accounts.new.processes order.now) }
 {
     accounts.take_back_all(p);
     let nothing = [0; MAX_RESOURCES];
-    enter(accounts, order, p, &nothing[..accounts.resources]);
+    seat(accounts, p, &nothing[..accounts.resources]);
 }
 
 /// Gives a slot these claims.

@@ -15,8 +15,7 @@ use crate::said::{
 };
 use crate::seated::are_seated;
 use crate::sound::is_sound;
-use pb_banker::decide::decide;
-use pb_banker::{Joined, Reason, admit, vacate};
+use pb_banker::{Joined, Reason, admit, decide_by_asker, vacate};
 use pb_base::limits::MAX_PROCESSES;
 
 /// Opens a bank with this capital, of 1 to 16 resources, and no jobs.
@@ -129,14 +128,7 @@ pub extern "C" fn pb_bank_ask(bank: &mut Bank, job: usize, amounts: &[u32]) -> u
         return NO_REQUEST;
     }
     let bundle = bundle_of(amounts);
-    let mut looked = 0;
-    let answer = decide(
-        &mut bank.accounts,
-        &mut bank.order,
-        &mut looked,
-        job,
-        &bundle,
-    );
+    let answer = decide_by_asker(&mut bank.accounts, &mut bank.order, job, &bundle);
     number_of(answer)
 }
 

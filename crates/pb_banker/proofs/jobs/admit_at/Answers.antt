@@ -1,13 +1,9 @@
-use Rattle.std.proofs.Common.{take}
 use Rattle.pb_banker.proofs.KeptSlots.{newcomer, kept_joined}
 use Rattle.pb_banker.proofs.jobs.admit_at.Goals as goal
 
 pub enter-requires-clause-newcomer : goal.enter-requires-clause-newcomer
 enter-requires-clause-newcomer c =
     newcomer c.args.accounts.now c.args.order.now c.args.used.now c.requires.kept c.args.p c.args.claims.now c.requires.width c.requires.fits c.requires.free
-
-pub enter-requires-clause-safe : goal.enter-requires-clause-safe
-enter-requires-clause-safe c = (take c.args.accounts.now.processes c.args.order.now, c.requires.kept.finishes)
 
 pub returns-clause-kept : goal.returns-clause-kept
 returns-clause-kept c =
