@@ -7,6 +7,8 @@ use Rattle.pb_code.specs.Whole.{Code, ProcessLabels}
 use Rattle.pb_codegen.specs.Compiled.{IsCompiled}
 use Rattle.pb_command_io.specs.declared.status.Status.{Status}
 use Rattle.pb_verifier.specs.Verified.{VerifiedCode}
+use Rattle.pb_adapter_engine.specs.Refused.{explained_picks}
+use Rattle.pb_adapter_requests.specs.declared.counting.Counting.{Counting}
 use Rattle.pb_adapter_engine.specs.Waiting.{ArePartsFor, ComesTo, IsUnfit, RefusesPicks, no_picks}
 use Rattle.pb_adapter_engine.specs.declared.launched.Launch.{Launch}
 
@@ -27,18 +29,18 @@ lines_refused lending code lines said left status says cut =
 -- ---- what a launch comes to
 
 -- a text that compiles, and no picks of it
-pub has_no_picks : (words : List ℕ) (seed : Option ℕ) (lending : Lending) (source lines refusal : List ℕ) (verified v : VerifiedCode)
+pub has_no_picks : (words : List ℕ) (seed : Option ℕ) (lending : Lending) (source lines refusal said : List ℕ) (verified v : VerifiedCode)
     (labels : List ProcessLabels) → ArePartsFor seed words source lines → IsCompiled source verified.code labels → v ≡ verified
-    → RefusesPicks seed lending v.code lines refusal → IsUnfit words seed lending refusal
-has_no_picks words seed lending source lines refusal verified v labels parts compiled same refuses =
-    no_picks source lines refusal parts verified.code labels compiled
-    (subst (λ (x : VerifiedCode). RefusesPicks seed lending x.code lines refusal) same refuses)
+    → said ≡ explained_picks refusal → RefusesPicks seed lending v.code lines refusal → IsUnfit words seed lending said
+has_no_picks words seed lending source lines refusal said verified v labels parts compiled same is refuses =
+    subst (λ (t : List ℕ). IsUnfit words seed lending t) (sym is)
+    (no_picks source lines refusal parts verified.code labels compiled
+    (subst (λ (x : VerifiedCode). RefusesPicks seed lending x.code lines refusal) same refuses))
 
 -- what a request asks for is launched
-pub comes_to : (words text : List ℕ) (seed number : Option ℕ) (lending : Lending) (path shown : List ℕ) (launch made : Launch) → text ≡ words
-    → number ≡ seed → shown ≡ path → made ≡ launch → ComesTo text number lending shown made → ComesTo words seed lending path launch
-comes_to words text seed number lending path shown launch made is of named same comes =
-    subst (λ (m : Launch). ComesTo words seed lending path m) same
-    (subst (λ (p : List ℕ). ComesTo words seed lending p made) named
-    (subst (λ (n : Option ℕ). ComesTo words n lending shown made) of
-    (subst (λ (t : List ℕ). ComesTo t number lending shown made) is comes)))
+pub comes_to : (words text : List ℕ) (seed : Option ℕ) (lending : Lending) (path shown : List ℕ) (counting : Counting) (launch made : Launch)
+    → text ≡ words → shown ≡ path → made ≡ launch → ComesTo text seed lending shown counting made → ComesTo words seed lending path counting launch
+comes_to words text seed lending path shown counting launch made is named same comes =
+    subst (λ (m : Launch). ComesTo words seed lending path counting m) same
+    (subst (λ (p : List ℕ). ComesTo words seed lending p counting made) named
+    (subst (λ (t : List ℕ). ComesTo t seed lending shown counting made) is comes))

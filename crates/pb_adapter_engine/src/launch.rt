@@ -7,12 +7,15 @@ ghost use Rattle.pb_accept.specs.Refusals.{RefusesWith};
 ghost use Rattle.pb_accept.specs.ReplayLines.{IsLinesFaultBy};
 ghost use Rattle.pb_code.specs.Whole.{Code};
 ghost use Rattle.pb_codegen.specs.Compiled.{IsCompiled};
-ghost use Rattle.pb_adapter_engine.specs.Waiting.{ArePartsFor, ArePicksFor, ArePicksOf, ComesTo, RefusesPicks};
+ghost use Rattle.pb_adapter_engine.specs.Waiting.{ArePartsFor, ArePicksFor, ArePicksOf, ComesTo, ExplainsText, RefusesPicks};
 
 use crate::launched::{Launch, Launched};
-use pb_accept::{LinesFault, Refusal, compile_text, lines_refusal};
+use crate::refused::{explained, explained_picks};
+use bumpalo::Bump;
+use pb_accept::{LinesFault, Refusal, compile_text, lines_refusal, text_cause};
+use pb_adapter_requests::Counting;
 use pb_base::{Lending, NoMemory};
-use pb_codegen::Compiled;
+use pb_codegen::{Compiled, compile};
 use pb_command_io::two_parts;
 use pb_history::CountedPick;
 use pb_history::replay::replay_counted_by;
@@ -24,14 +27,34 @@ use std::alloc::Global;
 /// The most picks that are drawn for a launch.
 pub const MAX_DRAWN: u32 = 1_000_000;
 
-/// Returns the code of a text, or the line of its refusal.
+/// Returns the line of the refusal of a text, with the place and the meaning of its fault; or its code.
+fn explained_of(
+    alloc: Global,
+    source: &[u8],
+    line: Vec<u8>,
+) -> Result<Result<Compiled, Vec<u8>>, NoMemory>
+    requires { RefusesWith source.now line.items }
+    ensures compiled { IfOk result (λ r. IfOk r (λ c. IsCompiled source.now c.verified.code c.labels)) }
+    ensures refused { IfOk result (λ r. IfErr r (λ said. ExplainsText source.now said.items)) }
+{
+    let arena = Bump::new(alloc);
+    match compile(alloc, &arena, source) {
+        Ok(compiled) => Ok(Ok(compiled)),
+        Err(fault) => match text_cause(&fault) {
+            Some(cause) => Ok(Err(explained(line, source, cause.code, cause.at)?)),
+            None => Err(NoMemory),
+        },
+    }
+}
+
+/// Returns the code of a text, or why it is refused.
 fn compiled_of(alloc: Global, source: &[u8]) -> Result<Result<Compiled, Vec<u8>>, NoMemory>
     ensures compiled { IfOk result (λ r. IfOk r (λ c. IsCompiled source.now c.verified.code c.labels)) }
-    ensures refused { IfOk result (λ r. IfErr r (λ line. RefusesWith source.now line.items)) }
+    ensures refused { IfOk result (λ r. IfErr r (λ said. ExplainsText source.now said.items)) }
 {
     match compile_text(alloc, source) {
         Ok(compiled) => Ok(Ok(compiled)),
-        Err(Refusal::Line(line)) => Ok(Err(line)),
+        Err(Refusal::Line(line)) => explained_of(alloc, source, line),
         Err(Refusal::NoMemory) => Err(NoMemory),
     }
 }
@@ -144,24 +167,25 @@ fn parts_for(seed: Option<u64>, words: &[u8]) -> (&[u8], &[u8])
 }
 
 /// Launches a text under a lending: with a seed by the picks that it draws, else by those of the pick lines behind
-/// the text. It is shown under a path.
+/// the text. It is shown under a path, to a client that counts so.
 pub fn launch_of(
     alloc: Global,
     words: &[u8],
     seed: Option<u64>,
     lending: Lending,
     path: &str,
+    counting: Counting,
 ) -> Result<Launch, NoMemory>
-    ensures { IfOk result (ComesTo words.now seed lending path.now) }
+    ensures { IfOk result (ComesTo words.now seed lending path.now counting) }
 {
     let (source, lines) = parts_for(seed, words);
     let compiled = match compiled_of(alloc, source)? {
         Ok(compiled) => compiled,
-        Err(line) => return Ok(Launch::Unfit(line)),
+        Err(said) => return Ok(Launch::Unfit(said)),
     };
     let picks = match picks_for(alloc, seed, lending, compiled.verified(), lines)? {
         Ok(picks) => picks,
-        Err(line) => return Ok(Launch::Unfit(line)),
+        Err(line) => return Ok(Launch::Unfit(explained_picks(line)?)),
     };
     Ok(Launch::Fit(Launched {
         lending,
@@ -169,5 +193,6 @@ pub fn launch_of(
         picks,
         source: Vec::from_slice(alloc, source)?,
         path: String::from_str(alloc, path)?,
+        counting,
     }))
 }

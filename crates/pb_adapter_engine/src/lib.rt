@@ -4,6 +4,7 @@
 mod adapter;
 mod launch;
 mod launched;
+mod refused;
 mod session;
 mod waiting;
 
