@@ -45,27 +45,65 @@ def anything(body: Any) -> bool:
 
 
 SKIP = "process p begin skip end"
+# What is told of launches that are refused: the refusal line, and the words of `check` or `replay`.
+NOT_DECLARED = """refused N3 at 17
+error N3: integer x is not declared in process p
+  --> line 2, column 2
+  |
+2 |  x := 1 end
+  |  ^
+  = hint: declare it after the first begin of the process: integer x;"""
+NO_PROCESS = """refused K1 at 0
+error K1: there is no process `q`
+  --> pick line 1, column 1
+  |
+1 | q.0 1
+  | ^
+  = the processes before the line %% are p
+  = line 3 of the input"""
+NOT_ENABLED = """refused H1 at 1
+error H1: p.0 cannot make a pick after 1 pick
+  --> pick line 1, column 1
+  |
+1 | p.0 9
+  | ^
+  = 1 of the 9 picks of this line was made
+  = the arm has ended
+  = line 3 of the input
+  = hint: leave the pick out, or make others before it; without it and those behind it, debug shows the run up to here"""
+NO_PICKS_WITH_A_SEED = """refused L2 at 25
+error L2: unexpected character `%`
+  --> line 2, column 1
+  |
+2 | %%
+  | ^
+  = hint: a line %% has nothing else in it; behind it are further texts, for check, or picks, for replay, draw and debug"""
+AN_OBJECT = """refused P1 at 0
+error P1: this is an object, and not a program
+  --> line 1, column 1
+  |
+1 | PBO 2
+  | ^
+  = hint: exec runs an object, debug reads its runs, and migrate writes it in the second format"""
+NO_SEED = "seed is not in 0..=18446744073709551615"
 SESSION: list[Asked] = [
     ("initialize", {"adapterID": "parbegin"}, lambda body: body["supportsStepBack"], None),
     ("threads", {}, "no text is launched", None),
     ("launch", {}, "there is no text", None),
     ("launch", {"text": SKIP}, "there is no program: the path of the text", None),
-    ("launch", {"program": "p.pb", "text": "process p begin\n x := 1 end"},
-     "refused N3 at 17, line 2, column 2: a name that is not declared", None),
-    ("launch", {"program": "p.pb", "text": f"{SKIP}\n%%\nq.0 1"}, "refused K1 at 0: a pick line that is not of its form", None),
+    ("launch", {"program": "p.pb", "text": "process p begin\n x := 1 end"}, NOT_DECLARED, None),
+    ("launch", {"program": "p.pb", "text": f"{SKIP}\n%%\nq.0 1"}, NO_PROCESS, None),
+    ("launch", {"program": "p.pb", "text": "PBO 2\n"}, AN_OBJECT, None),
     ("launch", {"program": "p.pb", "text": SKIP, "lend": "bank"}, "lend is banker or cash", None),
     ("launch", {"program": "p.pb", "text": SKIP, "lend": 1}, "lend is banker or cash", None),
-    ("launch", {"program": "p.pb", "text": SKIP, "seed": "1"}, "seed is not in 0..=18446744073709551615", None),
-    ("launch", {"program": "p.pb", "text": SKIP, "seed": 1 << 64}, "seed is not in 0..=18446744073709551615", None),
-    ("launch", {"program": "p.pb", "text": SKIP, "seed": 1.5}, "seed is not in 0..=18446744073709551615", None),
-    ("launch", {"program": "p.pb", "text": f"{SKIP}\n%%\np.0 9"}, "refused H1 at 1: a pick that is not enabled", None),
-    ("launch", {"program": "p.pb", "text": f"{SKIP}\n%%\np.0 1", "seed": 1},
-     "refused L2 at 25, line 2, column 1: a byte that is not allowed", None),
+    *[("launch", {"program": "p.pb", "text": SKIP, "seed": seed}, NO_SEED, None) for seed in ("1", -1, 1 << 64, 1.5)],
+    ("launch", {"program": "p.pb", "text": f"{SKIP}\n%%\np.0 9"}, NOT_ENABLED, None),
+    ("launch", {"program": "p.pb", "text": f"{SKIP}\n%%\np.0 1", "seed": 1}, NO_PICKS_WITH_A_SEED, None),
     ("launch", {"program": "lost.run", "text": LOST.read_text()}, anything, {"event": "initialized"}),
     ("setBreakpoints", {"breakpoints": [{"line": 10}, {"line": 1}]},
      lambda body: [it["verified"] for it in body["breakpoints"]] == [True, False], None),
     ("setBreakpoints", {"source": {"path": "other.run"}, "breakpoints": [{"line": 10}]},
-     lambda body: body["breakpoints"] == [{"line": 10, "verified": False}], None),
+     lambda body: body["breakpoints"] == [{"line": 10, "verified": False, "message": "this is not the text that is launched"}], None),
     ("configurationDone", {}, anything, stopped("entry", 0)),
     ("threads", {}, lambda body: names(body) == ["p.0"], None),
     ("stackTrace", {"threadId": 1}, line(6), None),
@@ -88,6 +126,8 @@ SESSION: list[Asked] = [
     ("evaluate", {"expression": "why p.0"}, lambda body: body["result"] == "not asking\n", None),
     ("evaluate", {"expression": "to 7"}, lambda body: body["result"] == "at 7\n", stopped("goto", 7)),
     ("evaluate", {"expression": "to 99"}, "refused G1", None),
+    ("evaluate", {"expression": "vars q"}, "refused G2", None),
+    ("evaluate", {"expression": "fly"}, "refused G4", None),
     ("evaluate", {"expression": "to 7\nto 99"}, "at 7\nrefused G1", None),
     ("pause", {"threadId": 1}, anything, stopped("pause", 7)),
     ("setBreakpoints", {"breakpoints": []}, anything, None),
@@ -112,6 +152,8 @@ FROM_0: list[Asked] = [
     ("launch", {"program": "lost.run", "text": LOST.read_text()}, anything, {"event": "initialized"}),
     ("setBreakpoints", {"source": {"path": "lost.run"}, "breakpoints": [{"line": 9}, {"line": 0}]},
      lambda body: body["breakpoints"] == [{"line": 9, "verified": True}, {"line": 0, "verified": False}], None),
+    ("setBreakpoints", {"source": {"path": "other.run"}, "breakpoints": [{"line": 4}]},
+     lambda body: [it["line"] for it in body["breakpoints"]] == [4], None),
     ("continue", {"threadId": 1}, anything, stopped("breakpoint", 12)),
     ("stackTrace", {"threadId": 1}, lambda body: [(it["line"], it["column"]) for it in body["stackFrames"]] == [(9, 0)], None),
     ("disconnect", {}, anything, None),

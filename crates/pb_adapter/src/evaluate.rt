@@ -45,7 +45,7 @@ fn refuses(text: &[u8]) -> bool
 }
 
 /// Returns a text without its last line feed.
-fn without_last(text: &[u8]) -> &[u8]
+pub fn without_last(text: &[u8]) -> &[u8]
     ensures { result.now ≡ without_feed text.now }
 {
     &text[..text.len().saturating_sub(1)]

@@ -7,7 +7,6 @@ use Rattle.pb_code.specs.Whole.{Code, ProcessLabels}
 use Rattle.pb_codegen.specs.Compiled.{IsCompiled}
 use Rattle.pb_command_io.specs.declared.status.Status.{Status}
 use Rattle.pb_verifier.specs.Verified.{VerifiedCode}
-use Rattle.pb_adapter_engine.specs.Refused.{explained_picks}
 use Rattle.pb_adapter_requests.specs.declared.counting.Counting.{Counting}
 use Rattle.pb_adapter_engine.specs.Waiting.{ArePartsFor, ComesTo, IsUnfit, RefusesPicks, no_picks}
 use Rattle.pb_adapter_engine.specs.declared.launched.Launch.{Launch}
@@ -29,13 +28,12 @@ lines_refused lending code lines said left status says cut =
 -- ---- what a launch comes to
 
 -- a text that compiles, and no picks of it
-pub has_no_picks : (words : List ℕ) (seed : Option ℕ) (lending : Lending) (source lines refusal said : List ℕ) (verified v : VerifiedCode)
+pub has_no_picks : (words : List ℕ) (seed : Option ℕ) (lending : Lending) (source lines refusal : List ℕ) (verified v : VerifiedCode)
     (labels : List ProcessLabels) → ArePartsFor seed words source lines → IsCompiled source verified.code labels → v ≡ verified
-    → said ≡ explained_picks refusal → RefusesPicks seed lending v.code lines refusal → IsUnfit words seed lending said
-has_no_picks words seed lending source lines refusal said verified v labels parts compiled same is refuses =
-    subst (λ (t : List ℕ). IsUnfit words seed lending t) (sym is)
-    (no_picks source lines refusal parts verified.code labels compiled
-    (subst (λ (x : VerifiedCode). RefusesPicks seed lending x.code lines refusal) same refuses))
+    → RefusesPicks seed lending v.code lines refusal → IsUnfit words seed lending refusal
+has_no_picks words seed lending source lines refusal verified v labels parts compiled same refuses =
+    no_picks source lines refusal parts verified.code labels compiled
+    (subst (λ (x : VerifiedCode). RefusesPicks seed lending x.code lines refusal) same refuses)
 
 -- what a request asks for is launched
 pub comes_to : (words text : List ℕ) (seed : Option ℕ) (lending : Lending) (path shown : List ℕ) (counting : Counting) (launch made : Launch)

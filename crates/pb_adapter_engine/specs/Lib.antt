@@ -1,3 +1,2 @@
 pub mod Adapters
-pub mod Refused
 pub mod Waiting

@@ -1,5 +1,5 @@
 -- Requests before a text is launched, and the launch.
-use Rattle.std.specs.Prelude.{◌≡◌, ◌+◌, ℕ, List, [], ◌∷◌, Option, Some, None, Bool, true, false, codes, cond, unwrap_or}
+use Rattle.std.specs.Prelude.{◌≡◌, ◌+◌, ℕ, List, [], ◌∷◌, ◌++◌, Option, Some, None, Bool, true, false, codes, cond, unwrap_or}
 use Rattle.std.specs.Str.{bytes_eq}
 use Rattle.std.specs.Str.Lossy.{utf8_lossy}
 use Rattle.serde_json.specs.Data.{Data, null}
@@ -9,8 +9,7 @@ use Rattle.pb_base.specs.declared.lending.Lending.{Lending}
 use Rattle.pb_base.specs.declared.lending.Lending.TheVariants.{ByBanker, ByCash}
 use Rattle.pb_code.specs.Code.{CodeProcess}
 use Rattle.pb_code.specs.Whole.{Code, ProcessLabels}
-use Rattle.pb_codegen.specs.Compiled.{IsCompiled, IsRefused}
-use Rattle.pb_codegen.specs.declared.fault.CompileFault.{CompileFault}
+use Rattle.pb_codegen.specs.Compiled.{IsCompiled}
 use Rattle.pb_history.specs.Entries.{Entry}
 use Rattle.pb_history.specs.Replays.{IsReplayBy, spread}
 use Rattle.pb_history.specs.declared.counted.CountedPick.{CountedPick}
@@ -18,11 +17,12 @@ use Rattle.pb_picks.specs.PickLines.{SpellsPicks}
 use Rattle.pb_record.specs.Recorded.{IsRecorded, IsTooLong}
 use Rattle.pb_verifier.specs.Verified.{VerifiedCode}
 use Rattle.pb_command_io.specs.Parts.{AreTwoParts}
-use Rattle.pb_accept.specs.Causes.{text_cause}
-use Rattle.pb_accept.specs.declared.cause.Cause.{Cause}
 use Rattle.pb_accept.specs.Refusals.{RefusesWith}
-use Rattle.pb_adapter_engine.specs.Refused.{explained, explained_picks}
 use Rattle.pb_accept.specs.ReplayLines.{SaysOfNoPicksBy}
+use Rattle.pb_messages.specs.Said.{SaysToPerson}
+use Rattle.pb_messages.specs.declared.message.Reading.{Reading}
+use Rattle.pb_messages.specs.declared.message.Reading.TheVariants.{Replayed, Text}
+use Rattle.pb_adapter.specs.Answers.{without_feed}
 use Rattle.pb_command_io.specs.declared.status.Status.{Status}
 use Rattle.pb_adapter_values.specs.Values.{capabilities_data}
 use Rattle.pb_adapter_requests.specs.Kinds.{kind_of}
@@ -95,30 +95,31 @@ pub record IsLaunched (words : List ℕ) (seed : Option ℕ) (lending : Lending)
 abbrev pub RefusesPicks : (seed : Option ℕ) → Lending → Code → (lines refusal : List ℕ) → Type 0
 RefusesPicks None lending code lines refusal = (status : Status) × SaysOfNoPicksBy lending code lines (line refusal) status
 RefusesPicks (Some seed) lending code lines refusal =
-    IsTooLong lending code MAX_DRAWN (Some seed) × (refusal ≡ codes "refused output")
+    IsTooLong lending code MAX_DRAWN (Some seed) × (refusal ≡ codes "refused output: more than 1000000 picks are drawn")
 
--- a text is refused by this line, which is told with the place and the meaning of its fault
-pub record ExplainsText (source said : List ℕ) : Type 0 where
-  pub refusal : List ℕ
-  pub refuses : RefusesWith source refusal
-  pub fault : CompileFault
-  pub is : IsRefused source fault
-  pub cause : Cause
-  pub causes : text_cause fault ≡ Some cause
-  pub said_is : said ≡ explained source refusal cause.code cause.at
-
--- why a text is not launched: it is refused, or there are no picks for it
-pub data IsUnfit (words : List ℕ) (seed : Option ℕ) (lending : Lending) : (said : List ℕ) → Type 0 where
-  no_text : (source lines said : List ℕ) → ArePartsFor seed words source lines → ExplainsText source said
-      → IsUnfit words seed lending said
+-- the refusal of a text, or of its picks
+pub data IsUnfit (words : List ℕ) (seed : Option ℕ) (lending : Lending) : (refusal : List ℕ) → Type 0 where
+  no_text : (source lines refusal : List ℕ) → ArePartsFor seed words source lines → RefusesWith source refusal
+      → IsUnfit words seed lending refusal
   no_picks : (source lines refusal : List ℕ) → ArePartsFor seed words source lines
       → (code : Code) (labels : List ProcessLabels) → IsCompiled source code labels
-      → RefusesPicks seed lending code lines refusal → IsUnfit words seed lending (explained_picks refusal)
+      → RefusesPicks seed lending code lines refusal → IsUnfit words seed lending refusal
 
 -- what a launch comes to
 abbrev pub ComesTo : (words : List ℕ) (seed : Option ℕ) (lending : Lending) (path : List ℕ) → Counting → Launch → Type 0
 ComesTo words seed lending path counting (launch.Fit l) = IsLaunched words seed lending path counting (launched_view l)
-ComesTo words seed lending path counting (launch.Unfit said) = IsUnfit words seed lending said.items
+ComesTo words seed lending path counting (launch.Unfit line) = IsUnfit words seed lending line.items
+
+-- ---- why a launch is refused, in words
+
+-- how a launch reads its text
+abbrev pub reading_of : (seed : Option ℕ) → Lending → Reading
+reading_of None lending = Replayed lending
+reading_of (Some seed) lending = Text
+
+-- a line that refuses a launch, and behind it what a person is told of the text, if there is something to be told
+abbrev pub in_words : (refusal message : List ℕ) → List ℕ
+in_words refusal message = without_feed (line refusal ++ message)
 
 -- ---- requests
 
@@ -170,8 +171,8 @@ pub data LaunchesText (s : WaitingValue) (seq : ℕ) (r : Asked) (words : List �
   launched : (l : LaunchedText) → IsLaunched words seed lending (path_of r) s.counting l
       → LaunchesText s seq r words lending seed
       (done_data seq r null ∷ event_data (seq + 1) (codes "initialized") null ∷ []) (record s { launched = Some l; over = true })
-  unfit : (said : List ℕ) → IsUnfit words seed lending said
-      → LaunchesText s seq r words lending seed (refused_data seq r (utf8_lossy said) ∷ []) s
+  unfit : (refusal message : List ℕ) → IsUnfit words seed lending refusal → SaysToPerson (reading_of seed lending) words message
+      → LaunchesText s seq r words lending seed (refused_data seq r (utf8_lossy (in_words refusal message)) ∷ []) s
 
 -- by a seed that is right
 abbrev pub LaunchesBy : WaitingValue → ℕ → Asked → (words : List ℕ) → Lending → Option (Option ℕ) → List Data → WaitingValue → Type 0

@@ -7,15 +7,13 @@ ghost use Rattle.pb_accept.specs.Refusals.{RefusesWith};
 ghost use Rattle.pb_accept.specs.ReplayLines.{IsLinesFaultBy};
 ghost use Rattle.pb_code.specs.Whole.{Code};
 ghost use Rattle.pb_codegen.specs.Compiled.{IsCompiled};
-ghost use Rattle.pb_adapter_engine.specs.Waiting.{ArePartsFor, ArePicksFor, ArePicksOf, ComesTo, ExplainsText, RefusesPicks};
+ghost use Rattle.pb_adapter_engine.specs.Waiting.{ArePartsFor, ArePicksFor, ArePicksOf, ComesTo, RefusesPicks};
 
 use crate::launched::{Launch, Launched};
-use crate::refused::{explained, explained_picks};
-use bumpalo::Bump;
-use pb_accept::{LinesFault, Refusal, compile_text, lines_refusal, text_cause};
+use pb_accept::{LinesFault, Refusal, compile_text, lines_refusal};
 use pb_adapter_requests::Counting;
 use pb_base::{Lending, NoMemory};
-use pb_codegen::{Compiled, compile};
+use pb_codegen::Compiled;
 use pb_command_io::two_parts;
 use pb_history::CountedPick;
 use pb_history::replay::replay_counted_by;
@@ -27,34 +25,14 @@ use std::alloc::Global;
 /// The most picks that are drawn for a launch.
 pub const MAX_DRAWN: u32 = 1_000_000;
 
-/// Returns the line of the refusal of a text, with the place and the meaning of its fault; or its code.
-fn explained_of(
-    alloc: Global,
-    source: &[u8],
-    line: Vec<u8>,
-) -> Result<Result<Compiled, Vec<u8>>, NoMemory>
-    requires { RefusesWith source.now line.items }
-    ensures compiled { IfOk result (λ r. IfOk r (λ c. IsCompiled source.now c.verified.code c.labels)) }
-    ensures refused { IfOk result (λ r. IfErr r (λ said. ExplainsText source.now said.items)) }
-{
-    let arena = Bump::new(alloc);
-    match compile(alloc, &arena, source) {
-        Ok(compiled) => Ok(Ok(compiled)),
-        Err(fault) => match text_cause(&fault) {
-            Some(cause) => Ok(Err(explained(line, source, cause.code, cause.at)?)),
-            None => Err(NoMemory),
-        },
-    }
-}
-
-/// Returns the code of a text, or why it is refused.
+/// Returns the code of a text, or the line of its refusal.
 fn compiled_of(alloc: Global, source: &[u8]) -> Result<Result<Compiled, Vec<u8>>, NoMemory>
     ensures compiled { IfOk result (λ r. IfOk r (λ c. IsCompiled source.now c.verified.code c.labels)) }
-    ensures refused { IfOk result (λ r. IfErr r (λ said. ExplainsText source.now said.items)) }
+    ensures refused { IfOk result (λ r. IfErr r (λ line. RefusesWith source.now line.items)) }
 {
     match compile_text(alloc, source) {
         Ok(compiled) => Ok(Ok(compiled)),
-        Err(Refusal::Line(line)) => explained_of(alloc, source, line),
+        Err(Refusal::Line(line)) => Ok(Err(line)),
         Err(Refusal::NoMemory) => Err(NoMemory),
     }
 }
@@ -114,9 +92,9 @@ fn picks_said(
 
 /// Returns the line that the picks that are drawn are too many.
 fn too_long_line(alloc: Global) -> Result<Vec<u8>, NoMemory>
-    ensures { IfOk result (λ line. line.items ≡ codes "refused output") }
+    ensures { IfOk result (λ line. line.items ≡ codes "refused output: more than 1000000 picks are drawn") }
 {
-    Ok(Vec::from_slice(alloc, b"refused output")?)
+    Ok(Vec::from_slice(alloc, b"refused output: more than 1000000 picks are drawn")?)
 }
 
 /// Returns the picks that are drawn with a seed, or the line that they are too many.
@@ -181,11 +159,11 @@ pub fn launch_of(
     let (source, lines) = parts_for(seed, words);
     let compiled = match compiled_of(alloc, source)? {
         Ok(compiled) => compiled,
-        Err(said) => return Ok(Launch::Unfit(said)),
+        Err(line) => return Ok(Launch::Unfit(line)),
     };
     let picks = match picks_for(alloc, seed, lending, compiled.verified(), lines)? {
         Ok(picks) => picks,
-        Err(line) => return Ok(Launch::Unfit(explained_picks(line)?)),
+        Err(line) => return Ok(Launch::Unfit(line)),
     };
     Ok(Launch::Fit(Launched {
         lending,

@@ -27,6 +27,6 @@ pub struct Launched {
 #[derive(Drop)]
 pub enum Launch {
     Fit(Launched),
-    /// The line of its refusal, with what that means.
+    /// The line of its refusal.
     Unfit(Vec<u8>),
 }

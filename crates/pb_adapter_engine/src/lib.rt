@@ -4,7 +4,6 @@
 mod adapter;
 mod launch;
 mod launched;
-mod refused;
 mod session;
 mod waiting;
 

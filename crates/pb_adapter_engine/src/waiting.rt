@@ -5,12 +5,15 @@ ghost use Rattle.std.specs.Str.{bytes_eq};
 ghost use Rattle.std.specs.Str.Lossy.{utf8_lossy};
 ghost use Rattle.serde_json.specs.Data.{null};
 ghost use Rattle.pb_adapter_engine.specs.Waiting.{AnswersWaiting, AnswersWaitingKind, Launches, LaunchesBy, LaunchesLent, LaunchesNamed, LaunchesText};
-ghost use Rattle.pb_adapter_engine.specs.Waiting.{lending_named as named_lending, lending_of as lending_asked, nobody, path_of as path_asked, seed_of as seed_asked};
+ghost use Rattle.pb_adapter_engine.specs.Waiting.{lending_named as named_lending, lending_of as lending_asked, nobody, path_of as path_asked, reading_of, seed_of as seed_asked};
+ghost use Rattle.pb_adapter_engine.specs.Waiting as spec;
+ghost use Rattle.pb_messages.specs.Said.{SaysToPerson};
 ghost use Rattle.pb_adapter_requests.specs.Requests.{request_view, text_of as text_asked};
 ghost use Rattle.pb_adapter_requests.specs.Responses.{done_data, event_data, refused_data, told_by};
 
 use crate::launch::launch_of;
 use crate::launched::{Launch, Launched};
+use pb_adapter::without_last;
 use pb_adapter_requests::{
     Counting, Kind, Reply, Request, answered, done, event, is_given, kind_of, number_of, refused,
     text_of, with_event,
@@ -18,6 +21,7 @@ use pb_adapter_requests::{
 use pb_adapter_values::capabilities;
 use pb_base::{Lending, NoMemory};
 use pb_conversations::Adapter;
+use pb_messages::{Reading, message_of};
 use serde_json::Value;
 use std::alloc::Global;
 use std::marker::Model;
@@ -120,11 +124,43 @@ fn tell_launched(alloc: Global, seq: u64, request: Request<'_>) -> Result<Reply,
     Ok(with_event(response, event))
 }
 
-/// Returns the reply that a launch is refused, with this line.
-fn tell_unfit(alloc: Global, seq: u64, request: Request<'_>, line: &[u8]) -> Result<Reply, NoMemory>
-    ensures { IfOk result (λ reply. told_by reply ≡ refused_data seq (request_view request.entry) (utf8_lossy line.now) ∷ []) }
+/// Returns what a person is told of a text that is launched, by how the launch reads it.
+fn message_for(
+    alloc: Global,
+    words: &[u8],
+    lending: Lending,
+    seed: Option<u64>,
+) -> Result<Vec<u8>, NoMemory>
+    ensures { IfOk result (λ message. SaysToPerson (reading_of seed lending) words.now message.items) }
 {
-    let shown = String::from_utf8_lossy(alloc, line)?;
+    match seed {
+        None => message_of(alloc, Reading::Replayed(lending), words),
+        Some(_) => message_of(alloc, Reading::Text, words),
+    }
+}
+
+/// Returns the line of a refusal, and behind it what a person is told, if there is something to be told.
+fn in_words(alloc: Global, line: &[u8], message: &[u8]) -> Result<String, NoMemory>
+    ensures { IfOk result (λ said. said.bytes.items ≡ utf8_lossy (spec.in_words line.now message.now)) }
+{
+    let mut said = Vec::from_slice(alloc, line)?;
+    said.push(b'\n')?;
+    said.extend_from_slice(message)?;
+    Ok(String::from_utf8_lossy(alloc, without_last(&said))?)
+}
+
+/// Returns the reply that a launch is refused, with this line and in words.
+fn tell_unfit(
+    alloc: Global,
+    seq: u64,
+    request: Request<'_>,
+    line: &[u8],
+    message: &[u8],
+) -> Result<Reply, NoMemory>
+    ensures { IfOk result (λ reply. told_by reply
+        ≡ refused_data seq (request_view request.entry) (utf8_lossy (spec.in_words line.now message.now)) ∷ []) }
+{
+    let shown = in_words(alloc, line, message)?;
     refuse(alloc, seq, request, &shown)
 }
 
@@ -162,7 +198,10 @@ impl Waiting {
                 self.over = true;
                 Ok(reply)
             }
-            Launch::Unfit(said) => tell_unfit(alloc, seq, request, &said),
+            Launch::Unfit(line) => {
+                let message = message_for(alloc, words.as_bytes(), lending, seed)?;
+                tell_unfit(alloc, seq, request, &line, &message)
+            }
         }
     }
 
