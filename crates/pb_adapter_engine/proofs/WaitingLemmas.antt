@@ -17,7 +17,7 @@ use Rattle.pb_adapter_engine.specs.Waiting.{launched, lending_of, nobody, path_o
 text_free : (s next : WaitingValue) (seq : ℕ) (r : Asked) (words : List ℕ) (lending : Lending) (seed : Option ℕ) (told : List Data)
     → LaunchesText s seq r words lending seed told next → AreFloatFree told
 text_free s _ seq r words lending seed _ (launched l is) = (refl, (refl, tt))
-text_free s _ seq r words lending seed _ (unfit said is) = (refl, tt)
+text_free s _ seq r words lending seed _ (unfit refusal is told tells) = refused_free seq r _ told tells.2
 
 by_free : (s next : WaitingValue) (seq : ℕ) (r : Asked) (words : List ℕ) (lending : Lending) (seed : Option (Option ℕ)) (told : List Data)
     → LaunchesBy s seq r words lending seed told next → AreFloatFree told
@@ -75,7 +75,7 @@ same_ends s next is ends = subst EndsAtLaunch (sym is) ends
 text_ends : (s next : WaitingValue) (seq : ℕ) (r : Asked) (words : List ℕ) (lending : Lending) (seed : Option ℕ) (told : List Data)
     → LaunchesText s seq r words lending seed told next → EndsAtLaunch s → EndsAtLaunch next
 text_ends s _ seq r words lending seed _ (launched l is) ends = λ l' same. refl
-text_ends s _ seq r words lending seed _ (unfit said is) ends = ends
+text_ends s _ seq r words lending seed _ (unfit refusal is told tells) ends = ends
 
 by_ends : (s next : WaitingValue) (seq : ℕ) (r : Asked) (words : List ℕ) (lending : Lending) (seed : Option (Option ℕ)) (told : List Data)
     → LaunchesBy s seq r words lending seed told next → EndsAtLaunch s → EndsAtLaunch next

@@ -121,6 +121,12 @@ reading_of (Some seed) lending = Text
 abbrev pub in_words : (refusal message : List ℕ) → List ℕ
 in_words refusal message = without_feed (line refusal ++ message)
 
+-- a launch is refused by a line, and in words
+abbrev pub TellsUnfit : ℕ → Asked → (words : List ℕ) → Lending → (seed : Option ℕ) → (refusal : List ℕ) → List Data → Type 0
+TellsUnfit seq r words lending seed refusal told =
+    (message : List ℕ) × SaysToPerson (reading_of seed lending) words message
+    × (told ≡ refused_data seq r (utf8_lossy (in_words refusal message)) ∷ [])
+
 -- ---- requests
 
 -- who lends: the banker, if nobody is named; nobody, if another word is given
@@ -171,8 +177,8 @@ pub data LaunchesText (s : WaitingValue) (seq : ℕ) (r : Asked) (words : List �
   launched : (l : LaunchedText) → IsLaunched words seed lending (path_of r) s.counting l
       → LaunchesText s seq r words lending seed
       (done_data seq r null ∷ event_data (seq + 1) (codes "initialized") null ∷ []) (record s { launched = Some l; over = true })
-  unfit : (refusal message : List ℕ) → IsUnfit words seed lending refusal → SaysToPerson (reading_of seed lending) words message
-      → LaunchesText s seq r words lending seed (refused_data seq r (utf8_lossy (in_words refusal message)) ∷ []) s
+  unfit : (refusal : List ℕ) → IsUnfit words seed lending refusal
+      → (told : List Data) → TellsUnfit seq r words lending seed refusal told → LaunchesText s seq r words lending seed told s
 
 -- by a seed that is right
 abbrev pub LaunchesBy : WaitingValue → ℕ → Asked → (words : List ℕ) → Lending → Option (Option ℕ) → List Data → WaitingValue → Type 0

@@ -4,7 +4,7 @@ ghost use Rattle.std.specs.Prelude.{◌≡◌, ◌+◌, ◌<◌, ◌^◌, ◌∷
 ghost use Rattle.std.specs.Str.{bytes_eq};
 ghost use Rattle.std.specs.Str.Lossy.{utf8_lossy};
 ghost use Rattle.serde_json.specs.Data.{null};
-ghost use Rattle.pb_adapter_engine.specs.Waiting.{AnswersWaiting, AnswersWaitingKind, Launches, LaunchesBy, LaunchesLent, LaunchesNamed, LaunchesText};
+ghost use Rattle.pb_adapter_engine.specs.Waiting.{AnswersWaiting, AnswersWaitingKind, Launches, LaunchesBy, LaunchesLent, LaunchesNamed, LaunchesText, TellsUnfit};
 ghost use Rattle.pb_adapter_engine.specs.Waiting.{lending_named as named_lending, lending_of as lending_asked, nobody, path_of as path_asked, reading_of, seed_of as seed_asked};
 ghost use Rattle.pb_adapter_engine.specs.Waiting as spec;
 ghost use Rattle.pb_messages.specs.Said.{SaysToPerson};
@@ -127,15 +127,15 @@ fn tell_launched(alloc: Global, seq: u64, request: Request<'_>) -> Result<Reply,
 /// Returns what a person is told of a text that is launched, by how the launch reads it.
 fn message_for(
     alloc: Global,
-    words: &[u8],
+    words: &str,
     lending: Lending,
     seed: Option<u64>,
 ) -> Result<Vec<u8>, NoMemory>
     ensures { IfOk result (λ message. SaysToPerson (reading_of seed lending) words.now message.items) }
 {
     match seed {
-        None => message_of(alloc, Reading::Replayed(lending), words),
-        Some(_) => message_of(alloc, Reading::Text, words),
+        None => message_of(alloc, Reading::Replayed(lending), words.as_bytes()),
+        Some(_) => message_of(alloc, Reading::Text, words.as_bytes()),
     }
 }
 
@@ -149,18 +149,20 @@ fn in_words(alloc: Global, line: &[u8], message: &[u8]) -> Result<String, NoMemo
     Ok(String::from_utf8_lossy(alloc, without_last(&said))?)
 }
 
-/// Returns the reply that a launch is refused, with this line and in words.
+/// Returns the reply that a launch of a text is refused, with the line of the refusal and in words.
 fn tell_unfit(
     alloc: Global,
     seq: u64,
     request: Request<'_>,
+    words: &str,
+    lending: Lending,
+    seed: Option<u64>,
     line: &[u8],
-    message: &[u8],
 ) -> Result<Reply, NoMemory>
-    ensures { IfOk result (λ reply. told_by reply
-        ≡ refused_data seq (request_view request.entry) (utf8_lossy (spec.in_words line.now message.now)) ∷ []) }
+    ensures { IfOk result (λ reply. TellsUnfit seq (request_view request.entry) words.now lending seed line.now (told_by reply)) }
 {
-    let shown = in_words(alloc, line, message)?;
+    let message = message_for(alloc, words, lending, seed)?;
+    let shown = in_words(alloc, line, &message)?;
     refuse(alloc, seq, request, &shown)
 }
 
@@ -198,10 +200,7 @@ impl Waiting {
                 self.over = true;
                 Ok(reply)
             }
-            Launch::Unfit(line) => {
-                let message = message_for(alloc, words.as_bytes(), lending, seed)?;
-                tell_unfit(alloc, seq, request, &line, &message)
-            }
+            Launch::Unfit(line) => { tell_unfit(alloc, seq, request, words, lending, seed, &line) }
         }
     }
 
