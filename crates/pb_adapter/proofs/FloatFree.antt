@@ -1,6 +1,6 @@
 -- No message has a number that is no integer.
 use Rattle.std.proofs.Common.{◌≡◌, ℕ, ℤ, inl, inr, zero, suc, ◌+◌, ◌-◌, List, [], ◌∷◌, length, Bool, true, false, ◌||◌, cond, Option, Some, None, codes, refl, sym, subst}
-use Rattle.std.specs.Prelude.{nat_eq, nat_lt, slice_get}
+use Rattle.std.specs.Prelude.{nat_eq, nat_lt, slice_get, slice_index_or}
 use Rattle.std.proofs.lemmas.Bool.{or_from}
 use Rattle.std.specs.Str.Lossy.{utf8_lossy}
 use Rattle.serde_json.specs.Data.{Data, null}
@@ -11,7 +11,9 @@ use Rattle.pb_code.specs.Code.{CodeProcess, Thread, thread}
 use Rattle.pb_conversations.specs.Conversations.{AreFloatFree}
 use Rattle.pb_debug.specs.Value.{Debugging, bank_state, state_of}
 use Rattle.pb_adapter_requests.proofs.FreeItems.{AreFree, append_free, cond_free, one_free}
-use Rattle.pb_adapter_requests.specs.Breakpoints.{asked_lines}
+use Rattle.pb_code.specs.Whole.{ProcessLabels}
+use Rattle.pb_adapter_requests.specs.Breakpoints.{answered_line, asked_lines, is_of_text}
+use Rattle.pb_adapter_requests.specs.declared.counting.Counting.{Counting}
 use Rattle.pb_adapter_requests.specs.Requests.{Asked, Place, number_of, place_of, text_of}
 use Rattle.pb_adapter_requests.specs.Responses.{done_data, list_below, refused_data}
 use Rattle.pb_adapter_requests.specs.declared.kind.Kind.{Kind}
@@ -129,12 +131,17 @@ continues_free true d next seq r found told (mid, text, says, stays) =
     stays_free (is_event_first d.position mid.position found) mid next seq r found text told stays
 
 -- whatever is answered
+-- what is answered of a line
+line_free : (own : Bool) (counting : Counting) (labels : List ProcessLabels) (line : ℕ) → has_float (answered_line own counting labels line) ≡ false
+line_free true counting labels line = refl
+line_free false counting labels line = refl
+
 pub answers_free : (of : Kind) (d next : Debugging) (c c' : Client) (seq : ℕ) (r : Asked) (told : List Data)
     → AnswersKind of d c seq r told next c' → AreFloatFree told
 answers_free kind.Initialize d next c c' seq r told is = shown_free seq r _ told refl is.0
 answers_free kind.Launch d next c c' seq r told is = refused_free seq r _ told is.0
 answers_free kind.SetBreakpoints d next c c' seq r told is =
-    shown_free seq r _ told (listed_free _ (below_free _ (λ i. refl) (length (asked_lines c.counting r)))) is.0
+    shown_free seq r _ told (listed_free _ (below_free _ (λ i. line_free (is_of_text c.path r) c.counting d.labels (slice_index_or (asked_lines c.counting r) i 0)) (length (asked_lines c.counting r)))) is.0
 answers_free kind.SetEvents d next c c' seq r told (is, same, set) = shown_free seq r null told refl is
 answers_free kind.Disconnect d next c c' seq r told is = shown_free seq r null told refl is.0
 answers_free kind.Terminate d next c c' seq r told is = told_free seq r null _ told refl refl is.0
