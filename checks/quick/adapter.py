@@ -47,18 +47,66 @@ def anything(body: Any) -> bool:
     return True
 
 
+SKIP = "process p begin skip end"
+# What is told of launches that are refused: the refusal line, and the words of `check` or `replay`.
+NOT_DECLARED = """refused N3 at 17
+error N3: integer x is not declared in process p
+  --> line 2, column 2
+  |
+2 |  x := 1 end
+  |  ^
+  = hint: declare it after the first begin of the process: integer x;"""
+NO_PROCESS = """refused K1 at 0
+error K1: there is no process `q`
+  --> pick line 1, column 1
+  |
+1 | q.0 1
+  | ^
+  = the processes before the line %% are p
+  = line 3 of the input"""
+NOT_ENABLED = """refused H1 at 1
+error H1: p.0 cannot make a pick after 1 pick
+  --> pick line 1, column 1
+  |
+1 | p.0 9
+  | ^
+  = 1 of the 9 picks of this line was made
+  = the arm has ended
+  = line 3 of the input
+  = hint: leave the pick out, or make others before it; without it and those behind it, debug shows the run up to here"""
+NO_PICKS_WITH_A_SEED = """refused L2 at 25
+error L2: unexpected character `%`
+  --> line 2, column 1
+  |
+2 | %%
+  | ^
+  = hint: a line %% has nothing else in it; behind it are further texts, for check, or picks, for replay, draw and debug"""
+AN_OBJECT = """refused P1 at 0
+error P1: this is an object, and not a program
+  --> line 1, column 1
+  |
+1 | PBO 2
+  | ^
+  = hint: exec runs an object, debug reads its runs, and migrate writes it in the second format"""
+NO_SEED = "seed is not in 0..=18446744073709551615"
 SESSION: list[Asked] = [
     ("initialize", {"adapterID": "parbegin"}, lambda body: body["supportsStepBack"], None),
     ("threads", {}, "no text is launched", None),
     ("launch", {}, "there is no text", None),
-    ("launch", {"text": "process p begin x := 1 end"}, "refused N3 at 16", None),
-    ("launch", {"text": "process p begin skip end\n%%\nq.0 1"}, "refused K1 at 0", None),
-    ("launch", {"text": "process p begin skip end", "lend": "bank"}, "lend is banker or cash", None),
-    ("launch", {"text": "process p begin skip end\n%%\np.0 9"}, "refused H1 at 1", None),
-    ("launch", {"text": "process p begin skip end\n%%\np.0 1", "seed": 1}, "refused L2 at 25", None),
+    ("launch", {"text": SKIP}, "there is no program: the path of the text", None),
+    ("launch", {"program": "p.pb", "text": "process p begin\n x := 1 end"}, NOT_DECLARED, None),
+    ("launch", {"program": "p.pb", "text": f"{SKIP}\n%%\nq.0 1"}, NO_PROCESS, None),
+    ("launch", {"program": "p.pb", "text": "PBO 2\n"}, AN_OBJECT, None),
+    ("launch", {"program": "p.pb", "text": SKIP, "lend": "bank"}, "lend is banker or cash", None),
+    ("launch", {"program": "p.pb", "text": SKIP, "lend": 1}, "lend is banker or cash", None),
+    *[("launch", {"program": "p.pb", "text": SKIP, "seed": seed}, NO_SEED, None) for seed in ("1", -1, 1 << 64, 1.5)],
+    ("launch", {"program": "p.pb", "text": f"{SKIP}\n%%\np.0 9"}, NOT_ENABLED, None),
+    ("launch", {"program": "p.pb", "text": f"{SKIP}\n%%\np.0 1", "seed": 1}, NO_PICKS_WITH_A_SEED, None),
     ("launch", {"program": "lost.run", "text": LOST.read_text()}, anything, {"event": "initialized"}),
     ("setBreakpoints", {"breakpoints": [{"line": 10}, {"line": 1}]},
      lambda body: [it["verified"] for it in body["breakpoints"]] == [True, False], None),
+    ("setBreakpoints", {"source": {"path": "other.run"}, "breakpoints": [{"line": 10}]},
+     lambda body: body["breakpoints"] == [{"line": 10, "verified": False, "message": "this is not the text that is launched"}], None),
     ("configurationDone", {}, anything, stopped("entry", 0)),
     ("threads", {}, lambda body: names(body) == ["p.0"], None),
     ("stackTrace", {"threadId": 1}, line(6), None),
@@ -80,7 +128,10 @@ SESSION: list[Asked] = [
     ("stepBack", {"threadId": 2}, anything, stopped("step", 1)),
     ("evaluate", {"expression": "why p.0"}, lambda body: body["result"] == "not asking\n", None),
     ("evaluate", {"expression": "to 7"}, lambda body: body["result"] == "at 7\n", stopped("goto", 7)),
-    ("evaluate", {"expression": "to 99"}, lambda body: body["result"] == "refused G1\n", None),
+    ("evaluate", {"expression": "to 99"}, "refused G1", None),
+    ("evaluate", {"expression": "vars q"}, "refused G2", None),
+    ("evaluate", {"expression": "fly"}, "refused G4", None),
+    ("evaluate", {"expression": "to 7\nto 99"}, "at 7\nrefused G1", None),
     ("pause", {"threadId": 1}, anything, stopped("pause", 7)),
     ("setBreakpoints", {"breakpoints": []}, anything, None),
     ("continue", {"threadId": 1}, anything, stopped("end", 15, text="no circle\n")),
@@ -98,15 +149,29 @@ SESSION: list[Asked] = [
 HEADERS = (b"Content-Length: %d\r\n\r\n", b"content-length:%d\r\n\r\n", b"Content-Type: x\r\nCONTENT-LENGTH: \t%d\r\n\r\n")
 
 
+# A session with a client that counts lines and columns from 0.
+FROM_0: list[Asked] = [
+    ("initialize", {"linesStartAt1": False, "columnsStartAt1": False}, anything, None),
+    ("launch", {"program": "lost.run", "text": LOST.read_text()}, anything, {"event": "initialized"}),
+    ("setBreakpoints", {"source": {"path": "lost.run"}, "breakpoints": [{"line": 9}, {"line": 0}]},
+     lambda body: body["breakpoints"] == [{"line": 9, "verified": True}, {"line": 0, "verified": False}], None),
+    ("setBreakpoints", {"source": {"path": "other.run"}, "breakpoints": [{"line": 4}]},
+     lambda body: [it["line"] for it in body["breakpoints"]] == [4], None),
+    ("continue", {"threadId": 1}, anything, stopped("breakpoint", 12)),
+    ("stackTrace", {"threadId": 1}, lambda body: [(it["line"], it["column"]) for it in body["stackFrames"]] == [(9, 0)], None),
+    ("disconnect", {}, anything, None),
+]
+
+
 def framed(message: Message) -> bytes:
     content = json.dumps(message).encode()
     return HEADERS[message["seq"] % len(HEADERS)] % len(content) + content
 
 
-def asked() -> list[bytes]:
-    """Returns the requests of the session, each in its frame."""
+def asked(session: list[Asked]) -> list[bytes]:
+    """Returns the requests of a session, each in its frame."""
     return [framed({"seq": seq, "type": "request", "command": command, "arguments": arguments})
-            for seq, (command, arguments, _, _) in enumerate(SESSION, 1)]
+            for seq, (command, arguments, _, _) in enumerate(session, 1)]
 
 
 class Client:
@@ -147,12 +212,12 @@ class Client:
         self.check("nothing comes behind the last message", self.source.read() == b"", "more came")
 
 
-def play(words: list[str]) -> int:
+def play(words: list[str], session: list[Asked]) -> int:
     """Asks and hears in turn, as an editor does."""
     child = subprocess.Popen([*words, "dap"], stdin=subprocess.PIPE, stdout=subprocess.PIPE)
     assert child.stdin and child.stdout
     client = Client(child.stdout)
-    for seq, (request, wanted) in enumerate(zip(asked(), SESSION), 1):
+    for seq, (request, wanted) in enumerate(zip(asked(session), session), 1):
         child.stdin.write(request)
         child.stdin.flush()
         client.hear_answer(seq, wanted)
@@ -196,13 +261,14 @@ def check_said(file: str) -> int:
 def main() -> int:
     words = sys.argv[1:]
     if words == ["--asked"]:
-        sys.stdout.buffer.write(b"".join(asked()))
+        sys.stdout.buffer.write(b"".join(asked(SESSION)))
         return 0
     if words[:1] == ["--said"]:
         wrong = check_said(words[1])
     else:
-        wrong = play([program()]) + play_wrong(program())
-    print(f"{len(SESSION)} requests, {wrong} wrong")
+        command = [program()]
+        wrong = play(command, SESSION) + play(command, FROM_0) + play_wrong(program())
+    print(f"{len(SESSION) + len(FROM_0)} requests, {wrong} wrong")
     return 1 if wrong else 0
 
 

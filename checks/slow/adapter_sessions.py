@@ -161,7 +161,7 @@ class Session:
 
     def begin(self) -> None:
         self.ask("initialize", adapterID="parbegin")
-        self.ask("launch", text=self.run.text)
+        self.ask("launch", program="drawn.run", text=self.run.text)
         self.check("initialized", self.hear()["event"], "initialized")
         self.goes("configurationDone", 0)
 

@@ -1,7 +1,8 @@
 -- No message has a number that is no integer.
 use Rattle.std.proofs.Common.{◌≡◌, ℕ, ℤ, inl, inr, zero, suc, ◌+◌, ◌-◌, List, [], ◌∷◌, length, Bool, true, false, ◌||◌, cond, Option, Some, None, codes, refl, sym, subst}
-use Rattle.std.specs.Prelude.{nat_eq, nat_lt, slice_get}
+use Rattle.std.specs.Prelude.{nat_eq, nat_lt, slice_get, slice_index_or}
 use Rattle.std.proofs.lemmas.Bool.{or_from}
+use Rattle.std.specs.Str.Lossy.{utf8_lossy}
 use Rattle.serde_json.specs.Data.{Data, null}
 use Rattle.serde_json.specs.Written.{has_float}
 use Rattle.pb_base.specs.Banker.{processes, resources}
@@ -10,13 +11,15 @@ use Rattle.pb_code.specs.Code.{CodeProcess, Thread, thread}
 use Rattle.pb_conversations.specs.Conversations.{AreFloatFree}
 use Rattle.pb_debug.specs.Value.{Debugging, bank_state, state_of}
 use Rattle.pb_adapter_requests.proofs.FreeItems.{AreFree, append_free, cond_free, one_free}
-use Rattle.pb_adapter_requests.specs.Breakpoints.{asked_lines}
+use Rattle.pb_code.specs.Whole.{ProcessLabels}
+use Rattle.pb_adapter_requests.specs.Breakpoints.{answered_line, asked_lines, is_of_text}
+use Rattle.pb_adapter_requests.specs.declared.counting.Counting.{Counting}
 use Rattle.pb_adapter_requests.specs.Requests.{Asked, Place, number_of, place_of, text_of}
 use Rattle.pb_adapter_requests.specs.Responses.{done_data, list_below, refused_data}
 use Rattle.pb_adapter_requests.specs.declared.kind.Kind.{Kind}
 use Rattle.pb_adapter_requests.specs.declared.kind.Kind.TheVariants as kind
 use Rattle.pb_adapter_values.specs.Values.{arm_name, arms_below, arms_of, cash_list, is_idle, loans_list, result_data, scopes_if, thread_data, thread_if, thread_number}
-use Rattle.pb_adapter.specs.Answers.{AnswersKind, Client, ContinuesTo, Evaluates, GoesTo, StaysIf}
+use Rattle.pb_adapter.specs.Answers.{AnswersKind, Client, ContinuesTo, Evaluates, GoesTo, StaysIf, evaluated_data, refuses_from, without_feed}
 use Rattle.pb_adapter.specs.Moves.{end_data, is_event_first, saying_data, stopped_data, tried_reason}
 use Rattle.pb_adapter.specs.Values.{frames_if, integers_at, stack_data, threads_below, threads_data, variables_data, variables_list, vars_of}
 use Rattle.pb_adapter.specs.Values.{has_arm, operands_in, reference_or_none, scopes_at}
@@ -92,17 +95,24 @@ pub told_free : (seq : ℕ) (r : Asked) (body event : Data) (told : List Data) �
     → told ≡ done_data seq r body ∷ event ∷ [] → AreFloatFree told
 told_free seq r body event told free free' is = subst AreFloatFree (sym is) (done_free seq r body free, (free', tt))
 
-moved_free : (b : Bool) (seq : ℕ) (r : Asked) (body event : Data) → has_float body ≡ false → has_float event ≡ false
-    → AreFloatFree (done_data seq r body ∷ cond b [] (event ∷ []))
-moved_free true seq r body event free free' = (done_free seq r body free, tt)
-moved_free false seq r body event free free' = (done_free seq r body free, (free', tt))
+moved_free : (b : Bool) (response event : Data) → has_float response ≡ false → has_float event ≡ false
+    → AreFloatFree (response ∷ cond b [] (event ∷ []))
+moved_free true response event free free' = (free, tt)
+moved_free false response event free free' = (free, (free', tt))
+
+-- the response to command lines, refused or not
+response_free : (b : Bool) (seq : ℕ) (r : Asked) (message : List ℕ) (body : Data) → has_float body ≡ false
+    → has_float (cond b (refused_data seq r message) (done_data seq r body)) ≡ false
+response_free true seq r message body free = refl
+response_free false seq r message body free = done_free seq r body free
 
 evaluated_free : (d next : Debugging) (c c' : Client) (seq : ℕ) (r : Asked) (words : Option (List ℕ)) (told : List Data)
     → Evaluates d c seq r words told next c' → AreFloatFree told
 evaluated_free d next c c' seq r None told is = refused_free seq r _ told is.0
 evaluated_free d next c c' seq r (Some words) told (text, session, same, is) =
     subst AreFloatFree (sym is)
-    (moved_free (nat_eq d.position next.position) seq r (result_data text) (stopped_data (seq + 1) next (codes "goto")) refl refl)
+    (moved_free (nat_eq d.position next.position) (evaluated_data seq r text) (stopped_data (seq + 1) next (codes "goto"))
+    (response_free (refuses_from true text) seq r (utf8_lossy (without_feed text)) (result_data text) refl) refl)
 
 goes_free : (d next : Debugging) (seq : ℕ) (r : Asked) (found : Option ℕ) (told : List Data) → GoesTo d seq r found told next → AreFloatFree told
 goes_free d next seq r (Some k) told (moved, is) = told_free seq r null (stopped_data (seq + 1) next (codes "breakpoint")) told refl refl is
@@ -121,12 +131,17 @@ continues_free true d next seq r found told (mid, text, says, stays) =
     stays_free (is_event_first d.position mid.position found) mid next seq r found text told stays
 
 -- whatever is answered
+-- what is answered of a line
+line_free : (own : Bool) (counting : Counting) (labels : List ProcessLabels) (line : ℕ) → has_float (answered_line own counting labels line) ≡ false
+line_free true counting labels line = refl
+line_free false counting labels line = refl
+
 pub answers_free : (of : Kind) (d next : Debugging) (c c' : Client) (seq : ℕ) (r : Asked) (told : List Data)
     → AnswersKind of d c seq r told next c' → AreFloatFree told
 answers_free kind.Initialize d next c c' seq r told is = shown_free seq r _ told refl is.0
 answers_free kind.Launch d next c c' seq r told is = refused_free seq r _ told is.0
 answers_free kind.SetBreakpoints d next c c' seq r told is =
-    shown_free seq r _ told (listed_free _ (below_free _ (λ i. refl) (length (asked_lines r)))) is.0
+    shown_free seq r _ told (listed_free _ (below_free _ (λ i. line_free (is_of_text c.path r) c.counting d.labels (slice_index_or (asked_lines c.counting r) i 0)) (length (asked_lines c.counting r)))) is.0
 answers_free kind.SetEvents d next c c' seq r told (is, same, set) = shown_free seq r null told refl is
 answers_free kind.Disconnect d next c c' seq r told is = shown_free seq r null told refl is.0
 answers_free kind.Terminate d next c c' seq r told is = told_free seq r null _ told refl refl is.0
@@ -135,7 +150,7 @@ answers_free kind.Threads d next c c' seq r told is =
     (listed_free _ (threads_free d.verified.code.names.processes (state_of d).processes (length (state_of d).processes))) is.0
 answers_free kind.StackTrace d next c c' seq r told is =
     let at = place_of (number_of (codes "threadId") r) in
-    shown_free seq r (stack_data d c.path at) told
+    shown_free seq r (stack_data d c.path c.counting at) told
     (listed_free _ (frames_free (has_arm (slice_get (state_of d).processes at.process) at.arm) _ refl)) is.0
 answers_free kind.Scopes d next c c' seq r told is =
     let at = place_of (number_of (codes "frameId") r) in

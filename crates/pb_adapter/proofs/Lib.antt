@@ -1,3 +1,4 @@
 pub mod ArmLemmas
 pub mod FloatFree
+pub mod RefusedLines
 pub mod ReplyLemmas

@@ -1,11 +1,14 @@
 -- What is answered to a request, at the position of a debugger, and where the debugger then is.
-use Rattle.std.specs.Prelude.{◌≡◌, ◌⊎◌, ℕ, ◌+◌, ◌<◌, List, [], ◌∷◌, length, Option, Some, None, Bool, true, false, codes, cond, nat_eq, unwrap_or}
+use Rattle.std.specs.Prelude.{◌≡◌, ◌⊎◌, ◌&&◌, ◌||◌, ◌==◌, ◌-◌, ℕ, ◌+◌, ◌<◌, List, [], ◌∷◌, length, take, Option, Some, None, Bool, true, false, codes, cond, nat_eq, unwrap_or}
+use Rattle.std.specs.List.{starts_with}
+use Rattle.std.specs.Str.Lossy.{utf8_lossy}
 use Rattle.serde_json.specs.Data.{Data, null}
 use Rattle.pb_debug_commands.specs.Lines.{lines_of}
 use Rattle.pb_debug.specs.Sessions.{Session, session_bytes}
 use Rattle.pb_debug.specs.Value.{Debugging, moved_to}
 use Rattle.pb_debug_positions.specs.Searches.{IsFirst}
-use Rattle.pb_adapter_requests.specs.Breakpoints.{asked_lines, asks_events, breakpoints_data}
+use Rattle.pb_adapter_requests.specs.Breakpoints.{asked_lines, asks_events, breakpoints_data, is_of_text}
+use Rattle.pb_adapter_requests.specs.declared.counting.Counting.{Counting}
 use Rattle.pb_adapter_requests.specs.Kinds.{kind_of}
 use Rattle.pb_adapter_requests.specs.Requests.{Asked, number_of, place_of, text_of}
 use Rattle.pb_adapter_requests.specs.Responses.{done_data, event_data, refused_data}
@@ -16,12 +19,17 @@ use Rattle.pb_adapter.specs.Moves.{saying_data, stopped_data, thread_of, tried_r
 use Rattle.pb_adapter.specs.Values.{scopes_at, stack_data, threads_data, variables_data}
 use Rattle.pb_adapter_values.specs.Values.{capabilities_data, result_data}
 
--- what a client has set and what is shown to it: the lines to stop at, whether to stop at events, and the path of
--- the text
+-- what a client has set and what is shown to it: the lines to stop at, whether to stop at events, the path of the text,
+-- and from which numbers it counts
 pub record Client : Type 0 where
   pub lines : List ℕ
   pub events : Bool
   pub path : List ℕ
+  pub counting : Counting
+
+-- the lines to stop at are those of the last request of the text that is launched
+abbrev pub with_lines : (own : Bool) → Client → List ℕ → Client
+with_lines own c lines = cond own (record c { lines = lines }) c
 
 -- a request is carried out, and nothing changes
 abbrev pub Shows : Debugging → Client → ℕ → Asked → (body : Data) → List Data → Debugging → Client → Type 0
@@ -91,20 +99,34 @@ StepsOn d c seq r told next c' =
 abbrev pub event_if_moved : (seq : ℕ) → (d next : Debugging) → List Data
 event_if_moved seq d next = cond (nat_eq d.position next.position) [] (stopped_data seq next (codes "goto") ∷ [])
 
+-- whether some line of a text says that a command is refused; an integer `refused` has a number behind its name
+abbrev pub refuses_from : (start : Bool) → List ℕ → Bool
+refuses_from start [] = false
+refuses_from start (b ∷ bs) = (start && starts_with nat_eq (b ∷ bs) (codes "refused G")) || refuses_from (b == 10) bs
+
+-- the text without its last line feed
+abbrev pub without_feed : List ℕ → List ℕ
+without_feed text = take (length text - 1) text
+
+-- the response to command lines that are answered by a text: they are refused, with that text, if one of them is
+abbrev pub evaluated_data : (seq : ℕ) → Asked → (text : List ℕ) → Data
+evaluated_data seq r text =
+    cond (refuses_from true text) (refused_data seq r (utf8_lossy (without_feed text))) (done_data seq r (result_data text))
+
 -- the command lines of a session are answered
 abbrev pub Evaluates : Debugging → Client → ℕ → Asked → Option (List ℕ) → List Data → Debugging → Client → Type 0
 Evaluates d c seq r None told next c' = Refuses d c seq r (codes "there is no expression") told next c'
 Evaluates d c seq r (Some words) told next c' =
     (text : List ℕ) × Says d words text next × (c' ≡ c)
-    × (told ≡ done_data seq r (result_data text) ∷ event_if_moved (seq + 1) d next)
+    × (told ≡ evaluated_data seq r text ∷ event_if_moved (seq + 1) d next)
 
 -- the messages that answer a request of a kind
 abbrev pub AnswersKind : Kind → Debugging → Client → ℕ → Asked → List Data → Debugging → Client → Type 0
 AnswersKind kind.Initialize d c seq r told next c' = Shows d c seq r capabilities_data told next c'
 AnswersKind kind.Launch d c seq r told next c' = Refuses d c seq r (codes "a text is launched already") told next c'
 AnswersKind kind.SetBreakpoints d c seq r told next c' =
-    (told ≡ done_data seq r (breakpoints_data d.labels (asked_lines r)) ∷ []) × (next ≡ d)
-    × (c' ≡ record c { lines = asked_lines r })
+    (told ≡ done_data seq r (breakpoints_data (is_of_text c.path r) c.counting d.labels (asked_lines c.counting r)) ∷ []) × (next ≡ d)
+    × (c' ≡ with_lines (is_of_text c.path r) c (asked_lines c.counting r))
 AnswersKind kind.SetEvents d c seq r told next c' =
     (told ≡ done_data seq r null ∷ []) × (next ≡ d) × (c' ≡ record c { events = asks_events r })
 AnswersKind kind.Disconnect d c seq r told next c' = Shows d c seq r null told next c'
@@ -112,7 +134,7 @@ AnswersKind kind.Terminate d c seq r told next c' =
     (told ≡ done_data seq r null ∷ event_data (seq + 1) (codes "terminated") null ∷ []) × (next ≡ d) × (c' ≡ c)
 AnswersKind kind.Threads d c seq r told next c' = Shows d c seq r (threads_data d) told next c'
 AnswersKind kind.StackTrace d c seq r told next c' =
-    Shows d c seq r (stack_data d c.path (place_of (number_of (codes "threadId") r))) told next c'
+    Shows d c seq r (stack_data d c.path c.counting (place_of (number_of (codes "threadId") r))) told next c'
 AnswersKind kind.Scopes d c seq r told next c' =
     Shows d c seq r (scopes_at d (place_of (number_of (codes "frameId") r))) told next c'
 AnswersKind kind.Variables d c seq r told next c' =

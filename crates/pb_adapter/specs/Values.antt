@@ -8,6 +8,8 @@ use Rattle.pb_code.specs.Whole.{ProcessLabels}
 use Rattle.pb_machine.specs.Views.{operands_of_thread}
 use Rattle.pb_debug.specs.Value.{Debugging, bank_state, state_of}
 use Rattle.pb_debug_positions.specs.Searches.{line_in}
+use Rattle.pb_adapter_requests.specs.Counting.{first_column, shown_line}
+use Rattle.pb_adapter_requests.specs.declared.counting.Counting.{Counting}
 use Rattle.pb_adapter_requests.specs.Requests.{Place, place_of}
 use Rattle.pb_adapter_requests.specs.Responses.{listed}
 use Rattle.pb_adapter_values.specs.Values.{arm_name, arms_of, cash_list, frame_data, integers_list, loans_list}
@@ -39,10 +41,11 @@ frames_if false frame = []
 frames_if true frame = frame ∷ []
 
 -- the answer to a request for the stack of an arm
-abbrev pub stack_data : Debugging → (path : List ℕ) → Place → Data
-stack_data d path at = listed (codes "stackFrames") (frames_if (has_arm (slice_get (state_of d).processes at.process) at.arm)
+abbrev pub stack_data : Debugging → (path : List ℕ) → Counting → Place → Data
+stack_data d path counting at = listed (codes "stackFrames") (frames_if (has_arm (slice_get (state_of d).processes at.process) at.arm)
     (frame_data path (arm_name (name_of d.verified.code.names.processes at.process) at.arm) (thread_number at.process at.arm)
-    (line_or_none (line_in (slice_get d.labels at.process) (slice_get (state_of d).processes at.process) at.arm))))
+    (shown_line counting (line_or_none (line_in (slice_get d.labels at.process) (slice_get (state_of d).processes at.process) at.arm)))
+    (first_column counting)))
 
 -- the names of the integers of a process, if there is such a process
 abbrev pub integers_of : Option ProcessLabels → List (List ℕ)

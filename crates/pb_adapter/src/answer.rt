@@ -4,22 +4,21 @@ ghost use Rattle.std.specs.Prelude.{◌≡◌, ◌+◌, ◌<◌, ◌^◌, ◌∷
 ghost use Rattle.serde_json.specs.Data.{null};
 ghost use Rattle.serde_json.specs.View.{view};
 ghost use Rattle.pb_debug.specs.Value.{moved_to};
-ghost use Rattle.pb_adapter_requests.specs.Breakpoints.{asked_lines as asked_by, asks_events as events_asked, breakpoints_data};
+ghost use Rattle.pb_adapter_requests.specs.Breakpoints.{asked_lines as asked_by, asks_events as events_asked, breakpoints_data, is_of_text as of_text};
 ghost use Rattle.pb_adapter_requests.specs.Requests.{request_view, text_of as text_asked};
 ghost use Rattle.pb_adapter_requests.specs.Responses.{done_data, event_data, refused_data, told_by};
-ghost use Rattle.pb_adapter.specs.Answers.{Answers, AnswersKind, Client as AnyClient, Evaluates, Says, StepsOn, event_if_moved};
+ghost use Rattle.pb_adapter.specs.Answers.{Answers, AnswersKind, Client as AnyClient, Evaluates, Says, StepsOn, evaluated_data, event_if_moved, with_lines};
 ghost use Rattle.pb_adapter.specs.Moves.{stop_at, stopped_data, stop_view};
-ghost use Rattle.pb_adapter_values.specs.Values.{result_data};
 
 use crate::arms::{scopes_at, stack, threads};
 use crate::continues::continue_on;
-use crate::evaluate::evaluate;
+use crate::evaluate::{answer_lines, evaluated};
 use crate::moves::{START, Stop, last_breakpoint, last_line, next_line, stopped};
 use crate::tries::try_arm;
 use crate::variables::variables;
 use pb_adapter_requests::{
-    Kind, Reply, Request, answered, asked_lines, asks_events, breakpoints_body, done, event,
-    kind_of, number_of, place_of, refused, text_of, with_event,
+    Counting, Kind, Reply, Request, alone, answered, asked_lines, asks_events, breakpoints_body,
+    done, event, is_of_text, kind_of, number_of, place_of, refused, text_of, with_event,
 };
 use pb_adapter_values::capabilities;
 use pb_base::NoMemory;
@@ -36,6 +35,8 @@ pub struct Client {
     /// Whether to stop at events.
     pub events: bool,
     pub path: String,
+    /// From which numbers it counts.
+    pub counting: Counting,
 }
 
 impl Model for Client {
@@ -43,7 +44,7 @@ impl Model for Client {
 
     ghost Value = { Client };
 
-    ghost view = { λ c. record { lines = c.lines.items; events = c.events; path = c.path.bytes.items } };
+    ghost view = { λ c. record { lines = c.lines.items; events = c.events; path = c.path.bytes.items; counting = c.counting } };
 }
 
 /// Returns the reply that a request is carried out, with what it asks for.
@@ -112,15 +113,15 @@ fn tell_evaluated(
     requires few { seq < 2 ^ 63 }
     ensures { IfOk result (λ reply. (text : List ℕ)
         × Says debugger.old words.now text debugger.new
-        × (told_by reply ≡ done_data seq (request_view request.entry) (result_data text)
+        × (told_by reply ≡ evaluated_data seq (request_view request.entry) text
         ∷ event_if_moved (seq + 1) debugger.old debugger.new)) }
 {
     let position = debugger.position();
-    let body = evaluate(alloc, debugger, words)?;
+    let said = answer_lines(alloc, debugger, words)?;
+    let response = evaluated(alloc, seq, request, said.as_slice())?;
     if debugger.position() == position {
-        return show(alloc, seq, request, body);
+        return Ok(alone(response));
     }
-    let response = done(alloc, seq, request, body)?;
     let event = stopped(alloc, seq + 1, debugger, "goto")?;
     Ok(with_event(response, event))
 }
@@ -161,7 +162,7 @@ fn step_on(
     go(alloc, seq, debugger, request, stop)
 }
 
-/// Sets the lines to stop at.
+/// Sets the lines to stop at, if they are of the text that is launched.
 fn set_breakpoints(
     alloc: Global,
     seq: u64,
@@ -170,13 +171,19 @@ fn set_breakpoints(
     request: Request<'_>,
 ) -> Result<Reply, NoMemory>
     ensures told { IfOk result (λ reply. told_by reply ≡ done_data seq (request_view request.entry)
-        (breakpoints_data debugger.now.labels (asked_by (request_view request.entry))) ∷ []) }
-    ensures set { OnOk result (client.new ≡ record client.old { lines = asked_by (request_view request.entry) }) }
+        (breakpoints_data (of_text client.old.path (request_view request.entry)) client.old.counting debugger.now.labels
+        (asked_by client.old.counting (request_view request.entry))) ∷ []) }
+    ensures set { OnOk result (client.new ≡ with_lines (of_text client.old.path (request_view request.entry)) client.old
+        (asked_by client.old.counting (request_view request.entry))) }
 {
-    let lines = asked_lines(alloc, request)?;
-    let body = breakpoints_body(alloc, debugger.labels(), &lines)?;
+    let counting = client.counting;
+    let own = is_of_text(request, client.path.as_str());
+    let lines = asked_lines(alloc, counting, request)?;
+    let body = breakpoints_body(alloc, own, counting, debugger.labels(), &lines)?;
     let reply = answered(alloc, seq, request, body)?;
-    client.lines = lines;
+    if own {
+        client.lines = lines;
+    }
     Ok(reply)
 }
 
@@ -222,7 +229,7 @@ fn answer_kind(
             alloc,
             seq,
             request,
-            stack(alloc, debugger, client.path.as_str(), at)?,
+            stack(alloc, debugger, client.path.as_str(), client.counting, at)?,
         ),
         Kind::Scopes => {
             let of = place_of(number_of(request, "frameId"));

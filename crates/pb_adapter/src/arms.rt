@@ -5,10 +5,11 @@ ghost use Rattle.serde_json.specs.View.{view};
 ghost use Rattle.pb_base.specs.Lines.{name_of};
 ghost use Rattle.pb_debug.specs.Value.{state_of};
 ghost use Rattle.pb_debug_positions.specs.Searches.{line_in};
+ghost use Rattle.pb_adapter_requests.specs.Counting.{first_column, shown_line};
 ghost use Rattle.pb_adapter.specs.Values as spec;
 ghost use Rattle.pb_adapter_values.specs.Values as value;
 
-use pb_adapter_requests::Place;
+use pb_adapter_requests::{Counting, Place};
 use pb_adapter_values::{
     arm_name, frame, frames_body, list_arms, name_at, no_scopes, scopes, thread_number,
     threads_body,
@@ -68,6 +69,7 @@ fn frame_of(
     alloc: Global,
     debugger: &Debugger<'_>,
     path: &str,
+    counting: Counting,
     p: usize,
     arm: usize,
     line: u32,
@@ -75,11 +77,19 @@ fn frame_of(
     requires process { p < 64 }
     requires arm { arm < 64 }
     ensures { IfOk result (λ v. view v ≡ value.frame_data path.now
-        (value.arm_name (name_of debugger.now.verified.code.names.processes p) arm) (value.thread_number p arm) line) }
+        (value.arm_name (name_of debugger.now.verified.code.names.processes p) arm) (value.thread_number p arm)
+        (shown_line counting line) (first_column counting)) }
 {
     let name = name_at(&debugger.verified().names().processes, p);
     let shown = arm_name(alloc, name, arm)?;
-    let value = frame(alloc, path, shown.as_str(), thread_number(p, arm), line)?;
+    let value = frame(
+        alloc,
+        path,
+        shown.as_str(),
+        thread_number(p, arm),
+        counting.shown_line(line),
+        counting.first_column(),
+    )?;
     Ok(value)
 }
 
@@ -98,13 +108,14 @@ pub fn stack(
     alloc: Global,
     debugger: &Debugger<'_>,
     path: &str,
+    counting: Counting,
     at: Place,
 ) -> Result<Value, NoMemory>
-    ensures { IfOk result (λ v. view v ≡ spec.stack_data debugger.now path.now (record { process = at.process; arm = at.arm })) }
+    ensures { IfOk result (λ v. view v ≡ spec.stack_data debugger.now path.now counting (record { process = at.process; arm = at.arm })) }
 {
     let mut list = Vec::new(alloc);
     if let Some(line) = line_of(debugger, at.process, at.arm) {
-        let value = frame_of(alloc, debugger, path, at.process, at.arm, line)?;
+        let value = frame_of(alloc, debugger, path, counting, at.process, at.arm, line)?;
         list.push(value)?;
     }
     Ok(frames_body(alloc, list)?)

@@ -1,10 +1,11 @@
 //! Commands of a session, as expressions.
 
-ghost use Rattle.std.specs.Prelude.{◌≡◌, ℕ, List, IfOk};
+ghost use Rattle.std.specs.Prelude.{◌≡◌, IfOk, true};
 ghost use Rattle.serde_json.specs.View.{view};
-ghost use Rattle.pb_adapter.specs.Answers.{Says};
-ghost use Rattle.pb_adapter_values.specs.Values.{result_data};
+ghost use Rattle.pb_adapter_requests.specs.Requests.{request_view};
+ghost use Rattle.pb_adapter.specs.Answers.{Says, evaluated_data, refuses_from, without_feed};
 
+use pb_adapter_requests::{Request, done, failed};
 use pb_adapter_values::result_body;
 use pb_base::{MemoryInput, NoMemory};
 use pb_conversations::Said;
@@ -28,11 +29,41 @@ pub fn answer_lines(
     }
 }
 
-/// Carries out the command lines of an expression, and returns what a session answers to them.
-pub fn evaluate(alloc: Global, debugger: &mut Debugger<'_>, words: &str) -> Result<Value, NoMemory>
-    ensures { IfOk result (λ v. (text : List ℕ)
-        × Says debugger.old words.now text debugger.new × (view v ≡ result_data text)) }
+/// Returns whether a line of a text says that a command is refused.
+#[tactic(auto, using(crate::proofs::RefusedLines::refuses_step))]
+fn refuses(text: &[u8]) -> bool
+    ensures { result ≡ refuses_from true text.now }
 {
-    let said = answer_lines(alloc, debugger, words)?;
-    result_body(alloc, said.as_slice())
+    let mut start = true;
+    for i in 0..text.len() {
+        if start && text[i..].starts_with(b"refused G") {
+            return true;
+        }
+        start = text[i] == b'\n';
+    }
+    false
+}
+
+/// Returns a text without its last line feed.
+pub fn without_last(text: &[u8]) -> &[u8]
+    ensures { result.now ≡ without_feed text.now }
+{
+    &text[..text.len().saturating_sub(1)]
+}
+
+/// Returns the response to command lines that a session answers so.
+pub fn evaluated(
+    alloc: Global,
+    seq: u64,
+    request: Request<'_>,
+    text: &[u8],
+) -> Result<Value, NoMemory>
+    ensures { IfOk result (λ v. view v ≡ evaluated_data seq (request_view request.entry) text.now) }
+{
+    if refuses(text) {
+        let words = String::from_utf8_lossy(alloc, without_last(text))?;
+        return Ok(failed(alloc, seq, request.seq, request.command, &words)?);
+    }
+    let body = result_body(alloc, text)?;
+    Ok(done(alloc, seq, request, body)?)
 }

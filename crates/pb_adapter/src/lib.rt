@@ -14,4 +14,5 @@ mod tries;
 mod variables;
 
 pub use answer::Client;
+pub use evaluate::without_last;
 pub use session::Session;

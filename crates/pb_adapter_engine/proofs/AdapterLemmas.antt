@@ -2,12 +2,14 @@
 use Rattle.std.proofs.Common.{◌≡◌, ◌⊎◌, ◌<◌, ℕ, ◌+◌, List, [], ◌++◌, length, Bool, Option, Some, None, IfSome, true, true≢false, refl, sym, ap, ◌∙◌, subst, inl, inr, append_assoc, append-nil}
 use Rattle.serde_json.specs.Data.{Data}
 use Rattle.pb_adapter_requests.specs.Requests.{Asked}
+use Rattle.pb_adapter_requests.specs.declared.counting.Counting.{Counting}
 use Rattle.pb_base.specs.Device.{appended}
 use Rattle.pb_base.proofs.DeviceLemmas.{appended-appended}
 use Rattle.pb_command_io.specs.Answers.{Tells}
 use Rattle.pb_command_io.specs.declared.status.Status.{Status}
 use Rattle.pb_command_io.specs.declared.status.Status.TheVariants as status
-use Rattle.pb_conversations.specs.Conversations.{TalksOut, TalksSome, WritesBefore, texts}
+use Rattle.pb_conversations.specs.Conversations.{AnswersRead, SaysBefore, TalksOut, TalksSome, WritesBefore, texts}
+use Rattle.pb_conversations.proofs.ConversationLemmas.{front_of, read_to}
 use Rattle.pb_debug.specs.Value.{Debugging, IsPosition, at_start, showing}
 use Rattle.pb_base.specs.declared.lending.Lending.{Lending}
 use Rattle.pb_code.specs.Whole.{ProcessLabels}
@@ -17,7 +19,7 @@ use Rattle.pb_verifier.specs.Verified.{VerifiedCode}
 use Rattle.pb_conversations.specs.declared.conversation.Stop.{Stop}
 use Rattle.pb_conversations.specs.declared.conversation.Stop.TheVariants as stop
 use Rattle.pb_adapter.specs.Sessions.{AnswersIn, Debugged}
-use Rattle.pb_adapter_engine.specs.Adapters.{IsEnd, SaysOfAdapter, SaysOfLaunched, SaysOfSession, WritesText, stop_status}
+use Rattle.pb_adapter_engine.specs.Adapters.{AnswersMessages, IsEnd, SaysOfAdapter, before_launch, behind_launch, opened, SaysOfLaunched, SaysOfSession, WritesText, stop_status}
 use Rattle.pb_adapter_engine.specs.Adapters as says
 use Rattle.pb_adapter_engine.specs.Waiting.{AnswersWaiting, LaunchedText, WaitingValue, nobody}
 use Rattle.pb_adapter_engine.proofs.WaitingLemmas.{launch_is_last}
@@ -74,10 +76,10 @@ launched_known l first bytes s old new given is placed (text, done, session, wro
 
 -- the debugger of what was launched
 pub opened_debugger : (lending : Lending) (verified v : VerifiedCode) (labels shown : List ProcessLabels) (counted cs : List CountedPick)
-    (source text path : List ℕ) (d d' : Debugging) → v ≡ verified → shown ≡ labels → cs ≡ counted → text ≡ source
+    (source text path : List ℕ) (counting : Counting) (d d' : Debugging) → v ≡ verified → shown ≡ labels → cs ≡ counted → text ≡ source
     → d ≡ at_start lending v shown (spread cs) → d' ≡ showing (Some text) d
-    → d' ≡ (says.opened (record { lending = lending; verified = verified; labels = labels; counted = counted; source = source; path = path })).debugger
-opened_debugger lending verified v labels shown counted cs source text path d d' code of picks bytes is is' =
+    → d' ≡ (says.opened (record { lending = lending; verified = verified; labels = labels; counted = counted; source = source; path = path; counting = counting })).debugger
+opened_debugger lending verified v labels shown counted cs source text path counting d d' code of picks bytes is is' =
     is'
     ∙ ap (λ (x : List ℕ). showing (Some x) d) bytes
     ∙ ap (λ (x : Debugging). showing (Some source) x) is
@@ -152,3 +154,30 @@ module _ (bytes : List ℕ) (left old mid : Option (List ℕ)) (after : WaitingV
       behind l is new given
       (subst (λ (n : ℕ). Tells (SaysOfLaunched l n t.rest) mid new given) t.numbered
       (subst (λ (o : Option (List ℕ)). IfSome o (λ rest. Tells (SaysOfLaunched l next rest) mid new given)) (left_known l is) told))
+
+  -- a read failed while what was launched was debugged
+  pub launched_read : (l : LaunchedText) → after.launched ≡ Some l → (left' new : Option (List ℕ))
+      → IfSome left (λ rest. SaysBefore (AnswersRead AnswersIn (λ s. s.over) (opened l) next) rest left' mid new)
+      → SaysBefore AnswersMessages bytes left' old new
+  launched_read l is left' new says =
+      let here : SaysBefore (AnswersRead AnswersIn (λ s. s.over) (opened l) next) t.rest left' mid new =
+      subst (λ (o : Option (List ℕ)). IfSome o (λ rest. SaysBefore (AnswersRead AnswersIn (λ s. s.over) (opened l) next) rest left' mid new))
+      (left_known l is) says in
+      let f = front_of bytes t.talks.contents t.rest t.talks.frames in (
+        f.front ++ here.0,
+        texts t.messages ++ here.1,
+        read_to bytes f.front t.rest here.0 here.2.0 left' f.cut here.2.1 here.2.2,
+        behind_launch here.0 t.messages after
+            (record { contents = t.talks.contents; frames = f.frames here.0; conversation = t.talks.conversation }) l is here.1
+            (subst (λ (n : ℕ). AnswersRead AnswersIn (λ s. s.over) (opened l) n here.0 here.1) t.numbered here.3),
+        here.4 ∙ (ap (λ (o : Option (List ℕ)). appended o here.1) t.written ∙ appended-appended old (texts t.messages) here.1),
+      )
+
+-- a read failed before a launch
+pub waiting_read : (s : WaitingValue) (o left old new : Option (List ℕ)) → s ≡ nobody
+    → IfSome o (λ bytes. SaysBefore (AnswersRead AnswersWaiting (λ s. s.over) s 1) bytes left old new)
+    → IfSome o (λ bytes. SaysBefore AnswersMessages bytes left old new)
+waiting_read s None left old new is says = tt
+waiting_read s (Some bytes) left old new is says =
+    let here = subst (λ (s : WaitingValue). SaysBefore (AnswersRead AnswersWaiting (λ s. s.over) s 1) bytes left old new) is says in
+    (here.0, here.1, here.2, before_launch here.1 here.3, here.4)

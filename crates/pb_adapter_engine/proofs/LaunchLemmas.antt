@@ -7,6 +7,7 @@ use Rattle.pb_code.specs.Whole.{Code, ProcessLabels}
 use Rattle.pb_codegen.specs.Compiled.{IsCompiled}
 use Rattle.pb_command_io.specs.declared.status.Status.{Status}
 use Rattle.pb_verifier.specs.Verified.{VerifiedCode}
+use Rattle.pb_adapter_requests.specs.declared.counting.Counting.{Counting}
 use Rattle.pb_adapter_engine.specs.Waiting.{ArePartsFor, ComesTo, IsUnfit, RefusesPicks, no_picks}
 use Rattle.pb_adapter_engine.specs.declared.launched.Launch.{Launch}
 
@@ -35,10 +36,9 @@ has_no_picks words seed lending source lines refusal verified v labels parts com
     (subst (λ (x : VerifiedCode). RefusesPicks seed lending x.code lines refusal) same refuses)
 
 -- what a request asks for is launched
-pub comes_to : (words text : List ℕ) (seed number : Option ℕ) (lending : Lending) (path shown : List ℕ) (launch made : Launch) → text ≡ words
-    → number ≡ seed → shown ≡ path → made ≡ launch → ComesTo text number lending shown made → ComesTo words seed lending path launch
-comes_to words text seed number lending path shown launch made is of named same comes =
-    subst (λ (m : Launch). ComesTo words seed lending path m) same
-    (subst (λ (p : List ℕ). ComesTo words seed lending p made) named
-    (subst (λ (n : Option ℕ). ComesTo words n lending shown made) of
-    (subst (λ (t : List ℕ). ComesTo t number lending shown made) is comes)))
+pub comes_to : (words text : List ℕ) (seed : Option ℕ) (lending : Lending) (path shown : List ℕ) (counting : Counting) (launch made : Launch)
+    → text ≡ words → shown ≡ path → made ≡ launch → ComesTo text seed lending shown counting made → ComesTo words seed lending path counting launch
+comes_to words text seed lending path shown counting launch made is named same comes =
+    subst (λ (m : Launch). ComesTo words seed lending path counting m) same
+    (subst (λ (p : List ℕ). ComesTo words seed lending p counting made) named
+    (subst (λ (t : List ℕ). ComesTo t seed lending shown counting made) is comes))

@@ -5,7 +5,7 @@ use Rattle.pb_base.specs.Device.{one_more_failure}
 use Rattle.pb_command_io.specs.Faults.{Devices, NoneFailed, WriteFailed}
 use Rattle.pb_command_io.specs.declared.status.Status.{Status}
 use Rattle.pb_command_io.specs.declared.status.Status.TheVariants as status
-use Rattle.pb_conversations.specs.Conversations.{IsOfBytes, Talks, broken_data, message_text, texts}
+use Rattle.pb_conversations.specs.Conversations.{AnswersRead, IsOfBytes, Talks, broken_data, message_text, texts}
 use Rattle.pb_conversations.specs.declared.conversation.Stop.{Stop}
 use Rattle.pb_conversations.specs.declared.conversation.Stop.TheVariants as stop
 use Rattle.pb_conversations.specs.declared.conversation.TheConstants.{MAX_MESSAGES}
@@ -54,7 +54,7 @@ pub data SaysOfSession (s : Debugged) (first : ℕ) (bytes : List ℕ) : List �
 abbrev pub opened : LaunchedText → Debugged
 opened l = record {
   debugger = showing (Some l.source) (at_start l.lending l.verified l.labels (spread l.counted));
-  client = record { lines = []; events = false; path = l.path };
+  client = record { lines = []; events = false; path = l.path; counting = l.counting };
   over = false;
 }
 
@@ -81,6 +81,17 @@ pub data SaysOfAdapter (bytes : List ℕ) : List ℕ → Status → Type 0 where
       → SaysOfAdapter bytes (texts messages ++ text) given
   broke_off : (rest : List ℕ) (messages : List Data) (after : WaitingValue) → Waits bytes rest messages after
       → (why : Stop) (text : List ℕ) → WritesText why 1 rest messages text → SaysOfAdapter bytes text (stop_status why)
+
+-- ---- a read that fails
+
+-- the text is what answers all messages that are whole in what was read: while nothing is launched, and behind a launch
+-- in its session
+pub data AnswersMessages (read : List ℕ) : List ℕ → Type 0 where
+  before_launch : (text : List ℕ) → AnswersRead AnswersWaiting (λ s. s.over) nobody 1 read text → AnswersMessages read text
+  behind_launch : (rest : List ℕ) (messages : List Data) (after : WaitingValue) → Waits read rest messages after
+      → (l : LaunchedText) → after.launched ≡ Some l
+      → (text : List ℕ) → AnswersRead AnswersIn (λ s. s.over) (opened l) (1 + length messages) rest text
+      → AnswersMessages read (texts messages ++ text)
 
 -- ---- faults
 

@@ -1,7 +1,8 @@
 //! The command `dap`, over any input and output.
 
-ghost use Rattle.std.specs.Prelude.{IfSome};
-ghost use Rattle.pb_adapter_engine.specs.Adapters.{SaysOfAdapter, TellsAnyFault};
+ghost use Rattle.std.specs.Prelude.{◌≢◌, IfSome};
+ghost use Rattle.pb_adapter_engine.specs.Adapters.{AnswersMessages, SaysOfAdapter, TellsAnyFault};
+ghost use Rattle.pb_conversations.specs.Conversations.{SaysBefore};
 ghost use Rattle.pb_command_io.specs.Answers.{Tells};
 
 use crate::session::{debug_launched, status_of};
@@ -16,10 +17,13 @@ use std::alloc::Global;
 ///
 /// The status is `Done` then, whatever the requests were. If what comes next in the input is no message, a
 /// last message says so, and the status is `Refused`. If out of memory, nothing of a reply is written that was
-/// not made whole, and the status is `Memory`. If a read or a write fails, the status is `Device`.
+/// not made whole, and the status is `Memory`. If a read or a write fails, the status is `Device`; if it is a read,
+/// exactly the messages that were read before are answered.
 pub fn adapter_engine<I: Input, O: Output>(alloc: Global, input: &mut I, output: &mut O) -> Status
     ensures text { IfSome (I.rest input.old) (λ bytes.
         Tells (SaysOfAdapter bytes) (O.written output.old) (O.written output.new) result) }
+    ensures answered { I.failures input.new ≢ I.failures input.old → IfSome (I.rest input.old) (λ bytes.
+        SaysBefore AnswersMessages bytes (I.rest input.new) (O.written output.old) (O.written output.new)) }
     ensures faults { TellsAnyFault
         (record { reads = I.failures input.old; writes = O.failures output.old; written = O.written output.old })
         (record { reads = I.failures input.new; writes = O.failures output.new; written = O.written output.new })

@@ -11,6 +11,7 @@ ghost use Rattle.pb_adapter_engine.specs.Waiting.{ArePartsFor, ArePicksFor, AreP
 
 use crate::launched::{Launch, Launched};
 use pb_accept::{LinesFault, Refusal, compile_text, lines_refusal};
+use pb_adapter_requests::Counting;
 use pb_base::{Lending, NoMemory};
 use pb_codegen::Compiled;
 use pb_command_io::two_parts;
@@ -91,9 +92,9 @@ fn picks_said(
 
 /// Returns the line that the picks that are drawn are too many.
 fn too_long_line(alloc: Global) -> Result<Vec<u8>, NoMemory>
-    ensures { IfOk result (λ line. line.items ≡ codes "refused output") }
+    ensures { IfOk result (λ line. line.items ≡ codes "refused output: more than 1000000 picks are drawn") }
 {
-    Ok(Vec::from_slice(alloc, b"refused output")?)
+    Ok(Vec::from_slice(alloc, b"refused output: more than 1000000 picks are drawn")?)
 }
 
 /// Returns the picks that are drawn with a seed, or the line that they are too many.
@@ -144,15 +145,16 @@ fn parts_for(seed: Option<u64>, words: &[u8]) -> (&[u8], &[u8])
 }
 
 /// Launches a text under a lending: with a seed by the picks that it draws, else by those of the pick lines behind
-/// the text. It is shown under a path.
+/// the text. It is shown under a path, to a client that counts so.
 pub fn launch_of(
     alloc: Global,
     words: &[u8],
     seed: Option<u64>,
     lending: Lending,
     path: &str,
+    counting: Counting,
 ) -> Result<Launch, NoMemory>
-    ensures { IfOk result (ComesTo words.now seed lending path.now) }
+    ensures { IfOk result (ComesTo words.now seed lending path.now counting) }
 {
     let (source, lines) = parts_for(seed, words);
     let compiled = match compiled_of(alloc, source)? {
@@ -169,5 +171,6 @@ pub fn launch_of(
         picks,
         source: Vec::from_slice(alloc, source)?,
         path: String::from_str(alloc, path)?,
+        counting,
     }))
 }

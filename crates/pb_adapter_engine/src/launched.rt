@@ -4,6 +4,7 @@ ghost use Rattle.std.specs.Prelude.{◌≤◌, length};
 ghost use Rattle.pb_base.specs.declared.limits.TheConstants.{MAX_PICKS};
 ghost use Rattle.pb_history.specs.Replays.{spread};
 
+use pb_adapter_requests::Counting;
 use pb_base::Lending;
 use pb_codegen::Compiled;
 use pb_history::CountedPick;
@@ -17,6 +18,8 @@ pub struct Launched {
     pub source: Vec<u8>,
     /// The path under which it is shown.
     pub path: String,
+    /// From which numbers the client counts.
+    pub counting: Counting,
     pub ghost few: { length (spread picks.items) ≤ MAX_PICKS },
 }
 

@@ -1,7 +1,9 @@
 //! A session over what was launched.
 
-ghost use Rattle.std.specs.Prelude.{◌≡◌, ◌≤◌, ◌^◌, IfSome};
-ghost use Rattle.pb_adapter_engine.specs.Adapters.{SaysOfLaunched, SaysOfSession, TellsAnyFault, stop_status};
+ghost use Rattle.std.specs.Prelude.{◌≡◌, ◌≢◌, ◌≤◌, ◌^◌, IfSome};
+ghost use Rattle.pb_adapter.specs.Sessions.{AnswersIn};
+ghost use Rattle.pb_conversations.specs.Conversations.{AnswersRead, SaysBefore};
+ghost use Rattle.pb_adapter_engine.specs.Adapters.{opened, SaysOfLaunched, SaysOfSession, TellsAnyFault, stop_status};
 ghost use Rattle.pb_adapter_engine.specs.Waiting.{launched_view};
 ghost use Rattle.pb_command_io.specs.Answers.{Tells};
 
@@ -35,6 +37,9 @@ fn answer_session<I: Input, O: Output>(
     requires { first ≤ 2 ^ 33 }
     ensures text { IfSome (I.rest input.old) (λ bytes.
         Tells (SaysOfSession session.old first bytes) (O.written output.old) (O.written output.new) result) }
+    ensures answered { I.failures input.new ≢ I.failures input.old → IfSome (I.rest input.old) (λ bytes.
+        SaysBefore (AnswersRead AnswersIn (λ s. s.over) session.old first) bytes (I.rest input.new)
+        (O.written output.old) (O.written output.new)) }
     ensures faults { TellsAnyFault
         (record { reads = I.failures input.old; writes = O.failures output.old; written = O.written output.old })
         (record { reads = I.failures input.new; writes = O.failures output.new; written = O.written output.new })
@@ -58,6 +63,9 @@ pub fn debug_launched<I: Input, O: Output>(
     requires { first ≤ 2 ^ 33 }
     ensures text { IfSome (I.rest input.old) (λ bytes.
         Tells (SaysOfLaunched (launched_view launched) first bytes) (O.written output.old) (O.written output.new) result) }
+    ensures answered { I.failures input.new ≢ I.failures input.old → IfSome (I.rest input.old) (λ bytes.
+        SaysBefore (AnswersRead AnswersIn (λ s. s.over) (opened (launched_view launched)) first) bytes (I.rest input.new)
+        (O.written output.old) (O.written output.new)) }
     ensures faults { TellsAnyFault
         (record { reads = I.failures input.old; writes = O.failures output.old; written = O.written output.old })
         (record { reads = I.failures input.new; writes = O.failures output.new; written = O.written output.new })
@@ -69,6 +77,7 @@ pub fn debug_launched<I: Input, O: Output>(
         picks,
         source,
         path,
+        counting,
         ..
     } = launched;
     let labels = compiled.labels();
@@ -79,6 +88,7 @@ pub fn debug_launched<I: Input, O: Output>(
                 lines: Vec::new(alloc),
                 events: false,
                 path,
+                counting,
             };
             let mut session = Session::new(shown, client);
             answer_session(alloc, first, &mut session, input, output)

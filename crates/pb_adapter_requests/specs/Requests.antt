@@ -61,6 +61,10 @@ text_of name r = option_and_then (text_in name) r.arguments
 abbrev pub items_asked : List ℕ → Asked → Option Items
 items_asked name r = option_and_then (λ d. option_and_then as_array (get name d)) r.arguments
 
+-- an argument of a request
+abbrev pub argument : List ℕ → Asked → Option Data
+argument name r = option_and_then (get name) r.arguments
+
 -- whether an argument is there, and is not null
 abbrev pub is_there : Option Data → Bool
 is_there None = false
@@ -72,7 +76,7 @@ is_there (Some (array ds)) = true
 is_there (Some (object ms)) = true
 
 abbrev pub is_given : List ℕ → Asked → Bool
-is_given name r = is_there (option_and_then (get name) r.arguments)
+is_given name r = is_there (argument name r)
 
 -- the arm of a process that the number of a thread means: 64 for each process, counted from 1. A request without
 -- a number means an arm of process 64, which no program has

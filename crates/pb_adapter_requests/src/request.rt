@@ -36,7 +36,7 @@ pub fn number_at(value: &Value, name: &str) -> Option<u64>
 }
 
 /// Returns the text that a member of an object is.
-fn text_at<'v>(value: &'v Value, name: &str) -> Option<&'v str>
+pub(crate) fn text_at<'v>(value: &'v Value, name: &str) -> Option<&'v str>
     ensures { option_map (λ t. t.now) result ≡ text_in name.now (view value.now) }
 {
     value.get(name).and_then(Value::as_str)
@@ -127,6 +127,16 @@ pub fn place_of(number: Option<u64>) -> Place
     }
 }
 
+/// Returns an argument of a request.
+pub(crate) fn argument<'v>(request: Request<'v>, name: &str) -> Option<&'v Value>
+    ensures { option_map (λ v. view v.now) result ≡ spec.argument name.now (request_view request.entry) }
+{
+    match request.arguments {
+        Some(arguments) => arguments.get(name),
+        None => None,
+    }
+}
+
 /// Returns whether an argument is there, and is not null.
 fn is_there(value: Option<&Value>) -> bool
     ensures { result ≡ spec.is_there (option_map (λ v. view v.now) value.entry) }
@@ -141,8 +151,5 @@ fn is_there(value: Option<&Value>) -> bool
 pub fn is_given(request: Request<'_>, name: &str) -> bool
     ensures { result ≡ spec.is_given name.now (request_view request.entry) }
 {
-    match request.arguments {
-        Some(arguments) => is_there(arguments.get(name)),
-        None => false,
-    }
+    is_there(argument(request, name))
 }

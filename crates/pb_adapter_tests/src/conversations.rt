@@ -1,7 +1,7 @@
 //! Conversations with the adapter, as bytes.
 
 use pb_adapter_engine::adapter_engine;
-use pb_base::{MemoryInput, NoMemory};
+use pb_base::{FaultyInput, MemoryInput, NoMemory};
 use pb_command_io::Status;
 use pb_conversations::Said;
 use pb_frames::write_frame;
@@ -13,14 +13,14 @@ struct Case {
     said: &'static [&'static str],
 }
 
-const CASES: [Case; 6] = [
+const CASES: [Case; 8] = [
     // Before a launch.
     Case {
         asked: &[
             "{\"seq\":1,\"type\":\"request\",\"command\":\"initialize\",\"arguments\":{}}",
             "{\"seq\":7,\"type\":\"request\",\"command\":\"threads\"}",
             "{\"seq\":8,\"command\":\"launch\",\"arguments\":{\"text\":5}}",
-            "{\"seq\":9,\"command\":\"launch\",\"arguments\":{\"text\":\"process p begin x := 1 end\"}}",
+            "{\"seq\":9,\"command\":\"launch\",\"arguments\":{\"program\":\"a.pb\",\"text\":\"process p begin x := 1 end\"}}",
             "{\"seq\":\"9\",\"command\":\"threads\"}",
             "{\"seq\":9",
             "{\"seq\":10,\"command\":\"disconnect\"}",
@@ -30,7 +30,7 @@ const CASES: [Case; 6] = [
             "{\"body\":{\"exceptionBreakpointFilters\":[{\"filter\":\"events\",\"label\":\"Events\"}],\"supportsConfigurationDoneRequest\":true,\"supportsRestartRequest\":true,\"supportsStepBack\":true,\"supportsTerminateRequest\":true},\"command\":\"initialize\",\"request_seq\":1,\"seq\":1,\"success\":true,\"type\":\"response\"}",
             "{\"command\":\"threads\",\"message\":\"no text is launched\",\"request_seq\":7,\"seq\":2,\"success\":false,\"type\":\"response\"}",
             "{\"command\":\"launch\",\"message\":\"there is no text\",\"request_seq\":8,\"seq\":3,\"success\":false,\"type\":\"response\"}",
-            "{\"command\":\"launch\",\"message\":\"refused N3 at 16\",\"request_seq\":9,\"seq\":4,\"success\":false,\"type\":\"response\"}",
+            "{\"command\":\"launch\",\"message\":\"refused N3 at 16\\nerror N3: integer x is not declared in process p\\n  --> line 1, column 17\\n  |\\n1 | process p begin x := 1 end\\n  |                 ^\\n  = hint: declare it after the first begin of the process: integer x;\",\"request_seq\":9,\"seq\":4,\"success\":false,\"type\":\"response\"}",
             "{\"command\":\"\",\"message\":\"this is not a request\",\"request_seq\":0,\"seq\":5,\"success\":false,\"type\":\"response\"}",
             "{\"command\":\"\",\"message\":\"this is not JSON\",\"request_seq\":0,\"seq\":6,\"success\":false,\"type\":\"response\"}",
             "{\"body\":null,\"command\":\"disconnect\",\"request_seq\":10,\"seq\":7,\"success\":true,\"type\":\"response\"}",
@@ -89,7 +89,7 @@ const CASES: [Case; 6] = [
     // A pick that the banker refuses is told with the reason, and nothing changes.
     Case {
         asked: &[
-            "{\"seq\":1,\"command\":\"launch\",\"arguments\":{\"text\":\"resource a = 1;\\nresource b = 1;\\nprocess p begin hold 1 of a do\\nhold 1 of b do skip od od end\\nprocess q begin hold 1 of b do\\nhold 1 of a do skip od od end\"}}",
+            "{\"seq\":1,\"command\":\"launch\",\"arguments\":{\"program\":\"a.pb\",\"text\":\"resource a = 1;\\nresource b = 1;\\nprocess p begin hold 1 of a do\\nhold 1 of b do skip od od end\\nprocess q begin hold 1 of b do\\nhold 1 of a do skip od od end\"}}",
             "{\"seq\":2,\"command\":\"evaluate\",\"arguments\":{\"expression\":\"pick p.0\"}}",
             "{\"seq\":3,\"command\":\"evaluate\",\"arguments\":{\"expression\":\"pick q.0\"}}",
             "{\"seq\":4,\"command\":\"variables\",\"arguments\":{\"variablesReference\":66}}",
@@ -97,7 +97,7 @@ const CASES: [Case; 6] = [
             "{\"seq\":10,\"command\":\"next\",\"arguments\":{\"threadId\":1}}",
             "{\"seq\":11,\"command\":\"next\",\"arguments\":{\"threadId\":129}}",
             "{\"seq\":5,\"command\":\"evaluate\",\"arguments\":{}}",
-            "{\"seq\":6,\"command\":\"launch\",\"arguments\":{\"text\":\"resource a = 1;\\nresource b = 1;\\nprocess p begin hold 1 of a do\\nhold 1 of b do skip od od end\\nprocess q begin hold 1 of b do\\nhold 1 of a do skip od od end\"}}",
+            "{\"seq\":6,\"command\":\"launch\",\"arguments\":{\"program\":\"a.pb\",\"text\":\"resource a = 1;\\nresource b = 1;\\nprocess p begin hold 1 of a do\\nhold 1 of b do skip od od end\\nprocess q begin hold 1 of b do\\nhold 1 of a do skip od od end\"}}",
             "{\"seq\":7,\"command\":\"fly\"}",
             "{\"seq\":8,\"command\":\"disconnect\"}",
         ],
@@ -123,8 +123,8 @@ const CASES: [Case; 6] = [
     // The cash alone lends it.
     Case {
         asked: &[
-            "{\"seq\":1,\"command\":\"launch\",\"arguments\":{\"text\":\"resource a = 1;\\nresource b = 1;\\nprocess p begin hold 1 of a do\\nhold 1 of b do skip od od end\\nprocess q begin hold 1 of b do\\nhold 1 of a do skip od od end\",\"lend\":\"bank\"}}",
-            "{\"seq\":2,\"command\":\"launch\",\"arguments\":{\"text\":\"resource a = 1;\\nresource b = 1;\\nprocess p begin hold 1 of a do\\nhold 1 of b do skip od od end\\nprocess q begin hold 1 of b do\\nhold 1 of a do skip od od end\",\"lend\":\"cash\"}}",
+            "{\"seq\":1,\"command\":\"launch\",\"arguments\":{\"program\":\"a.pb\",\"text\":\"resource a = 1;\\nresource b = 1;\\nprocess p begin hold 1 of a do\\nhold 1 of b do skip od od end\\nprocess q begin hold 1 of b do\\nhold 1 of a do skip od od end\",\"lend\":\"bank\"}}",
+            "{\"seq\":2,\"command\":\"launch\",\"arguments\":{\"program\":\"a.pb\",\"text\":\"resource a = 1;\\nresource b = 1;\\nprocess p begin hold 1 of a do\\nhold 1 of b do skip od od end\\nprocess q begin hold 1 of b do\\nhold 1 of a do skip od od end\",\"lend\":\"cash\"}}",
             "{\"seq\":3,\"command\":\"evaluate\",\"arguments\":{\"expression\":\"pick p.0\"}}",
             "{\"seq\":4,\"command\":\"evaluate\",\"arguments\":{\"expression\":\"pick q.0\"}}",
             "{\"seq\":5,\"command\":\"variables\",\"arguments\":{\"variablesReference\":66}}",
@@ -148,7 +148,7 @@ const CASES: [Case; 6] = [
     // Stops at events, if the client wants that, and at breakpoints.
     Case {
         asked: &[
-            "{\"seq\":1,\"command\":\"launch\",\"arguments\":{\"text\":\"process p begin\\nprint 7;\\nprint 8;\\nprint 9 end\\n%%\\np.0 7\\n\"}}",
+            "{\"seq\":1,\"command\":\"launch\",\"arguments\":{\"program\":\"a.pb\",\"text\":\"process p begin\\nprint 7;\\nprint 8;\\nprint 9 end\\n%%\\np.0 7\\n\"}}",
             "{\"seq\":2,\"command\":\"setExceptionBreakpoints\",\"arguments\":{\"filters\":[\"faults\",\"events\"]}}",
             "{\"seq\":3,\"command\":\"continue\"}",
             "{\"seq\":4,\"command\":\"setBreakpoints\",\"arguments\":{\"breakpoints\":[{\"line\":4}]}}",
@@ -178,7 +178,7 @@ const CASES: [Case; 6] = [
     // A seed draws the picks.
     Case {
         asked: &[
-            "{\"seq\":1,\"command\":\"launch\",\"arguments\":{\"text\":\"process p begin print 7 end\",\"seed\":1}}",
+            "{\"seq\":1,\"command\":\"launch\",\"arguments\":{\"program\":\"a.pb\",\"text\":\"process p begin print 7 end\",\"seed\":1}}",
             "{\"seq\":2,\"command\":\"continue\"}",
             "{\"seq\":3,\"command\":\"restart\"}",
             "{\"seq\":4,\"command\":\"terminate\"}",
@@ -194,6 +194,60 @@ const CASES: [Case; 6] = [
             "{\"body\":null,\"command\":\"terminate\",\"request_seq\":4,\"seq\":7,\"success\":true,\"type\":\"response\"}",
             "{\"body\":null,\"event\":\"terminated\",\"seq\":8,\"type\":\"event\"}",
             "{\"body\":null,\"command\":\"disconnect\",\"request_seq\":5,\"seq\":9,\"success\":true,\"type\":\"response\"}",
+        ],
+    },
+    // A client that counts from 0, launches that are refused, another text, and expressions that are refused.
+    Case {
+        asked: &[
+            "{\"seq\":1,\"type\":\"request\",\"command\":\"initialize\",\"arguments\":{\"linesStartAt1\":false,\"columnsStartAt1\":false}}",
+            "{\"seq\":2,\"type\":\"request\",\"command\":\"launch\",\"arguments\":{\"program\":\"a.pb\",\"text\":\"process p begin\\nprint 7;\\nprint 8;\\nprint 9 end\\n%%\\np.0 7\\n\",\"seed\":\"7\"}}",
+            "{\"seq\":3,\"type\":\"request\",\"command\":\"launch\",\"arguments\":{\"program\":\"a.pb\",\"text\":\"process p begin\\nprint 7;\\nprint 8;\\nprint 9 end\\n%%\\np.0 7\\n\",\"seed\":-1}}",
+            "{\"seq\":4,\"type\":\"request\",\"command\":\"launch\",\"arguments\":{\"text\":\"process p begin\\nprint 7;\\nprint 8;\\nprint 9 end\\n%%\\np.0 7\\n\"}}",
+            "{\"seq\":5,\"type\":\"request\",\"command\":\"launch\",\"arguments\":{\"program\":\"a.pb\",\"text\":\"process p begin\\nprint 7;\\nprint 8;\\nprint 9 end\\n%%\\np.0 7\\n\",\"lend\":5}}",
+            "{\"seq\":6,\"type\":\"request\",\"command\":\"launch\",\"arguments\":{\"program\":\"a.pb\",\"text\":\"process p begin skip end\\n%%\\np.0 9\\n\"}}",
+            "{\"seq\":7,\"type\":\"request\",\"command\":\"launch\",\"arguments\":{\"program\":\"a.pb\",\"text\":\"process p begin\\nprint 7;\\nprint 8;\\nprint 9 end\\n%%\\np.0 7\\n\",\"seed\":null}}",
+            "{\"seq\":8,\"type\":\"request\",\"command\":\"setBreakpoints\",\"arguments\":{\"source\":{\"path\":\"a.pb\"},\"breakpoints\":[{\"line\":3}]}}",
+            "{\"seq\":9,\"type\":\"request\",\"command\":\"setBreakpoints\",\"arguments\":{\"source\":{\"path\":\"b.pb\"},\"breakpoints\":[{\"line\":1}]}}",
+            "{\"seq\":10,\"type\":\"request\",\"command\":\"continue\",\"arguments\":{}}",
+            "{\"seq\":11,\"type\":\"request\",\"command\":\"stackTrace\",\"arguments\":{\"threadId\":1}}",
+            "{\"seq\":12,\"type\":\"request\",\"command\":\"evaluate\",\"arguments\":{\"expression\":\"to 99\"}}",
+            "{\"seq\":13,\"type\":\"request\",\"command\":\"evaluate\",\"arguments\":{\"expression\":\"to 0\\nto 99\"}}",
+            "{\"seq\":14,\"type\":\"request\",\"command\":\"disconnect\",\"arguments\":{}}",
+        ],
+        said: &[
+            "{\"body\":{\"exceptionBreakpointFilters\":[{\"filter\":\"events\",\"label\":\"Events\"}],\"supportsConfigurationDoneRequest\":true,\"supportsRestartRequest\":true,\"supportsStepBack\":true,\"supportsTerminateRequest\":true},\"command\":\"initialize\",\"request_seq\":1,\"seq\":1,\"success\":true,\"type\":\"response\"}",
+            "{\"command\":\"launch\",\"message\":\"seed is not in 0..=18446744073709551615\",\"request_seq\":2,\"seq\":2,\"success\":false,\"type\":\"response\"}",
+            "{\"command\":\"launch\",\"message\":\"seed is not in 0..=18446744073709551615\",\"request_seq\":3,\"seq\":3,\"success\":false,\"type\":\"response\"}",
+            "{\"command\":\"launch\",\"message\":\"there is no program: the path of the text\",\"request_seq\":4,\"seq\":4,\"success\":false,\"type\":\"response\"}",
+            "{\"command\":\"launch\",\"message\":\"lend is banker or cash\",\"request_seq\":5,\"seq\":5,\"success\":false,\"type\":\"response\"}",
+            "{\"command\":\"launch\",\"message\":\"refused H1 at 1\\nerror H1: p.0 cannot make a pick after 1 pick\\n  --> pick line 1, column 1\\n  |\\n1 | p.0 9\\n  | ^\\n  = 1 of the 9 picks of this line was made\\n  = the arm has ended\\n  = line 3 of the input\\n  = hint: leave the pick out, or make others before it; without it and those behind it, debug shows the run up to here\",\"request_seq\":6,\"seq\":6,\"success\":false,\"type\":\"response\"}",
+            "{\"body\":null,\"command\":\"launch\",\"request_seq\":7,\"seq\":7,\"success\":true,\"type\":\"response\"}",
+            "{\"body\":null,\"event\":\"initialized\",\"seq\":8,\"type\":\"event\"}",
+            "{\"body\":{\"breakpoints\":[{\"line\":3,\"verified\":true}]},\"command\":\"setBreakpoints\",\"request_seq\":8,\"seq\":9,\"success\":true,\"type\":\"response\"}",
+            "{\"body\":{\"breakpoints\":[{\"line\":1,\"message\":\"this is not the text that is launched\",\"verified\":false}]},\"command\":\"setBreakpoints\",\"request_seq\":9,\"seq\":10,\"success\":true,\"type\":\"response\"}",
+            "{\"body\":null,\"command\":\"continue\",\"request_seq\":10,\"seq\":11,\"success\":true,\"type\":\"response\"}",
+            "{\"body\":{\"allThreadsStopped\":true,\"description\":\"position 4\",\"reason\":\"breakpoint\",\"threadId\":1},\"event\":\"stopped\",\"seq\":12,\"type\":\"event\"}",
+            "{\"body\":{\"stackFrames\":[{\"column\":0,\"id\":1,\"line\":3,\"name\":\"p.0\",\"source\":{\"path\":\"a.pb\"}}]},\"command\":\"stackTrace\",\"request_seq\":11,\"seq\":13,\"success\":true,\"type\":\"response\"}",
+            "{\"command\":\"evaluate\",\"message\":\"refused G1\",\"request_seq\":12,\"seq\":14,\"success\":false,\"type\":\"response\"}",
+            "{\"command\":\"evaluate\",\"message\":\"at 0\\nrefused G1\",\"request_seq\":13,\"seq\":15,\"success\":false,\"type\":\"response\"}",
+            "{\"body\":{\"allThreadsStopped\":true,\"description\":\"position 0\",\"reason\":\"goto\",\"threadId\":1},\"event\":\"stopped\",\"seq\":16,\"type\":\"event\"}",
+            "{\"body\":null,\"command\":\"disconnect\",\"request_seq\":14,\"seq\":17,\"success\":true,\"type\":\"response\"}",
+        ],
+    },
+    // The value of an integer whose name is `refused` is no refusal.
+    Case {
+        asked: &[
+            "{\"seq\":1,\"type\":\"request\",\"command\":\"launch\",\"arguments\":{\"program\":\"a.pb\",\"text\":\"process p begin integer refused; refused := 7 end\"}}",
+            "{\"seq\":2,\"type\":\"request\",\"command\":\"evaluate\",\"arguments\":{\"expression\":\"vars p\"}}",
+            "{\"seq\":3,\"type\":\"request\",\"command\":\"evaluate\",\"arguments\":{\"expression\":\"vars p\\nvars q\"}}",
+            "{\"seq\":4,\"type\":\"request\",\"command\":\"disconnect\",\"arguments\":{}}",
+        ],
+        said: &[
+            "{\"body\":null,\"command\":\"launch\",\"request_seq\":1,\"seq\":1,\"success\":true,\"type\":\"response\"}",
+            "{\"body\":null,\"event\":\"initialized\",\"seq\":2,\"type\":\"event\"}",
+            "{\"body\":{\"result\":\"refused 0\\n\",\"variablesReference\":0},\"command\":\"evaluate\",\"request_seq\":2,\"seq\":3,\"success\":true,\"type\":\"response\"}",
+            "{\"command\":\"evaluate\",\"message\":\"refused 0\\nrefused G2\",\"request_seq\":3,\"seq\":4,\"success\":false,\"type\":\"response\"}",
+            "{\"body\":null,\"command\":\"disconnect\",\"request_seq\":4,\"seq\":5,\"success\":true,\"type\":\"response\"}",
         ],
     },
 ];
@@ -223,6 +277,46 @@ fn conversations_are_answered(rt: HostRuntime) -> Result<(), NoMemory> {
     Ok(())
 }
 
+/// Two requests while nothing is launched, and what answers each.
+const FIRST: &str = "{\"seq\":1,\"type\":\"request\",\"command\":\"threads\"}";
+
+const ASKED: &[&str] = &[
+    FIRST,
+    "{\"seq\":2,\"type\":\"request\",\"command\":\"threads\"}",
+];
+
+const SAID_FIRST: &[&str] = &[
+    "{\"command\":\"threads\",\"message\":\"no text is launched\",\"request_seq\":1,\"seq\":1,\"success\":false,\"type\":\"response\"}",
+];
+
+const SAID_BOTH: &[&str] = &[
+    "{\"command\":\"threads\",\"message\":\"no text is launched\",\"request_seq\":1,\"seq\":1,\"success\":false,\"type\":\"response\"}",
+    "{\"command\":\"threads\",\"message\":\"no text is launched\",\"request_seq\":2,\"seq\":2,\"success\":false,\"type\":\"response\"}",
+];
+
+#[test]
+fn what_was_read_before_a_fault_is_answered(rt: HostRuntime) -> Result<(), NoMemory> {
+    let asked = framed(rt.alloc(), ASKED)?;
+    let first = framed(rt.alloc(), &[FIRST])?.as_slice().len() as u64;
+    let none: &[&str] = &[];
+    for (passing, answered) in [
+        (0, none),
+        (3, none),
+        (first.saturating_sub(1), none),
+        (first, SAID_FIRST),
+        (first.saturating_add(30), SAID_FIRST),
+        (first.saturating_mul(2), SAID_BOTH),
+    ] {
+        let wanted = framed(rt.alloc(), answered)?;
+        let mut said = Said::new(rt.alloc());
+        let mut input = FaultyInput::new(asked.as_slice(), passing, 1);
+        let status = adapter_engine(rt.alloc(), &mut input, &mut said);
+        assert!(rt; status == Status::Device);
+        assert!(rt; said.as_slice() == wanted.as_slice());
+    }
+    Ok(())
+}
+
 #[test]
 fn what_is_no_message_ends_the_conversation(rt: HostRuntime) -> Result<(), NoMemory> {
     for (bytes, why) in [
@@ -232,6 +326,10 @@ fn what_is_no_message_ends_the_conversation(rt: HostRuntime) -> Result<(), NoMem
         ),
         (
             "Content-Length: 99999999\r\n\r\n",
+            "the message is too long",
+        ),
+        (
+            "content-length:123456789\r\n\r\n",
             "the message is too long",
         ),
         (

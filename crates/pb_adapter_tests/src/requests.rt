@@ -1,7 +1,8 @@
 //! Requests of a client.
 
 use pb_adapter_requests::{
-    Kind, asked_lines, asks_events, kind_of, number_of, place_of, request_of, text_of,
+    Counting, Kind, asked_lines, asks_events, is_given, is_of_text, kind_of, number_of, place_of,
+    request_of, text_of,
 };
 use serde_json::Value;
 
@@ -37,7 +38,7 @@ fn commands_have_their_kinds(rt: HostRuntime) {
 #[test]
 fn requests_are_read(rt: HostRuntime) {
     let text =
-        "{\"seq\":4,\"type\":\"request\",\"command\":\"setBreakpoints\",\"arguments\":{\"threadId\":66,\"text\":\"t\",\"breakpoints\":[{\"line\":7},{\"line\":65537},{}]}}";
+        "{\"seq\":4,\"type\":\"request\",\"command\":\"setBreakpoints\",\"arguments\":{\"seed\":null,\"source\":{\"path\":\"a.pb\"},\"threadId\":66,\"text\":\"t\",\"breakpoints\":[{\"line\":7},{\"line\":65537},{}]}}";
     let Ok(message) = Value::from_str(rt.alloc(), text) else {
         panic!(rt; "this is not read");
     };
@@ -50,10 +51,22 @@ fn requests_are_read(rt: HostRuntime) {
     assert!(rt; text_of(request, "threadId").is_none());
     let at = place_of(number_of(request, "threadId"));
     assert!(rt; at.process == 1 && at.arm == 1);
-    let Ok(lines) = asked_lines(rt.alloc(), request) else {
+    let Ok(lines) = asked_lines(rt.alloc(), Counting::from_1(), request) else {
         panic!(rt; "out of memory");
     };
     assert!(rt; lines.as_slice() == [7, 0, 0].as_slice());
+    let counting = Counting {
+        lines_at_1: false,
+        columns_at_1: true,
+    };
+    let Ok(lines) = asked_lines(rt.alloc(), counting, request) else {
+        panic!(rt; "out of memory");
+    };
+    assert!(rt; lines.as_slice() == [8, 0, 0].as_slice());
+    assert!(rt; counting.shown_line(8) == 7 && counting.shown_line(0) == 0);
+    assert!(rt; counting.first_column() == 1);
+    assert!(rt; is_given(request, "text") && !is_given(request, "seed"));
+    assert!(rt; is_of_text(request, "a.pb") && !is_of_text(request, "b.pb"));
 }
 
 /// Whether the request that a text is asks to stop at events.

@@ -68,9 +68,9 @@ arms_of name p (Some process) = arms_below name p process.threads (length proces
 
 -- ---- the line of an arm
 
--- a line of a text that is shown under this path
-abbrev pub frame_data : (path name : List ℕ) → (id line : ℕ) → Data
-frame_data path name id line = object (member (codes "column") (number (unsigned 1))
+-- a line and a column of a text that is shown under this path
+abbrev pub frame_data : (path name : List ℕ) → (id line column : ℕ) → Data
+frame_data path name id line column = object (member (codes "column") (number (unsigned column))
     (member (codes "id") (number (unsigned id))
     (member (codes "line") (number (unsigned line))
     (member (codes "name") (string name)

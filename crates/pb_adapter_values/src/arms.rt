@@ -85,9 +85,16 @@ pub fn list_arms(
     Ok(())
 }
 
-/// Returns the frame of an arm at a line of the text with this path.
-pub fn frame(alloc: Global, path: &str, name: &str, id: u64, line: u32) -> Result<Value, AllocError>
-    ensures { IfOk result (λ v. view v ≡ spec.frame_data path.now name.now id line) }
+/// Returns the frame of an arm at a line and a column of the text with this path.
+pub fn frame(
+    alloc: Global,
+    path: &str,
+    name: &str,
+    id: u64,
+    line: u32,
+    column: u32,
+) -> Result<Value, AllocError>
+    ensures { IfOk result (λ v. view v ≡ spec.frame_data path.now name.now id line column) }
 {
-    json!(in alloc; {"id": id, "name": name, "line": line, "column": 1u64, "source": {"path": path}})
+    json!(in alloc; {"id": id, "name": name, "line": line, "column": column, "source": {"path": path}})
 }

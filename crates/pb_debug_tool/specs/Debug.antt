@@ -1,6 +1,6 @@
 -- What the tool that debugs and draws says.
-use Rattle.std.specs.Prelude.{◌≡◌, ℕ, Bool, true, false, List, IfSome, Option, ⊤}
-use Rattle.pb_adapter_engine.specs.Adapters.{SaysOfAdapter}
+use Rattle.std.specs.Prelude.{◌≡◌, ℕ, Bool, true, false, List, IfSome, Option}
+use Rattle.pb_adapter_engine.specs.Adapters.{AnswersMessages, SaysOfAdapter}
 use Rattle.pb_base.specs.declared.lending.Lending.{Lending}
 use Rattle.pb_command_io.specs.Inputs.{SaysOfInput}
 use Rattle.pb_command_io.specs.declared.status.Status.{Status}
@@ -33,9 +33,9 @@ abbrev pub leaves_of_commands : (live : Bool) → Lending → (rest left : Optio
 leaves_of_commands true lending rest left old new = IfSome rest (λ bytes. SaysBefore (SaysOfRead lending) bytes left old new)
 leaves_of_commands false lending rest left old new = new ≡ old
 
--- what is written when a read fails: by `dap` answers to the messages before it, and by `draw` nothing
+-- what is written when a read fails: by `dap` the answers to all messages before it, and nothing else; by `draw` nothing
 abbrev pub leaves : Options → (rest left : Option (List ℕ)) → (old new : Option (List ℕ)) → Type 0
-leaves option.Dap rest left old new = ⊤
+leaves option.Dap rest left old new = IfSome rest (λ bytes. SaysBefore AnswersMessages bytes left old new)
 leaves (option.Debug flags) rest left old new = leaves_of_commands flags.live (lending_for flags.lend) rest left old new
 leaves _ rest left old new = new ≡ old
 

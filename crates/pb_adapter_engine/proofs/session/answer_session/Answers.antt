@@ -11,3 +11,9 @@ pub returns-in-Err-clause-text : goal.returns-in-Err-clause-text
 returns-in-Err-clause-text g c =
     IfSome_then (g.I.Input.rest c.args.input.now) c.in-Err.ensures.some
     (λ bytes. session_broken c.args.session.now c.args.first bytes _ _ c.in-Err.stop c.status_of.result c.status_of.ensures)
+
+pub returns-in-Ok-clause-answered : goal.returns-in-Ok-clause-answered
+returns-in-Ok-clause-answered g c = λ changed. absurd (changed c.in-Ok.ensures.counted_reads)
+
+pub returns-in-Err-clause-answered : goal.returns-in-Err-clause-answered
+returns-in-Err-clause-answered g c = c.in-Err.ensures.answered
