@@ -63,17 +63,20 @@ fn tell_program<O: Output, T: Teller, A: Allocator>(
 {
     let processes = &program.processes;
     for p in 0..processes.len() {
-        tell_process(teller, output, &processes[p].name, claims, p, &program.resources)?;
+        tell_process(
+            teller,
+            output,
+            &processes[p].name,
+            claims,
+            p,
+            &program.resources,
+        )?;
     }
     Ok(())
 }
 
 /// Tells that a text is refused for a fault, or out of memory.
-fn tell_fault<O: Output, T: Teller>(
-    teller: &mut T,
-    output: &mut O,
-    fault: &CompileFault,
-) -> Status
+fn tell_fault<O: Output, T: Teller>(teller: &mut T, output: &mut O, fault: &CompileFault) -> Status
     ensures memory { fault.now ≡ kind.Memory → Ends T.tells T.breaks (at O.written O.failures teller.old output.old)
         (NoMemory ∷ []) status.Memory (at O.written O.failures teller.new output.new) result }
     ensures refused { fault.now ≢ kind.Memory → Ends T.tells T.breaks (at O.written O.failures teller.old output.old)

@@ -21,7 +21,7 @@ fn tell_cause<O: Output>(
     voice: &mut Voice,
     output: &mut O,
     cause: Option<Cause>,
-    words: &[u8],
+    words: &'static [u8],
 ) -> Result<(), DeviceFault>
     ensures ok { OnOk result (Adds (at O.written O.failures voice.old output.old) (cause_said cause words.now)
         (at O.written O.failures voice.new output.new)) }

@@ -47,7 +47,7 @@ fn tell_cause<O: Output>(
     voice: &mut Voice,
     output: &mut O,
     cause: Option<Cause>,
-    member: &[u8],
+    member: &'static [u8],
 ) -> Result<(), DeviceFault>
     ensures ok { OnOk result (Adds (at O.written O.failures voice.old output.old) (cause_json cause member.now)
         (at O.written O.failures voice.new output.new)) }
