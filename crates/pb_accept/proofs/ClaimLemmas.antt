@@ -1,11 +1,17 @@
--- The lines of claims, one more at a time.
-use Rattle.std.proofs.Common.{◌≡◌, ℕ, ◌+◌, ◌<◌, ◌≤◌, List, [], ◌∷◌, ◌++◌, ◌∙◌, length, take, get_or, map, refl, sym}
-use Rattle.std.proofs.Common.{ap, arith}
+-- What is told of pairs, one more at a time.
+use Rattle.std.proofs.Common.{◌≡◌, ◌+◌, ◌<◌, ◌≤◌, ◌++◌, ◌≢◌, ◌⊎◌, inl, inr, ℕ, List, [], ◌∷◌, length, take, drop, get_or, map, refl, sym, ap, ◌∙◌, subst, arith}
 use Rattle.std.specs.List.{flat_map, zip}
-use Rattle.std.proofs.lemmas.List.{flat_map_more, get_or-map, length-map, take_all, take_more}
+use Rattle.std.proofs.lemmas.List.{flat_map_more, get_or-map, take_all, take_more, take-append-drop, length-map}
+use Rattle.std.proofs.lemmas.List.Concat.{flat_map-append}
 use Rattle.std.proofs.lemmas.Slice.Zip.{get_or-zip, length-zip}
+use Rattle.pb_base.specs.declared.limits.TheConstants.{MAX_INPUT}
 use Rattle.pb_base.specs.Banker.{row_of}
 use Rattle.pb_base.specs.Steppers.{Table}
+use Rattle.pb_codegen.specs.Compiled.{IsBeforeClaims, IsRefused}
+use Rattle.pb_codegen.specs.declared.fault.CompileFault.{CompileFault}
+use Rattle.pb_codegen.specs.declared.fault.CompileFault.TheVariants as kind
+use Rattle.pb_command_io.specs.declared.status.Status.{Status}
+use Rattle.pb_command_io.specs.declared.status.Status.TheVariants as status
 use Rattle.pb_names.specs.Meaning.{AreClaims}
 use Rattle.pb_names.specs.Program.{Name}
 use Rattle.pb_names.specs.Resolves.{process_names, resource_names}
@@ -13,31 +19,73 @@ use Rattle.pb_names.specs.View.{process_view, resolved_view, resource_view}
 use Rattle.pb_names.specs.declared.resolved.Process.{Process}
 use Rattle.pb_names.specs.declared.resolved.Resource.{Resource}
 use Rattle.pb_names.specs.declared.resolved.Resolved.{Resolved}
+use Rattle.pb_accept.specs.Claims.{SaysOfAny, SaysOfClaims, no_memory, read, refused}
+use Rattle.pb_accept.specs.Sayings.{Saying, NoMemory, Refused}
+use Rattle.pb_voice.specs.Tellings.{Telling, Breaking, Ends, Speaks}
+use Rattle.pb_voice.proofs.TellingLemmas.{telling_more, breaking_later, breaking_sooner}
 
--- the text so far, and that of one pair more
-pub one_more : {A B : Type 0} (f : A × B → List ℕ) (xs : List A) (ys : List B) (i : ℕ) (x : A) (y : B)
-    (old so_far new : List ℕ) → i < length xs → i < length ys → get_or xs i x ≡ x → get_or ys i y ≡ y
-    → so_far ≡ old ++ flat_map f (take i (zip xs ys))
-    → new ≡ so_far ++ f (x, y) → new ≡ old ++ flat_map f (take (i + 1) (zip xs ys))
-one_more f xs ys i x y old so_far new in_xs in_ys here there before now =
-    let pairs = zip xs ys in
-    let within : i < length pairs = (let n = length-zip xs ys in omega (arith, n, in_xs, in_ys)) in
-    let at : get_or pairs i (x, y) ≡ (x, y) = (let z = get_or-zip xs ys i (x, y) in_xs in_ys in cc) in
-    now ∙ ap (λ (t : List ℕ). t ++ f (x, y)) before ∙ flat_map_more f old (take i pairs) (x, y)
-    ∙ ap (λ l. old ++ flat_map f l)
-    (sym (take_more pairs i (x, y) within ∙ ap (λ p. take i pairs ++ p ∷ []) at))
+module _ {T S A B : Type 0} (tells breaks : T → S → T → Type 0) (f : A × B → List S) (xs : List A) (ys : List B) (i : ℕ) (x : A) (y : B)
+    (in_xs : i < length xs) (in_ys : i < length ys) (x_is : get_or xs i x ≡ x) (y_is : get_or ys i y ≡ y) where
+  within : i < length (zip xs ys)
+  within = let n = length-zip xs ys in omega (arith, n, in_xs, in_ys)
 
--- the text of all pairs
-pub all_of_them : {A B : Type 0} (f : A × B → List ℕ) (xs : List A) (ys : List B) (i : ℕ) (old new : List ℕ)
-    → length ys ≤ i → new ≡ old ++ flat_map f (take i (zip xs ys)) → new ≡ old ++ flat_map f (zip xs ys)
-all_of_them f xs ys i old new end is =
+  at : get_or (zip xs ys) i (x, y) ≡ (x, y)
+  at = let z = get_or-zip xs ys i (x, y) in_xs in_ys in cc
+
+  next : flat_map f (take i (zip xs ys)) ++ f (x, y) ≡ flat_map f (take (i + 1) (zip xs ys))
+  next =
+      flat_map_more f [] (take i (zip xs ys)) (x, y)
+      ∙ ap (flat_map f) (sym (take_more (zip xs ys) i (x, y) within ∙ ap (λ p. take i (zip xs ys) ++ p ∷ []) at))
+
+  -- those of one pair more are told
+  pub pair_told : (s m u : T) → Telling tells s (flat_map f (take i (zip xs ys))) m → Telling tells m (f (x, y)) u
+      → Telling tells s (flat_map f (take (i + 1) (zip xs ys))) u
+  pair_told s m u first later =
+      subst (λ (l : List S). Telling tells s l u) next
+      (telling_more tells s m u (flat_map f (take i (zip xs ys))) (f (x, y)) first later)
+
+  -- a write failed in those of a pair
+  pub pair_broken : (s m u : T) → Telling tells s (flat_map f (take i (zip xs ys))) m → Breaking tells breaks m (f (x, y)) u
+      → Breaking tells breaks s (flat_map f (zip xs ys)) u
+  pair_broken s m u first later =
+      let zs = zip xs ys in
+      let far = breaking_later tells breaks s m u (flat_map f (take i zs)) (f (x, y)) first later in
+      let so : Breaking tells breaks s (flat_map f (take (i + 1) zs)) u = subst (λ (l : List S). Breaking tells breaks s l u) next far in
+      subst (λ (l : List S). Breaking tells breaks s l u)
+      (sym (flat_map-append f (take (i + 1) zs) (drop (i + 1) zs)) ∙ ap (flat_map f) (take-append-drop (i + 1) zs))
+      (breaking_sooner tells breaks s u (flat_map f (take (i + 1) zs)) (flat_map f (drop (i + 1) zs)) so)
+
+-- all are told
+pub pairs_told : {T S A B : Type 0} (tells : T → S → T → Type 0) (f : A × B → List S) (xs : List A) (ys : List B) (i : ℕ) (s m : T)
+    → length ys ≤ i → Telling tells s (flat_map f (take i (zip xs ys))) m → Telling tells s (flat_map f (zip xs ys)) m
+pairs_told {T} {S} tells f xs ys i s m end told =
     let all : length (zip xs ys) ≤ i = (let n = length-zip xs ys in omega (arith, n, end)) in
-    is ∙ ap (λ l. old ++ flat_map f l) (take_all i (zip xs ys) all)
+    subst (λ (l : List S). Telling tells s l m) (ap (flat_map f) (take_all i (zip xs ys) all)) told
 
 -- what is seen of an element that was read
 pub view_at : {A B : Type 0} (f : A → B) (xs : List A) (i : ℕ) (x : A) → i < length xs → x ≡ get_or xs i x
     → get_or (map f xs) i (f x) ≡ f x
 view_at f xs i x within at = get_or-map f xs i x (f x) within ∙ ap f (sym at)
+
+-- whether a fault is out of memory
+is_memory : (f : CompileFault) → (f ≡ kind.Memory) ⊎ (f ≢ kind.Memory)
+is_memory (kind.Lex f) = inr (λ e. cc)
+is_memory (kind.Parse f) = inr (λ e. cc)
+is_memory (kind.Names f) = inr (λ e. cc)
+is_memory (kind.Claims f) = inr (λ e. cc)
+is_memory kind.Memory = inl refl
+
+-- what a fault of a text is told as
+pub told_fault : {T : Type 0} (tells breaks : T → Saying → T → Type 0) (text : List ℕ) (old new : T) (f : CompileFault) (given : Status)
+    → length text ≤ MAX_INPUT → IsRefused text f → IsBeforeClaims f
+    → (f ≡ kind.Memory → Ends tells breaks old (NoMemory ∷ []) status.Memory new given)
+    → (f ≢ kind.Memory → Ends tells breaks old (Refused f ∷ []) status.Refused new given)
+    → Speaks tells breaks (SaysOfAny SaysOfClaims text) old new given
+told_fault tells breaks text old new f given short is early memory other = go (is_memory f)
+  where
+    go : (f ≡ kind.Memory) ⊎ (f ≢ kind.Memory) → Speaks tells breaks (SaysOfAny SaysOfClaims text) old new given
+    go (inl so) = (NoMemory ∷ [], status.Memory, no_memory, memory so)
+    go (inr not) = (Refused f ∷ [], status.Refused, read (Refused f ∷ []) status.Refused short (refused f not is early), other not)
 
 -- the names of a program in memory are those of the program
 pub names_of_resources : {A : Type 0} (program : Resolved A)

@@ -3,7 +3,9 @@ pub mod CheckLemmas
 pub mod ClaimLemmas
 pub mod EmissionLemmas
 pub mod EventLemmas
+pub mod InputLemmas
 pub mod LoadLemmas
 pub mod ReplayLemmas
 pub mod RunTextLemmas
 pub mod StillLemmas
+pub mod WrittenLemmas

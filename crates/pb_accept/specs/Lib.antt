@@ -1,6 +1,6 @@
 pub mod Causes
 pub mod Checks
-pub mod ClaimLines
+pub mod Claims
 pub mod Emissions
 pub mod EventLines
 pub mod Loading
@@ -8,5 +8,7 @@ pub mod Migrations
 pub mod Refusals
 pub mod ReplayLines
 pub mod RunTexts
+pub mod Sayings
 pub mod Stillness
 pub mod ToldEvents
+pub mod View

@@ -83,11 +83,6 @@ abbrev pub IsRefusal : List ℕ → Refusal → Type 0
 IsRefusal text (Line line) = RefusesWith text line.items
 IsRefusal text NoMemory = ⊤
 
--- the same, whatever the capital
-abbrev pub IsEarlyRefusal : List ℕ → Refusal → Type 0
-IsEarlyRefusal text (Line line) = RefusesEarly text line.items
-IsEarlyRefusal text NoMemory = ⊤
-
 -- what is said of a refused text
 pub data SaysOfRefusedText (text : List ℕ) : List ℕ → Status → Type 0 where
   refused : (refusal : List ℕ) → RefusesWith text refusal → SaysOfRefusedText text (line refusal) Refused

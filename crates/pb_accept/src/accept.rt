@@ -2,10 +2,8 @@
 ghost use Rattle.std.specs.Prelude.{◌≤◌, ℕ, IfErr, IfOk, List, length};
 ghost use Rattle.pb_command_io.specs.Answers.{Tells};
 ghost use Rattle.pb_command_io.specs.Inputs.{SaysOfInput};
-ghost use Rattle.pb_accept.specs.Refusals.{IsEarlyRefusal, IsRefusal, RefusesEarly, RefusesWith, SaysOfRefusedText};
-ghost use Rattle.pb_codegen.specs.Compiled.{IsBeforeClaims, IsCompiled, IsRefused};
-ghost use Rattle.pb_codegen.specs.Numbered.{IsReadAs};
-ghost use Rattle.pb_names.specs.View.{resolved_view};
+ghost use Rattle.pb_accept.specs.Refusals.{IsRefusal, RefusesWith, SaysOfRefusedText};
+ghost use Rattle.pb_codegen.specs.Compiled.{IsCompiled, IsRefused};
 ghost use Rattle.pb_command_io.specs.Faults.{TellsWriteFaults};
 
 use crate::cause::{lex_cause, parse_cause};
@@ -13,9 +11,9 @@ use crate::refusal::{names_text, over_capital_text, refusal_text};
 use bumpalo::Bump;
 use pb_base::limits::MAX_INPUT;
 use pb_base::{NoMemory, Output};
-use pb_codegen::{Analysis, CompileFault, Compiled, analyze, compile};
+use pb_codegen::{CompileFault, Compiled, compile};
 use pb_command_io::{Reply, Status, refused, tell};
-use std::alloc::{Allocator, Global};
+use std::alloc::Global;
 
 /// Why a text is not accepted.
 #[derive(Drop)]
@@ -28,9 +26,7 @@ pub enum Refusal {
 
 /// Returns the line of a fault.
 fn fault_line(alloc: Global, fault: CompileFault) -> Result<Vec<u8>, NoMemory>
-    ensures any { (text : List ℕ) → IsRefused text fault → IfOk result (λ line. RefusesWith text line.items) }
-    ensures early { (text : List ℕ) → IsRefused text fault → IsBeforeClaims fault
-        → IfOk result (λ line. RefusesEarly text line.items) }
+    ensures { (text : List ℕ) → IsRefused text fault → IfOk result (λ line. RefusesWith text line.items) }
 {
     match fault {
         CompileFault::Lex(fault) => refusal_text(alloc, lex_cause(fault)),
@@ -43,42 +39,11 @@ fn fault_line(alloc: Global, fault: CompileFault) -> Result<Vec<u8>, NoMemory>
 
 /// Returns the refusal for a fault: by its line, if there is memory for it.
 fn refusal_of(alloc: Global, fault: CompileFault) -> Refusal
-    ensures any { (text : List ℕ) → IsRefused text fault → IsRefusal text result }
-    ensures early { (text : List ℕ) → IsRefused text fault → IsBeforeClaims fault → IsEarlyRefusal text result }
+    ensures { (text : List ℕ) → IsRefused text fault → IsRefusal text result }
 {
     match fault_line(alloc, fault) {
         Ok(line) => Refusal::Line(line),
         Err(_) => Refusal::NoMemory,
-    }
-}
-
-/// Returns the numbered program of a text, with its claims, whether or not the capital is enough for them.
-pub fn analyze_text<A: Allocator + Clone>(
-    alloc: Global,
-    trees: A,
-    text: &[u8],
-) -> Result<Analysis<A>, Refusal>
-    ensures analyzed { IfOk result (λ a. IsReadAs text.now (resolved_view a.program) a.claims) }
-    ensures refused { IfErr result (IsEarlyRefusal text.now) }
-{
-    match analyze(alloc, trees, text) {
-        Ok(analysis) => Ok(analysis),
-        Err(fault) => Err(refusal_of(alloc, fault)),
-    }
-}
-
-/// Returns the code of a text, whose trees are in the memory of `trees` while it is compiled.
-pub fn compile_within<A: Allocator + Clone>(
-    alloc: Global,
-    trees: A,
-    text: &[u8],
-) -> Result<Compiled, Refusal>
-    ensures compiled { IfOk result (λ c. IsCompiled text.now c.verified.code c.labels) }
-    ensures refused { IfErr result (IsRefusal text.now) }
-{
-    match compile(alloc, trees, text) {
-        Ok(compiled) => Ok(compiled),
-        Err(fault) => Err(refusal_of(alloc, fault)),
     }
 }
 
@@ -88,7 +53,10 @@ pub fn compile_text(alloc: Global, text: &[u8]) -> Result<Compiled, Refusal>
     ensures refused { IfErr result (IsRefusal text.now) }
 {
     let arena = Bump::new(alloc);
-    compile_within(alloc, &arena, text)
+    match compile(alloc, &arena, text) {
+        Ok(compiled) => Ok(compiled),
+        Err(fault) => Err(refusal_of(alloc, fault)),
+    }
 }
 
 /// Returns the reply of a refusal, if there was memory for its line.

@@ -1,42 +1,46 @@
-//! The command `check`, over any input and output.
-ghost use Rattle.std.specs.Prelude.{◌≡◌, ◌≢◌, ℕ, List, IfErr, IfSome, OnOk, Some};
-ghost use Rattle.pb_base.specs.Device.{one_more_failure};
-ghost use Rattle.pb_command_io.specs.Answers.{Tells};
-ghost use Rattle.pb_accept.specs.Checks.{SaysOfChecks, TellsAnswer, check_status};
-ghost use Rattle.pb_command_io.specs.Inputs.{SaysOfInput};
-ghost use Rattle.pb_accept.specs.Refusals.{IsAcceptedText, IsRefusal};
-ghost use Rattle.pb_command_io.specs.Faults.{TellsFaults, TellsWriteFaults};
+//! The command `check`, over any input, teller and output.
 
-use crate::accept::{Refusal, compile_within};
+ghost use Rattle.std.specs.Prelude.{◌≡◌, IfErr, OnOk};
+ghost use Rattle.pb_accept.specs.Checks.{SaysOfChecks, TellsAnswer, check_status};
+ghost use Rattle.pb_accept.specs.Claims.{SaysOfAny};
+ghost use Rattle.pb_accept.specs.Refusals.{IsAcceptedText};
+ghost use Rattle.pb_codegen.specs.Compiled.{IsRefused};
+ghost use Rattle.pb_voice.specs.Held.{at};
+ghost use Rattle.pb_voice.specs.Tellings.{Answers, Speaks};
+
+use crate::said::Said;
+use crate::teller::{Teller, tell_last};
 use bumpalo::Bump;
 use linked_list_allocator::LocalHeap;
-use pb_base::{Input, Output};
-use pb_command_io::{Page, Status, first_part, read_input};
+use pb_base::limits::MAX_INPUT;
+use pb_base::{Input, Output, ReadFault, read_whole};
+use pb_codegen::{CompileFault, compile};
+use pb_command_io::{Status, first_part};
 use pb_options::CheckOptions;
 use std::alloc::{Allocator, Global};
 
-/// What came of writing the answer to one text.
+/// What came of telling the answer to one text.
 #[derive(Clone, Copy)]
 enum Told {
-    // It was written, and the text was refused or not.
+    // It was told, and the text was refused or not.
     Answered(bool),
-    // Out of memory to look at the text, or for its line.
+    // Out of memory to look at the text.
     OutOfMemory,
     // A write failed.
     Broken,
 }
 
 /// Looks at one text, whose trees are in the memory of `trees`.
-fn look<A: Allocator + Clone>(alloc: Global, trees: A, text: &[u8]) -> Result<(), Refusal>
+fn look<A: Allocator + Clone>(alloc: Global, trees: A, text: &[u8]) -> Result<(), CompileFault>
     ensures accepted { OnOk result (IsAcceptedText text.now) }
-    ensures refused { IfErr result (IsRefusal text.now) }
+    ensures refused { IfErr result (IsRefused text.now) }
 {
-    match compile_within(alloc, trees, text) {
+    match compile(alloc, trees, text) {
         Ok(compiled) => {
             drop(compiled);
             Ok(())
         }
-        Err(refusal) => Err(refusal),
+        Err(fault) => Err(fault),
     }
 }
 
@@ -47,14 +51,14 @@ fn look_within(
     heap: Option<u64>,
     arena: &mut Bump,
     text: &[u8],
-) -> Result<(), Refusal>
+) -> Result<(), CompileFault>
     ensures accepted { OnOk result (IsAcceptedText text.now) }
-    ensures refused { IfErr result (IsRefusal text.now) }
+    ensures refused { IfErr result (IsRefused text.now) }
 {
     if let Some(size) = heap {
         return match LocalHeap::new(alloc, size as usize) {
             Ok(heap) => look(alloc, &heap, text),
-            Err(_) => Err(Refusal::NoMemory),
+            Err(_) => Err(CompileFault::Memory),
         };
     }
     let answer = look(alloc, &*arena, text);
@@ -64,43 +68,45 @@ fn look_within(
     answer
 }
 
-/// Writes the line of a refusal.
-fn tell_refusal<O: Output>(refusal: Refusal, page: &mut Page, output: &mut O) -> Told
-    ensures told { (text : List ℕ) → IsRefusal text refusal → TellsAnswer text
-        (record { written = O.written output.old; page = page.old }) (record { written = O.written output.new; page = page.new }) result }
-    ensures counted { result ≢ Told.Broken → O.failures output.new ≡ O.failures output.old }
-    ensures fault { result ≡ Told.Broken → O.failures output.new ≡ one_more_failure (O.failures output.old) }
+/// Tells the refusal of a text.
+fn tell_refusal<O: Output, T: Teller>(
+    text: &[u8],
+    fault: &CompileFault,
+    teller: &mut T,
+    output: &mut O,
+) -> Told
+    requires { IsRefused text.now fault.now }
+    ensures { TellsAnswer T.tells T.breaks text.now (at O.written O.failures teller.old output.old)
+        (at O.written O.failures teller.new output.new) result }
 {
-    let Refusal::Line(line) = refusal else {
-        return Told::OutOfMemory;
-    };
-    match page.say_line(output, line.as_slice()) {
-        Ok(()) => Told::Answered(true),
-        Err(_) => Told::Broken,
+    match fault {
+        CompileFault::Memory => Told::OutOfMemory,
+        _ => match teller.tell(output, Said::Refused(fault)) {
+            Ok(()) => Told::Answered(true),
+            Err(_) => Told::Broken,
+        },
     }
 }
 
-/// Writes the answer to one text.
-fn tell_answer<O: Output>(
+/// Tells the answer to one text.
+fn tell_answer<O: Output, T: Teller>(
     text: &[u8],
-    answer: Result<(), Refusal>,
-    page: &mut Page,
+    answer: &Result<(), CompileFault>,
+    teller: &mut T,
     output: &mut O,
 ) -> Told
-    requires accepted { OnOk answer (IsAcceptedText text.now) }
-    requires refused { IfErr answer (IsRefusal text.now) }
-    ensures told { TellsAnswer text.now
-        (record { written = O.written output.old; page = page.old }) (record { written = O.written output.new; page = page.new }) result }
-    ensures counted { result ≢ Told.Broken → O.failures output.new ≡ O.failures output.old }
-    ensures fault { result ≡ Told.Broken → O.failures output.new ≡ one_more_failure (O.failures output.old) }
+    requires accepted { OnOk answer.now (IsAcceptedText text.now) }
+    requires refused { IfErr answer.now (IsRefused text.now) }
+    ensures { TellsAnswer T.tells T.breaks text.now (at O.written O.failures teller.old output.old)
+        (at O.written O.failures teller.new output.new) result }
 {
-    let Err(refusal) = answer else {
-        return match page.say_line(output, b"ok") {
+    match answer {
+        Ok(()) => match teller.tell(output, Said::Accepted) {
             Ok(()) => Told::Answered(false),
             Err(_) => Told::Broken,
-        };
-    };
-    tell_refusal(refusal, page, output)
+        },
+        Err(fault) => tell_refusal(text, fault, teller, output),
+    }
 }
 
 /// Returns the status of a call that came to its end.
@@ -115,49 +121,53 @@ fn status_of(refused: bool) -> Status
 }
 
 /// Answers each part of the input in turn.
-fn check_parts<O: Output>(alloc: Global, heap: Option<u64>, bytes: &[u8], output: &mut O) -> Status
-    ensures text { Tells (SaysOfChecks bytes.now) (O.written output.old) (O.written output.new) result }
-    ensures faults { TellsWriteFaults (O.failures output.old) (O.failures output.new) result }
+fn check_parts<O: Output, T: Teller>(
+    alloc: Global,
+    heap: Option<u64>,
+    bytes: &[u8],
+    teller: &mut T,
+    output: &mut O,
+) -> Status
+    ensures { Speaks T.tells T.breaks (SaysOfChecks bytes.now) (at O.written O.failures teller.old output.old)
+        (at O.written O.failures teller.new output.new) result }
 {
-    let mut page = Page::new(alloc);
     let mut arena = Bump::new(alloc);
     let mut refused = false;
     let mut rest = bytes;
     loop {
         let cut = first_part(rest);
         let answer = look_within(alloc, heap, &mut arena, cut.part);
-        match tell_answer(cut.part, answer, &mut page, output) {
+        match tell_answer(cut.part, &answer, teller, output) {
             Told::Answered(is_refusal) => refused |= is_refusal,
-            Told::OutOfMemory => return page.finish_with(output, b"memory", Status::Memory),
+            Told::OutOfMemory => return tell_last(teller, output, Said::NoMemory, Status::Memory),
             Told::Broken => return Status::Device,
         }
         let Some(more) = cut.rest else {
-            return page.finish(output, status_of(refused));
+            return status_of(refused);
         };
         rest = more;
     }
 }
 
-/// Checks the texts that the input holds, which lines `%%` part: writes `ok` for a text that is a program,
-/// and its refusal line for one that is not.
+/// Checks the texts that the input holds, which lines `%%` part: tells of each that it is accepted, or its refusal.
 ///
 /// The trees of a text are in an arena that is reset after it, or in a new heap of the size that is given.
-/// After a read that failed nothing is written; after a write that failed, a prefix of the reply.
-pub fn check_engine<I: Input, O: Output>(
+/// After a read that failed nothing is told; after a write that failed, no more.
+pub fn check_engine<I: Input, O: Output, T: Teller>(
     alloc: Global,
     options: CheckOptions,
     input: &mut I,
+    teller: &mut T,
     output: &mut O,
 ) -> Status
-    ensures text { IfSome (I.rest input.old) (λ bytes.
-        Tells (SaysOfInput SaysOfChecks bytes) (O.written output.old) (O.written output.new) result) }
-    ensures faults { TellsFaults
-        (record { reads = I.failures input.old; writes = O.failures output.old; written = O.written output.old })
-        (record { reads = I.failures input.new; writes = O.failures output.new; written = O.written output.new })
-        result }
+    ensures { Answers T.tells T.breaks (SaysOfAny SaysOfChecks) (I.rest input.old) (I.failures input.old) (I.failures input.new)
+        (at O.written O.failures teller.old output.old)
+        (at O.written O.failures teller.new output.new) result }
 {
-    match read_input(alloc, input, output) {
-        Ok(bytes) => check_parts(alloc, options.heap, bytes.as_slice(), output),
-        Err(status) => status,
+    match read_whole(alloc, input, MAX_INPUT) {
+        Ok(bytes) => check_parts(alloc, options.heap, &bytes, teller, output),
+        Err(ReadFault::TooLong) => tell_last(teller, output, Said::TooLong, Status::Refused),
+        Err(ReadFault::Memory) => tell_last(teller, output, Said::NoMemory, Status::Memory),
+        Err(ReadFault::Device) => Status::Device,
     }
 }

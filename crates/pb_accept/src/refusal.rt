@@ -43,7 +43,7 @@ pub(crate) fn refusal_text(alloc: Global, cause: Option<Cause>) -> Result<Vec<u8
 }
 
 /// Returns the words behind the code of a fault of names: of what there are too many, if that is the fault.
-fn limit_words(fault: NameFault) -> &'static [u8]
+pub(crate) fn limit_words(fault: NameFault) -> &'static [u8]
     ensures { result.now ≡ words_of_limit fault }
 {
     match fault {

@@ -3,10 +3,11 @@ use Rattle.std.specs.Prelude.{◌≡◌, ◌≢◌, ◌⊎◌, ℕ, List, IfSome
 use Rattle.std.specs.Borrow.{Bor}
 use Rattle.clap.specs.Words.{Text}
 use Rattle.pb_accept.specs.Checks.{SaysOfChecks}
-use Rattle.pb_accept.specs.ClaimLines.{SaysOfClaims}
+use Rattle.pb_accept.specs.Claims.{SaysOfClaims}
 use Rattle.pb_accept.specs.Emissions.{SaysOfEmission}
 use Rattle.pb_accept.specs.Migrations.{SaysOfMigration}
 use Rattle.pb_accept.specs.ReplayLines.{SaysOfReplay}
+use Rattle.pb_accept.specs.Sayings.{line_of}
 use Rattle.pb_adapter_engine.specs.Adapters.{SaysOfAdapter}
 use Rattle.pb_bank_engine.specs.Sessions.{SaysOfBank}
 use Rattle.pb_bank_tool.specs.Bank as bank
@@ -30,6 +31,7 @@ use Rattle.pb_plan_engine.specs.PlanLines.{SaysOfPlan}
 use Rattle.pb_search_engine.specs.SaysOfAll.{SaysOfSearches}
 use Rattle.pb_search_tool.specs.Search.{shown_by}
 use Rattle.pb_server_engine.specs.Servers.{SaysOfServer}
+use Rattle.pb_voice.specs.Voices.{Written}
 use Rattle.pb_words.specs.Read.{WordsSay}
 use Rattle.pb_words.specs.declared.words.Options.{Options}
 use Rattle.pb_words.specs.declared.words.Options.TheVariants as option
@@ -37,8 +39,8 @@ use Rattle.pb_words.specs.declared.words.Options.TheVariants as option
 -- what a command may say of an input
 abbrev pub CommandSays : Options → List ℕ → List ℕ → Status → Type 0
 CommandSays option.Bank = SaysOfBank
-CommandSays (option.Check numbers) = SaysOfInput SaysOfChecks
-CommandSays option.Claims = SaysOfInput SaysOfClaims
+CommandSays (option.Check numbers) = SaysOfInput (Written line_of SaysOfChecks)
+CommandSays option.Claims = SaysOfInput (Written line_of SaysOfClaims)
 CommandSays option.Dap = SaysOfAdapter
 CommandSays (option.Debug flags) = says_of_commands flags.live (lending_for flags.lend)
 CommandSays (option.Draw options) = SaysOfInput (SaysOfDraw (lending_for options.lend) (size_of options))

@@ -9,7 +9,7 @@ ghost use Rattle.pb_options.specs.Lends.{lending_for};
 ghost use Rattle.pb_c_call.specs.Replies.{RefusesThreads};
 
 use crate::drawn::record_drawn_engine;
-use pb_accept::{check_engine, claims_engine, emit_engine, migrate_engine, replay_engine};
+use pb_accept::{write_checks, write_claims, emit_engine, migrate_engine, replay_engine};
 use pb_adapter_engine::adapter_engine;
 use pb_bank_engine::bank_engine;
 use pb_base::{Input, Output};
@@ -40,8 +40,8 @@ pub fn answer_alone<I: Input, O: Output>(
 {
     match options(alloc, words) {
         Ok(Options::Bank) => bank_engine(alloc, input, output),
-        Ok(Options::Check(numbers)) => check_engine(alloc, numbers, input, output),
-        Ok(Options::Claims) => claims_engine(alloc, input, output),
+        Ok(Options::Check(numbers)) => write_checks(alloc, numbers, input, output),
+        Ok(Options::Claims) => write_claims(alloc, input, output),
         Ok(Options::Dap) => adapter_engine(alloc, input, output),
         Ok(Options::Debug(flags)) => debug(alloc, flags, input, output),
         Ok(Options::Draw(options)) => draw_engine(alloc, options, input, output),

@@ -3,14 +3,16 @@
 
 ghost use Rattle.std.specs.Prelude.{◌≢◌, ◌⊎◌, map};
 ghost use Rattle.pb_accept.specs.Checks.{SaysOfChecks};
-ghost use Rattle.pb_accept.specs.ClaimLines.{SaysOfClaims};
+ghost use Rattle.pb_accept.specs.Claims.{SaysOfClaims};
+ghost use Rattle.pb_accept.specs.Sayings.{line_of};
 ghost use Rattle.pb_c_call.specs.Replies.{IsGiven, IsNotRead, Replies, Tellings};
 ghost use Rattle.pb_plan_engine.specs.PlanLines.{SaysOfPlan};
+ghost use Rattle.pb_voice.specs.Voices.{Written};
 
 use crate::alone::answer_alone;
 use crate::reply::{Kept, number_of, put_front};
 use crate::word::{NoWords, Word, texts_of};
-use pb_accept::{check_engine, claims_engine};
+use pb_accept::{write_checks, write_claims};
 use pb_base::{Lending, MemoryInput};
 use pb_command_io::Status;
 use pb_options::CheckOptions;
@@ -51,13 +53,13 @@ pub extern "C" fn pb_call(
 /// reply as `pb_call` does.
 #[unsafe(no_mangle)]
 pub extern "C" fn pb_check(alloc: Global, text: &[u8], output: &mut [u8], needed: &mut usize) -> u8
-    ensures given { IsGiven (Tellings SaysOfChecks text.now) output.new result needed.new }
+    ensures given { IsGiven (Tellings (Written line_of SaysOfChecks) text.now) output.new result needed.new }
     ensures no_device { result ≢ 6 }
 {
     let mut source = MemoryInput::new(text);
     let mut reply = Kept::new(alloc);
     let options = CheckOptions { heap: None };
-    let status = check_engine(alloc, options, &mut source, &mut reply);
+    let status = write_checks(alloc, options, &mut source, &mut reply);
     let bytes = reply.as_slice();
     put_front(output, bytes);
     *needed = bytes.len();
@@ -68,12 +70,12 @@ pub extern "C" fn pb_check(alloc: Global, text: &[u8], output: &mut [u8], needed
 /// as `pb_call` does.
 #[unsafe(no_mangle)]
 pub extern "C" fn pb_claims(alloc: Global, text: &[u8], output: &mut [u8], needed: &mut usize) -> u8
-    ensures given { IsGiven (Tellings SaysOfClaims text.now) output.new result needed.new }
+    ensures given { IsGiven (Tellings (Written line_of SaysOfClaims) text.now) output.new result needed.new }
     ensures no_device { result ≢ 6 }
 {
     let mut source = MemoryInput::new(text);
     let mut reply = Kept::new(alloc);
-    let status = claims_engine(alloc, &mut source, &mut reply);
+    let status = write_claims(alloc, &mut source, &mut reply);
     let bytes = reply.as_slice();
     put_front(output, bytes);
     *needed = bytes.len();

@@ -7,4 +7,4 @@ mod list;
 mod string;
 
 pub use list::{put_comma, put_integer, put_integers};
-pub use string::put_string;
+pub use string::{hex_digit, is_plain, put_string};

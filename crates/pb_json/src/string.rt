@@ -8,7 +8,7 @@ use pb_base::NoMemory;
 use pb_base::writing::put;
 
 /// Returns the digit of base 16 of a number.
-fn hex_digit(number: u8) -> u8
+pub fn hex_digit(number: u8) -> u8
     requires { number < 16 }
     ensures { result ≡ hex_digit number }
 {
@@ -20,7 +20,7 @@ fn hex_digit(number: u8) -> u8
 }
 
 /// Returns whether a byte stands for itself, if it is no quote and no backslash.
-fn is_plain(byte: u8) -> bool
+pub fn is_plain(byte: u8) -> bool
     ensures { result ≡ is_plain byte }
 {
     byte >= 32 && byte < 127 && byte != b'<'

@@ -1,4 +1,5 @@
-//! Tests of JSON lines, by public calls. The texts are those that commands write, and the lines are written by hand.
+//! Tests of JSON lines, by public calls. The texts are those that commands write, and the lines are written by hand; or
+//! they are told as objects.
 #![tactic(auto)]
 
 #[cfg(test)]
@@ -9,3 +10,5 @@ mod lines;
 mod live;
 #[cfg(test)]
 mod replies;
+#[cfg(test)]
+mod told;

@@ -1,10 +1,11 @@
 -- What the tool that runs texts and objects says.
 use Rattle.std.specs.Prelude.{◌≡◌, ℕ, List, Option}
 use Rattle.pb_accept.specs.Checks.{SaysOfChecks}
-use Rattle.pb_accept.specs.ClaimLines.{SaysOfClaims}
+use Rattle.pb_accept.specs.Claims.{SaysOfClaims}
 use Rattle.pb_accept.specs.Emissions.{SaysOfEmission}
 use Rattle.pb_accept.specs.Migrations.{SaysOfMigration}
 use Rattle.pb_accept.specs.ReplayLines.{SaysOfReplay}
+use Rattle.pb_accept.specs.Sayings.{line_of}
 use Rattle.pb_code.specs.declared.format.Format.{Format}
 use Rattle.pb_code.specs.declared.format.Format.TheVariants.{One, Two}
 use Rattle.pb_command_io.specs.Inputs.{SaysOfInput}
@@ -17,13 +18,14 @@ use Rattle.pb_messages.specs.Said.{SaysToPerson}
 use Rattle.pb_messages.specs.declared.message.Reading.{Reading}
 use Rattle.pb_messages.specs.declared.message.Reading.TheVariants as reading
 use Rattle.pb_options.specs.Lends.{lending_for}
+use Rattle.pb_voice.specs.Voices.{Written}
 use Rattle.pb_words.specs.declared.words.Options.{Options}
 use Rattle.pb_words.specs.declared.words.Options.TheVariants as option
 
 -- what its commands may say of an input
 abbrev pub says : Options → List ℕ → List ℕ → Status → Type 0
-says (option.Check numbers) = SaysOfInput SaysOfChecks
-says option.Claims = SaysOfInput SaysOfClaims
+says (option.Check numbers) = SaysOfInput (Written line_of SaysOfChecks)
+says option.Claims = SaysOfInput (Written line_of SaysOfClaims)
 says (option.Emit numbers) = SaysOfInput (SaysOfEmission numbers.object)
 says (option.Exec numbers) = SaysOfInput (SaysOfExecution numbers.steps)
 says (option.Explain code) = λ bytes. SaysOfExplain code

@@ -9,7 +9,7 @@ use pb_call::Commands;
 use pb_code::Format;
 use pb_command_io::Status;
 use pb_engines::{
-    check_engine, claims_engine, emit_engine, exec_engine, migrate_engine, record_engine,
+    write_checks, write_claims, emit_engine, exec_engine, migrate_engine, record_engine,
     replay_engine, run_engine,
 };
 use pb_explain::explain_engine;
@@ -42,8 +42,8 @@ impl Commands for RunTool {
         output: &mut O,
     ) -> Option<Status> {
         match options {
-            Options::Check(numbers) => Some(check_engine(alloc, numbers, input, output)),
-            Options::Claims => Some(claims_engine(alloc, input, output)),
+            Options::Check(numbers) => Some(write_checks(alloc, numbers, input, output)),
+            Options::Claims => Some(write_claims(alloc, input, output)),
             Options::Emit(numbers) => Some(emit_engine(alloc, numbers, input, output)),
             Options::Exec(numbers) => Some(exec_engine(rt, alloc, numbers, input, output)),
             Options::Explain(code) => Some(explain_engine(alloc, code, output)),

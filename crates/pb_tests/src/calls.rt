@@ -4,8 +4,8 @@ use pb_base::{Input, MemoryInput, MemoryOutput, Output};
 use pb_code::Format;
 use pb_command_io::Status;
 use pb_engines::{
-    CheckOptions, EmitOptions, Lend, RecordOptions, ReplayOptions, RunOptions, check_engine,
-    claims_engine, emit_engine, exec_engine, migrate_engine, record_engine, replay_engine,
+    CheckOptions, EmitOptions, Lend, RecordOptions, ReplayOptions, RunOptions, write_checks,
+    write_claims, emit_engine, exec_engine, migrate_engine, record_engine, replay_engine,
     run_engine,
 };
 use std::alloc::Global;
@@ -68,8 +68,8 @@ pub fn make<I: Input, O: Output>(
 ) -> Status {
     let alloc = rt.alloc();
     match call {
-        Call::Check(options) => check_engine(alloc, options, input, output),
-        Call::Claims => claims_engine(alloc, input, output),
+        Call::Check(options) => write_checks(alloc, options, input, output),
+        Call::Claims => write_claims(alloc, input, output),
         Call::Emit(object) => emit_engine(alloc, EmitOptions { object }, input, output),
         Call::Exec(options) => exec_engine(rt, alloc, options, input, output),
         Call::Migrate => migrate_engine(alloc, input, output),

@@ -5,8 +5,8 @@ use pb_base::{Lending, MemoryInput, MemoryOutput};
 use pb_code::Format;
 use pb_command_io::Status;
 use pb_engines::{
-    CheckOptions, EmitOptions, Lend, RecordOptions, ReplayOptions, RunOptions, check_engine,
-    claims_engine, emit_engine, exec_engine, migrate_engine, record_engine, replay_engine,
+    CheckOptions, EmitOptions, Lend, RecordOptions, ReplayOptions, RunOptions, write_checks,
+    write_claims, emit_engine, exec_engine, migrate_engine, record_engine, replay_engine,
     run_engine,
 };
 use pb_plan_engine::plan_engine;
@@ -79,8 +79,8 @@ fn status_of(
     let mut input = MemoryInput::new(call.input);
     Some(match call.command {
         Command::Bank => bank_engine(alloc, &mut input, output),
-        Command::Check => check_engine(alloc, CheckOptions { heap: None }, &mut input, output),
-        Command::Claims => claims_engine(alloc, &mut input, output),
+        Command::Check => write_checks(alloc, CheckOptions { heap: None }, &mut input, output),
+        Command::Claims => write_claims(alloc, &mut input, output),
         Command::Emit => {
             let options = EmitOptions {
                 object: Format::Two,

@@ -1,16 +1,10 @@
-use Rattle.std.proofs.Common.{false, codes}
-use Rattle.pb_base.specs.Lines.{line}
+use Rattle.std.proofs.Common.{false}
 use Rattle.pb_accept.specs.Checks.{well}
+use Rattle.pb_accept.specs.Sayings.{Accepted}
 use Rattle.pb_accept.proofs.check.tell_answer.Goals as goal
 
-pub returns-in-Ok-clause-told : goal.returns-in-Ok-clause-told
-returns-in-Ok-clause-told g c = let program = rw c.in_default.is at c.requires.accepted in (line (codes "ok"), well program, c.in-Ok.ensures.ok)
+pub returns-in-Ok-tell : goal.returns-in-Ok-tell
+returns-in-Ok-tell g c = let program = rw c.in-Ok.is at c.requires.accepted in (Accepted, well program, c.in-Ok-tell.ensures.told)
 
-pub returns-in-Err-say_line-clause-told : goal.returns-in-Err-say_line-clause-told
-returns-in-Err-say_line-clause-told g c =
-    let program = rw c.in_default.is at c.requires.accepted in (line (codes "ok"), false, well program, c.in-Err-say_line.ensures.prefix)
-
-pub returns-clause-told : goal.returns-clause-told
-returns-clause-told g c =
-    let refused = rw c.in-Err.is at c.requires.refused in
-    c.tell_refusal.ensures.told c.args.text.now refused
+pub returns-in-Err-tell : goal.returns-in-Err-tell
+returns-in-Err-tell g c = let program = rw c.in-Ok.is at c.requires.accepted in (Accepted, false, well program, c.in-Err-tell.ensures.broken)

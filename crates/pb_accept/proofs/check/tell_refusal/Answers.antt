@@ -1,15 +1,10 @@
-use Rattle.std.proofs.Common.{subst, sym}
-use Rattle.pb_accept.specs.Refusals.{IsRefusal, RefusesWith}
-use Rattle.pb_accept.proofs.CheckLemmas.{refusal_broken, refusal_told}
+use Rattle.std.proofs.Common.{true}
+use Rattle.pb_accept.specs.Checks.{ill}
+use Rattle.pb_accept.specs.Sayings.{Refused}
 use Rattle.pb_accept.proofs.check.tell_refusal.Goals as goal
 
-pub returns-in-Ok-clause-told : goal.returns-in-Ok-clause-told
-returns-in-Ok-clause-told g c text is =
-    let refuses = subst (RefusesWith text) (sym c.as_slice.ensures.value) (subst (IsRefusal text) c.in-Line.is is) in
-    refusal_told text c.as_slice.result.now _ _ refuses c.in-Ok.ensures.ok
+pub returns-in-Ok : goal.returns-in-Ok
+returns-in-Ok g c = (Refused c.args.fault.now, ill c.args.fault.now c.in_default.not-Memory c.requires, c.in-Ok.ensures.told)
 
-pub returns-clause-told : goal.returns-clause-told
-returns-clause-told g c text is =
-    let refuses = subst (RefusesWith text) (sym c.as_slice.ensures.value) (subst (IsRefusal text) c.in-Line.is is) in
-    refusal_broken text c.as_slice.result.now (record { written = g.O.Output.written c.args.output.now; page = c.args.page.now })
-    (record { written = g.O.Output.written c.say_line.new.output; page = c.say_line.new.self }) refuses c.in-Err.ensures.prefix
+pub returns-in-Err : goal.returns-in-Err
+returns-in-Err g c = (Refused c.args.fault.now, true, ill c.args.fault.now c.in_default.not-Memory c.requires, c.in-Err.ensures.broken)

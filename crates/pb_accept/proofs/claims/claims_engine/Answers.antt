@@ -1,19 +1,41 @@
-use Rattle.std.proofs.Common.{ap}
-use Rattle.pb_accept.specs.ClaimLines.{SaysOfClaims}
-use Rattle.pb_command_io.proofs.InputLemmas.{read_faults, says_read, says_unread}
+use Rattle.std.proofs.Common.{[], ◌∷◌, inl, inr, refl, subst, List, ℕ}
+use Rattle.pb_command_io.specs.declared.status.Status.TheVariants as status
+use Rattle.pb_accept.specs.Claims.{SaysOfAny, SaysOfClaims}
+use Rattle.pb_accept.specs.Sayings.{NoMemory, TooLong}
+use Rattle.pb_voice.specs.Tellings.{Speaks}
+use Rattle.pb_accept.proofs.InputLemmas.{something, of_what_was_read, of_too_long, of_no_memory}
+use Rattle.pb_voice.specs.Held.{at}
 use Rattle.pb_accept.proofs.claims.claims_engine.Goals as goal
 
-pub returns-in-Ok-clause-text : goal.returns-in-Ok-clause-text
-returns-in-Ok-clause-text g c =
-    says_read SaysOfClaims (g.I.Input.rest c.args.input.now) _ _ _ _ _ c.tell_claims.result c.in-Ok.ensures.read
-    c.as_slice.ensures.value (ap g.O.Output.written c.in-Ok.ensures.untouched) c.tell_claims.ensures.text
+pub returns-in-Ok : goal.returns-in-Ok
+returns-in-Ok g c =
+    let told = c.tell_claims.ensures in
+    inr (
+      c.in-Ok.ensures.counted,
+      something g.T.Teller.tells g.T.Teller.breaks SaysOfClaims (at g.O.Output.written g.O.Output.failures c.args.teller.now c.args.output.now) (at g.O.Output.written g.O.Output.failures c.tell_claims.new.teller c.tell_claims.new.output) c.tell_claims.result _ told,
+      of_what_was_read g.T.Teller.tells g.T.Teller.breaks SaysOfClaims (at g.O.Output.written g.O.Output.failures c.args.teller.now c.args.output.now) (at g.O.Output.written g.O.Output.failures c.tell_claims.new.teller c.tell_claims.new.output) c.tell_claims.result
+          (g.I.Input.rest c.args.input.now) c.in-Ok.bytes.items c.in-Ok.ensures.bytes
+          (subst (λ (l : List ℕ). Speaks g.T.Teller.tells g.T.Teller.breaks (SaysOfAny SaysOfClaims l) (at g.O.Output.written g.O.Output.failures c.args.teller.now c.args.output.now) (at g.O.Output.written g.O.Output.failures c.tell_claims.new.teller c.tell_claims.new.output) c.tell_claims.result)
+          c.deref.ensures.value told),
+    )
 
-pub returns-in-Ok-clause-faults : goal.returns-in-Ok-clause-faults
-returns-in-Ok-clause-faults g c =
-    read_faults _ _ _ _ _ _ _ c.tell_claims.result c.in-Ok.ensures.counted (ap g.O.Output.failures c.in-Ok.ensures.untouched) c.tell_claims.ensures.faults
+pub returns-in-Err-TooLong : goal.returns-in-Err-TooLong
+returns-in-Err-TooLong g c =
+    inr (
+      c.in-Err-TooLong.ensures.no_fault (λ e. let f = c.in-Err-TooLong.field-0-is in cc),
+      (TooLong ∷ [], status.Refused, tt, c.tell_last.ensures),
+      of_too_long g.T.Teller.tells g.T.Teller.breaks SaysOfClaims (at g.O.Output.written g.O.Output.failures c.args.teller.now c.args.output.now) (at g.O.Output.written g.O.Output.failures c.tell_last.new.teller c.tell_last.new.output) c.tell_last.result
+          (g.I.Input.rest c.args.input.now) (c.in-Err-TooLong.ensures.long c.in-Err-TooLong.field-0-is) c.tell_last.ensures,
+    )
 
-pub returns-in-Err-clause-text : goal.returns-in-Err-clause-text
-returns-in-Err-clause-text g c = says_unread SaysOfClaims (g.I.Input.rest c.args.input.now) _ _ c.in-Err.status c.in-Err.ensures.told
+pub returns-in-Err-Memory : goal.returns-in-Err-Memory
+returns-in-Err-Memory g c =
+    inr (
+      c.in-Err-Memory.ensures.no_fault (λ e. let f = c.in-Err-Memory.field-0-is in cc),
+      (NoMemory ∷ [], status.Memory, tt, c.tell_last-in-Err-Memory.ensures),
+      of_no_memory g.T.Teller.tells g.T.Teller.breaks SaysOfClaims (at g.O.Output.written g.O.Output.failures c.args.teller.now c.args.output.now) (at g.O.Output.written g.O.Output.failures c.tell_last-in-Err-Memory.new.teller c.tell_last-in-Err-Memory.new.output) c.tell_last-in-Err-Memory.result
+          (g.I.Input.rest c.args.input.now) c.tell_last-in-Err-Memory.ensures,
+    )
 
-pub returns-in-Err-clause-faults : goal.returns-in-Err-clause-faults
-returns-in-Err-clause-faults g c = c.in-Err.ensures.faults
+pub returns-in-Err-Device : goal.returns-in-Err-Device
+returns-in-Err-Device g c = inl (c.in-Err-Device.ensures.fault c.in-Err-Device.field-0-is, refl, refl)

@@ -1,14 +1,16 @@
 use Rattle.std.proofs.Common.{ap}
-use Rattle.pb_accept.specs.ClaimLines.{SaysOfClaims}
+use Rattle.pb_accept.specs.Claims.{SaysOfClaims}
+use Rattle.pb_accept.specs.Sayings.{line_of}
+use Rattle.pb_voice.specs.Voices.{Written}
 use Rattle.pb_c_call.specs.Replies.{KeptBytes, Tellings}
 use Rattle.pb_c_call.proofs.GivenReplies.{given, told}
 use Rattle.pb_c_call.proofs.exports.pb_claims.Goals as goal
 
 pub returns-clause-given : goal.returns-clause-given
 returns-clause-given c =
-    given (Tellings SaysOfClaims c.args.text.now) c.put_front.new.to c.args.output.now
-    c.claims_engine-status.new.output.bytes c.as_slice-bytes.result.now c.claims_engine-status.result c.number_of.result
-    (told SaysOfClaims c.args.text.now c.new-source.result c.new-reply.result.bytes
-    c.claims_engine-status.new.output.bytes c.claims_engine-status.result c.new-source.ensures
-    (ap (λ (k : KeptBytes). k.bytes) c.new-reply.ensures) c.claims_engine-status.ensures.text)
+    given (Tellings (Written line_of SaysOfClaims) c.args.text.now) c.put_front.new.to c.args.output.now
+    c.write_claims-status.new.output.bytes c.as_slice-bytes.result.now c.write_claims-status.result c.number_of.result
+    (told (Written line_of SaysOfClaims) c.args.text.now c.new-source.result c.new-reply.result.bytes
+    c.write_claims-status.new.output.bytes c.write_claims-status.result c.new-source.ensures
+    (ap (λ (k : KeptBytes). k.bytes) c.new-reply.ensures) c.write_claims-status.ensures.text)
     c.number_of.ensures.number c.as_slice-bytes.ensures c.put_front.ensures.length c.put_front.ensures.front

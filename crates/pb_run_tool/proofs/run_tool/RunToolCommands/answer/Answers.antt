@@ -6,12 +6,12 @@ use Rattle.pb_run_tool.proofs.run_tool.RunToolCommands.answer.Goals as goal
 pub returns-in-Check-clause-text : goal.returns-in-Check-clause-text
 returns-in-Check-clause-text g c =
     tells_as (g.I.Input.rest c.args.input.now) (g.I.Input.rest c.args.input.now) (g.O.Output.written c.args.output.now)
-    (g.O.Output.written c.check_engine.new.output) c.check_engine.result c.args.options (option.Check c.in-Check.numbers) c.in-Check.is says c.check_engine.ensures.text
+    (g.O.Output.written c.write_checks.new.output) c.write_checks.result c.args.options (option.Check c.in-Check.numbers) c.in-Check.is says c.write_checks.ensures.text
 
 pub returns-in-Claims-clause-text : goal.returns-in-Claims-clause-text
 returns-in-Claims-clause-text g c =
     tells_as (g.I.Input.rest c.args.input.now) (g.I.Input.rest c.args.input.now) (g.O.Output.written c.args.output.now)
-    (g.O.Output.written c.claims_engine.new.output) c.claims_engine.result c.args.options option.Claims c.in-Claims.is says c.claims_engine.ensures.text
+    (g.O.Output.written c.write_claims.new.output) c.write_claims.result c.args.options option.Claims c.in-Claims.is says c.write_claims.ensures.text
 
 pub returns-in-Emit-clause-text : goal.returns-in-Emit-clause-text
 returns-in-Emit-clause-text g c =

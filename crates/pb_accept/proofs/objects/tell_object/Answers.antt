@@ -1,0 +1,10 @@
+use Rattle.pb_accept.proofs.objects.tell_object.Goals as goal
+
+pub returns-in-TooLong-clause-err : goal.returns-in-TooLong-clause-err
+returns-in-TooLong-clause-err g c = rw c.in-TooLong.is c.say-in-TooLong.ensures.err
+
+pub returns-in-NoMemory-clause-ok : goal.returns-in-NoMemory-clause-ok
+returns-in-NoMemory-clause-ok g c = rw c.in-NoMemory.is c.say-in-NoMemory.ensures.ok
+
+pub returns-in-NoMemory-clause-err : goal.returns-in-NoMemory-clause-err
+returns-in-NoMemory-clause-err g c = rw c.in-NoMemory.is c.say-in-NoMemory.ensures.err

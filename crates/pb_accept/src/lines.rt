@@ -1,0 +1,138 @@
+//! What is said, as lines.
+
+ghost use Rattle.std.specs.Prelude.{◌≡◌, OnOk, OnErr};
+ghost use Rattle.pb_accept.specs.Sayings.{cause_said, fault_said, line_of};
+ghost use Rattle.pb_accept.specs.Refusals.{claims_line};
+ghost use Rattle.pb_accept.specs.View.{said_view};
+ghost use Rattle.pb_base.specs.Lines.{line};
+ghost use Rattle.pb_voice.specs.Held.{at};
+ghost use Rattle.pb_voice.specs.Voices.{Adds, Breaks};
+
+use crate::cause::{Cause, lex_cause, names_cause, parse_cause};
+use crate::refusal::limit_words;
+use crate::said::Said;
+use itoa::Buffer;
+use pb_base::{DeviceFault, Output};
+use pb_codegen::{ClaimsFault, CompileFault};
+use pb_voice::Voice;
+
+/// Tells the line of a cause with these words behind it.
+fn tell_cause<O: Output>(
+    voice: &mut Voice,
+    output: &mut O,
+    cause: Option<Cause>,
+    words: &'static [u8],
+) -> Result<(), DeviceFault>
+    ensures ok { OnOk result (Adds (at O.written O.failures voice.old output.old) (cause_said cause words.now)
+        (at O.written O.failures voice.new output.new)) }
+    ensures err { OnErr result (Breaks (at O.written O.failures voice.old output.old) (cause_said cause words.now)
+        (at O.written O.failures voice.new output.new)) }
+{
+    let Some(cause) = cause else {
+        return voice.say(output, b"memory\n");
+    };
+    match cause.at {
+        Some(at) => {
+            let mut digits = Buffer::new();
+            voice.say_all(
+                output,
+                &[
+                    b"refused ",
+                    cause.code.name().as_bytes(),
+                    b" at ",
+                    digits.format(at).as_bytes(),
+                    words,
+                    b"\n",
+                ],
+            )
+        }
+        None => voice.say_all(
+            output,
+            &[b"refused ", cause.code.name().as_bytes(), words, b"\n"],
+        ),
+    }
+}
+
+/// Tells the line of a claim that is over its capital.
+fn tell_over<O: Output>(
+    voice: &mut Voice,
+    output: &mut O,
+    fault: &ClaimsFault,
+) -> Result<(), DeviceFault>
+    ensures ok { OnOk result (Adds (at O.written O.failures voice.old output.old) (line (claims_line fault.now))
+        (at O.written O.failures voice.new output.new)) }
+    ensures err { OnErr result (Breaks (at O.written O.failures voice.old output.old) (line (claims_line fault.now))
+        (at O.written O.failures voice.new output.new)) }
+{
+    let mut claim = Buffer::new();
+    let mut capital = Buffer::new();
+    voice.say_all(
+        output,
+        &[
+            b"refused C1 ",
+            &fault.process,
+            b" ",
+            &fault.resource,
+            b" claim ",
+            claim.format(fault.claim).as_bytes(),
+            b" capital ",
+            capital.format(fault.capital).as_bytes(),
+            b"\n",
+        ],
+    )
+}
+
+/// Tells the line of the fault of a text.
+fn tell_fault<O: Output>(
+    voice: &mut Voice,
+    output: &mut O,
+    fault: &CompileFault,
+) -> Result<(), DeviceFault>
+    ensures ok { OnOk result (Adds (at O.written O.failures voice.old output.old) (fault_said fault.now)
+        (at O.written O.failures voice.new output.new)) }
+    ensures err { OnErr result (Breaks (at O.written O.failures voice.old output.old) (fault_said fault.now)
+        (at O.written O.failures voice.new output.new)) }
+{
+    match fault {
+        CompileFault::Lex(fault) => tell_cause(voice, output, lex_cause(*fault), b""),
+        CompileFault::Parse(fault) => tell_cause(voice, output, parse_cause(*fault), b""),
+        CompileFault::Names(fault) => {
+            tell_cause(voice, output, names_cause(*fault), limit_words(*fault))
+        }
+        CompileFault::Claims(fault) => tell_over(voice, output, fault),
+        CompileFault::Memory => voice.say(output, b"memory\n"),
+    }
+}
+
+/// Tells a thing by its line.
+pub(crate) fn tell_line<O: Output>(
+    voice: &mut Voice,
+    output: &mut O,
+    said: Said<'_>,
+) -> Result<(), DeviceFault>
+    ensures ok { OnOk result (Adds (at O.written O.failures voice.old output.old) (line_of (said_view said.entry))
+        (at O.written O.failures voice.new output.new)) }
+    ensures err { OnErr result (Breaks (at O.written O.failures voice.old output.old) (line_of (said_view said.entry))
+        (at O.written O.failures voice.new output.new)) }
+{
+    match said {
+        Said::Accepted => voice.say(output, b"ok\n"),
+        Said::Refused(fault) => tell_fault(voice, output, fault),
+        Said::Claim(claim) => {
+            let mut digits = Buffer::new();
+            voice.say_all(
+                output,
+                &[
+                    claim.process,
+                    b" claim ",
+                    digits.format(claim.amount).as_bytes(),
+                    b" ",
+                    claim.resource,
+                    b"\n",
+                ],
+            )
+        }
+        Said::TooLong => voice.say(output, b"refused input\n"),
+        Said::NoMemory => voice.say(output, b"memory\n"),
+    }
+}

@@ -1,0 +1,187 @@
+//! What is said, as objects of JSON.
+
+ghost use Rattle.std.specs.Prelude.{◌≡◌, OnOk, OnErr};
+ghost use Rattle.pb_accept.specs.Sayings as spec;
+ghost use Rattle.pb_accept.specs.Sayings.{cause_json, fault_json, json_of, over_json};
+ghost use Rattle.pb_accept.specs.View.{said_view};
+ghost use Rattle.pb_voice.specs.Held.{at};
+ghost use Rattle.pb_voice.specs.Voices.{Adds, Breaks};
+
+use crate::cause::{Cause, lex_cause, names_cause, parse_cause};
+use crate::said::{Claim, Said};
+use itoa::Buffer;
+use pb_base::{DeviceFault, Output};
+use pb_codegen::{ClaimsFault, CompileFault};
+use pb_names::{Kind, NameFault};
+use pb_voice::{Voice, say_pieces};
+
+/// Returns the member for what there is too much of.
+fn kind_json(kind: Kind) -> &'static [u8]
+    ensures { result.now ≡ spec.kind_json kind }
+{
+    match kind {
+        Kind::Processes => b",\"text\":\"processes\"",
+        Kind::Resources => b",\"text\":\"resources\"",
+        Kind::Integers => b",\"text\":\"integers\"",
+        Kind::Fork => b",\"text\":\"fork\"",
+        Kind::Arms => b",\"text\":\"arms\"",
+    }
+}
+
+/// Returns the member behind the code of a fault of names.
+fn limit_json(fault: NameFault) -> &'static [u8]
+    ensures { result.now ≡ spec.limit_json fault }
+{
+    match fault {
+        NameFault::TooMany(kind) => kind_json(kind),
+        NameFault::Twice(_)
+        | NameFault::Unknown(_)
+        | NameFault::Amount(_)
+        | NameFault::Repeated(_)
+        | NameFault::NoMemory => b"",
+    }
+}
+
+/// Tells the object of a cause with this member behind it.
+fn tell_cause<O: Output>(
+    voice: &mut Voice,
+    output: &mut O,
+    cause: Option<Cause>,
+    member: &'static [u8],
+) -> Result<(), DeviceFault>
+    ensures ok { OnOk result (Adds (at O.written O.failures voice.old output.old) (cause_json cause member.now)
+        (at O.written O.failures voice.new output.new)) }
+    ensures err { OnErr result (Breaks (at O.written O.failures voice.old output.old) (cause_json cause member.now)
+        (at O.written O.failures voice.new output.new)) }
+{
+    let Some(cause) = cause else {
+        return voice.say(output, b"{\"kind\":\"memory\"}\n");
+    };
+    match cause.at {
+        Some(at) => {
+            let mut digits = Buffer::new();
+            voice.say_all(
+                output,
+                &[
+                    b"{\"kind\":\"refused\",\"code\":\"",
+                    cause.code.name().as_bytes(),
+                    b"\",\"at\":",
+                    digits.format(at).as_bytes(),
+                    member,
+                    b"}\n",
+                ],
+            )
+        }
+        None => voice.say_all(
+            output,
+            &[
+                b"{\"kind\":\"refused\",\"code\":\"",
+                cause.code.name().as_bytes(),
+                b"\"",
+                member,
+                b"}\n",
+            ],
+        ),
+    }
+}
+
+/// Tells the object of a claim that is over its capital.
+fn tell_over<O: Output>(
+    voice: &mut Voice,
+    output: &mut O,
+    fault: &ClaimsFault,
+) -> Result<(), DeviceFault>
+    ensures ok { OnOk result (Adds (at O.written O.failures voice.old output.old) (over_json fault.now)
+        (at O.written O.failures voice.new output.new)) }
+    ensures err { OnErr result (Breaks (at O.written O.failures voice.old output.old) (over_json fault.now)
+        (at O.written O.failures voice.new output.new)) }
+{
+    let mut claim = Buffer::new();
+    let mut capital = Buffer::new();
+    say_pieces(
+        voice,
+        output,
+        &[false, true, false, true, false, false, false, false, false],
+        &[
+            b"{\"kind\":\"refused\",\"code\":\"C1\",\"process\":",
+            &fault.process,
+            b",\"resource\":",
+            &fault.resource,
+            b",\"claim\":",
+            claim.format(fault.claim).as_bytes(),
+            b",\"capital\":",
+            capital.format(fault.capital).as_bytes(),
+            b"}\n",
+        ],
+    )
+}
+
+/// Tells the object of the fault of a text.
+fn tell_fault<O: Output>(
+    voice: &mut Voice,
+    output: &mut O,
+    fault: &CompileFault,
+) -> Result<(), DeviceFault>
+    ensures ok { OnOk result (Adds (at O.written O.failures voice.old output.old) (fault_json fault.now)
+        (at O.written O.failures voice.new output.new)) }
+    ensures err { OnErr result (Breaks (at O.written O.failures voice.old output.old) (fault_json fault.now)
+        (at O.written O.failures voice.new output.new)) }
+{
+    match fault {
+        CompileFault::Lex(fault) => tell_cause(voice, output, lex_cause(*fault), b""),
+        CompileFault::Parse(fault) => tell_cause(voice, output, parse_cause(*fault), b""),
+        CompileFault::Names(fault) => {
+            tell_cause(voice, output, names_cause(*fault), limit_json(*fault))
+        }
+        CompileFault::Claims(fault) => tell_over(voice, output, fault),
+        CompileFault::Memory => voice.say(output, b"{\"kind\":\"memory\"}\n"),
+    }
+}
+
+/// Tells the object of a claim.
+fn tell_claim<O: Output>(
+    voice: &mut Voice,
+    output: &mut O,
+    claim: Claim<'_>,
+) -> Result<(), DeviceFault>
+    ensures ok { OnOk result (Adds (at O.written O.failures voice.old output.old)
+        (json_of (spec.Claim claim.entry.process.now claim.entry.amount claim.entry.resource.now)) (at O.written O.failures voice.new output.new)) }
+    ensures err { OnErr result (Breaks (at O.written O.failures voice.old output.old)
+        (json_of (spec.Claim claim.entry.process.now claim.entry.amount claim.entry.resource.now)) (at O.written O.failures voice.new output.new)) }
+{
+    let mut digits = Buffer::new();
+    say_pieces(
+        voice,
+        output,
+        &[false, true, false, false, false, true, false],
+        &[
+            b"{\"kind\":\"claim\",\"process\":",
+            claim.process,
+            b",\"claim\":",
+            digits.format(claim.amount).as_bytes(),
+            b",\"resource\":",
+            claim.resource,
+            b"}\n",
+        ],
+    )
+}
+
+/// Tells a thing by its object.
+pub(crate) fn tell_object<O: Output>(
+    voice: &mut Voice,
+    output: &mut O,
+    said: Said<'_>,
+) -> Result<(), DeviceFault>
+    ensures ok { OnOk result (Adds (at O.written O.failures voice.old output.old) (json_of (said_view said.entry))
+        (at O.written O.failures voice.new output.new)) }
+    ensures err { OnErr result (Breaks (at O.written O.failures voice.old output.old) (json_of (said_view said.entry))
+        (at O.written O.failures voice.new output.new)) }
+{
+    match said {
+        Said::Accepted => voice.say(output, b"{\"kind\":\"ok\"}\n"),
+        Said::Refused(fault) => tell_fault(voice, output, fault),
+        Said::Claim(claim) => tell_claim(voice, output, claim),
+        Said::TooLong => voice.say(output, b"{\"kind\":\"refused\",\"code\":\"input\"}\n"),
+        Said::NoMemory => voice.say(output, b"{\"kind\":\"memory\"}\n"),
+    }
+}

@@ -1,0 +1,11 @@
+use Rattle.std.proofs.Common.{take}
+use Rattle.std.specs.List.{flat_map, zip}
+use Rattle.pb_voice.specs.Held.{at}
+use Rattle.pb_voice.specs.Pieces.{piece_text}
+use Rattle.pb_voice.specs.Voices.{Adds}
+use Rattle.pb_voice.proofs.pieces.say_pieces.Given as goal
+
+abbrev pub invariant-loop-i : goal.invariant-loop-i
+invariant-loop-i g l =
+    Adds (at g.O.Output.written g.O.Output.failures l.fn.voice l.fn.output) (flat_map piece_text (take l.i (zip l.quoted l.pieces)))
+    (at g.O.Output.written g.O.Output.failures l.voice l.output)

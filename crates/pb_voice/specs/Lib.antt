@@ -1,0 +1,5 @@
+pub mod Held
+pub mod Laws
+pub mod Pieces
+pub mod Tellings
+pub mod Voices
