@@ -175,6 +175,8 @@ WRITING = (
     ["grade", ".", "wanted.txt"], ["grade", "--csv", ".", "wanted.txt"], ["sample", "--runs", "3", "lost.pb"],
     ["run", "--seed", "1", "lost.pb"], ["run", "--seed", "1", "wrong.pb"], ["outcomes", "--expect", "answer.pb"],
 )
+# Calls that write to standard error alone.
+REFUSING = (["fly"], ["run", "nosuch.pb"], ["run", "--workers", "99", "lost.pb"], ["sample", "--runs", "0", "lost.pb"], ["library"])
 
 
 def try_outputs(tally: Tally, script: str, folder: pathlib.Path) -> None:
@@ -191,10 +193,24 @@ def try_outputs(tally: Tally, script: str, folder: pathlib.Path) -> None:
         usual = subprocess.run(**call, capture_output=True)
         ran = subprocess.run(**call, preexec_fn=lambda: os.close(2), stdout=subprocess.PIPE)
         tally.expect((ran.returncode, ran.stdout) == (usual.returncode, usual.stdout), words, "with no standard error", ran)
+        with open("/dev/full", "w") as full:
+            ran = subprocess.run(**call, stdout=subprocess.PIPE, stderr=full)
+        tally.expect((ran.returncode, ran.stdout) == (usual.returncode, usual.stdout), words, "with a full standard error", ran)
         ran = subprocess.run([script, *words], cwd=folder, preexec_fn=lambda: os.close(0), capture_output=True, check=False)
         tally.expect((ran.returncode, ran.stdout, ran.stderr) == (usual.returncode, usual.stdout, usual.stderr), words, "with no input", ran)
     ran = subprocess.run(f"{script} page lost.run | head -n 1", shell=True, cwd=folder, capture_output=True, check=False)
     tally.expect((ran.stdout, ran.stderr) == (b"<!doctype html>\n", b""), "a reader that ends early", ran)
+
+
+def try_messages(tally: Tally, script: str, folder: pathlib.Path) -> None:
+    """Calls with a standard error that takes nothing, which changes no status."""
+    for words in REFUSING:
+        call = {"args": [script, *words], "cwd": folder, "stdin": subprocess.DEVNULL, "check": False}
+        usual = subprocess.run(**call, capture_output=True)
+        with open("/dev/full", "w") as full:
+            ran = subprocess.run(**call, stdout=subprocess.PIPE, stderr=full)
+        is_same = (ran.returncode, ran.stdout) == (usual.returncode, usual.stdout)
+        tally.expect(usual.stderr and is_same, words, "with a full standard error", ran, usual)
 
 
 def try_modules(tally: Tally, script: str, folder: pathlib.Path) -> None:
@@ -227,6 +243,7 @@ def main() -> None:
         is_told = b"parbegin: the input has picks" in ran.stderr and ran.stdout == b"refused L2 at 335\n"
         tally.expect(is_told, "picks on standard input", ran)
         try_outputs(tally, script, folder)
+        try_messages(tally, script, folder)
         try_modules(tally, script, folder)
     tally.end("usage")
 

@@ -12,7 +12,7 @@ from typing import Tuple, Union
 
 from script import files, helping
 from script.findings import Finding, Text, Unread, finding, texts_of
-from script.places import DEVICE, WORDS, say, shown
+from script.places import DEVICE, WORDS, say, shown, write_message
 from script.reports import gcc_lines, json_lines, sarif_document
 from script.standard import drop_output
 
@@ -144,11 +144,7 @@ def tell_text(name: str, answer: Answer) -> None:
     out.flush()
     # (no other line of a message begins so)
     messages = re.sub(rb"^(?=error )", lambda _: os.fsencode(f"{shown(name)}: "), answer.messages, flags=re.M)
-    try:
-        sys.stderr.buffer.write(messages)
-        sys.stderr.buffer.flush()
-    except (OSError, ValueError, AttributeError):
-        pass
+    write_message(messages)
 
 
 @dataclass

@@ -3,10 +3,8 @@ from __future__ import annotations
 
 import re
 import subprocess
-import sys
-from contextlib import suppress
 
-from script.places import WORDS
+from script.places import WORDS, write_message
 from script.program import is_built
 from script.standard import write
 from script.tools import tool_of
@@ -126,10 +124,7 @@ def help_on_words(words: list[str]) -> str | None:
 
 def write_refusal(told: bytes, messages: bytes) -> int:
     """Writes to standard error why the words are refused, and returns the status."""
-    with suppress(OSError, AttributeError):
-        # (it is nothing if it is closed)
-        sys.stderr.buffer.write(told + messages)
-        sys.stderr.flush()
+    write_message(told + messages)
     return WORDS
 
 
