@@ -15,6 +15,7 @@ import sys
 import tempfile
 
 from calls import DEADLOCK, DEVICE, DONE, FAULT, LIMIT, REFUSED, TOP, WORDS, Tally, installed
+from pseudo_terminal import Terminal
 
 # The status of `outcomes --expect` if some run is not as expected.
 UNEXPECTED = 10
@@ -175,6 +176,11 @@ WRITING = (
     ["grade", ".", "wanted.txt"], ["grade", "--csv", ".", "wanted.txt"], ["sample", "--runs", "3", "lost.pb"],
     ["run", "--seed", "1", "lost.pb"], ["run", "--seed", "1", "wrong.pb"], ["outcomes", "--expect", "answer.pb"],
 )
+# Calls that read standard input.
+WAITING = (
+    ["run"], ["run", "--seed", "1"], ["check"], ["check", "--format", "gcc"], ["plan"], ["plan", "--format", "json"], ["sample"],
+    ["outcomes", "--expect"],
+)
 # Calls that write to standard error alone.
 REFUSING = (["fly"], ["run", "nosuch.pb"], ["run", "--workers", "99", "lost.pb"], ["sample", "--runs", "0", "lost.pb"], ["library"])
 
@@ -213,6 +219,16 @@ def try_messages(tally: Tally, script: str, folder: pathlib.Path) -> None:
         tally.expect(usual.stderr and is_same, words, "with a full standard error", ran, usual)
 
 
+def try_waiting(tally: Tally, script: str, folder: pathlib.Path) -> None:
+    """Calls without a file at a terminal, where each says what it waits for."""
+    for words in WAITING:
+        terminal = Terminal([script, *words], str(folder))
+        is_told = terminal.wait_for(r"Ctrl-D at the start of a line ends it\n")
+        terminal.type("\x04")
+        terminal.end()
+        tally.expect(is_told and terminal.shown.startswith("parbegin: waiting at the terminal for "), words, terminal.shown)
+
+
 def try_modules(tally: Tally, script: str, folder: pathlib.Path) -> None:
     """Calls with modules beside, and on PYTHONPATH, that have the names of modules of Python, and stop whoever takes them."""
     beside = folder / "beside"
@@ -244,6 +260,7 @@ def main() -> None:
         tally.expect(is_told, "picks on standard input", ran)
         try_outputs(tally, script, folder)
         try_messages(tally, script, folder)
+        try_waiting(tally, script, folder)
         try_modules(tally, script, folder)
     tally.end("usage")
 

@@ -228,6 +228,8 @@ def check(start: list[str], words: list[str]) -> int:
     sorted_words = files.sort_words(start, "check", options.words or [])
     if helping.are_refused(start, ["check", *sorted_words.others]):
         return WORDS
+    if not sorted_words.named:
+        files.tell_what_it_awaits("check")
     source, sums = Source(sorted_words.named or [STANDARD_INPUT]), Sums()
     # (a name of bytes that are no text is written as it is)
     sys.stdout.reconfigure(errors="surrogateescape")

@@ -62,8 +62,8 @@ def run_drawn(start: list[str], words: files.Words) -> int:
         files.advise("run", words.others, name)
     if name:
         files.give_file(name)
-    elif os.isatty(0):
-        say("waiting at the terminal for a text. Ctrl-D at the start of a line ends it")
+    else:
+        files.tell_what_it_awaits("run")
     given = files.read_input()
     status, recorded, messages = ran_on(start, ["record", *options], given)
     if status not in (0, DEADLOCK):

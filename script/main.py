@@ -13,15 +13,6 @@ from script.places import DEVICE, WORDS, say, shown
 from script.program import is_built, is_nothing_built, program, record_of_gate
 from script.tools import CALLS, COMMANDS, command_of, path_of, tool_of
 
-# What each command waits for at a terminal; any other waits for a text.
-AWAITED = {
-    "check": "texts, with lines %% between them", "plan": "a text, or several with lines %% between them", "exec": "an object", "migrate": "an object",
-    "replay": "a text, a line %% and pick lines", "draw": "a text, a line %% and pick lines",
-    "debug": "a text, a line %%, pick lines, a line %% and commands", "states": "a text or an object, a line %% and pick lines",
-    "bank": "commands, which `help` lists", "dap": "messages of the Debug Adapter Protocol",
-    "lsp": "messages of the Language Server Protocol",
-}
-
 
 def start_program(start: list[str], words: list[str]) -> None:
     """Becomes the program."""
@@ -30,12 +21,6 @@ def start_program(start: list[str], words: list[str]) -> None:
         signal.signal(it, signal.SIG_DFL)
     tool = tool_of(command_of(words))
     os.execv(path_of(tool) if tool else start[0], [*start, *words])
-
-
-def tell_what_it_awaits(command: str) -> None:
-    """Says what is to be typed, if standard input is a terminal."""
-    if os.isatty(0):
-        say(f"waiting at the terminal for {AWAITED.get(command, 'a text')}. Ctrl-D at the start of a line ends it")
 
 
 def as_codes(words: list[str]) -> list[str]:
@@ -105,7 +90,7 @@ def run_on_file(start: list[str], command: str, words: files.Words) -> int:
     if name:
         files.give_file(name)
     else:
-        tell_what_it_awaits(command)
+        files.tell_what_it_awaits(command)
     if command == "outcomes" and "--expect" in words.others and len(start) == 1:
         from script.expected import run_expected
 
