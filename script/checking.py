@@ -221,6 +221,9 @@ def tell_sums(sums: Sums, source: Source) -> None:
 
 def check(start: list[str], words: list[str]) -> int:
     """Checks files, and returns the greatest status."""
+    if "--json" in start:
+        say("check --format has no '--json': --format json is for programs")
+        return WORDS
     options = read_options(words)
     if isinstance(options, str):
         say(options)

@@ -48,7 +48,7 @@ def lending(words: list[str]) -> list[str]:
 def run_drawn(start: list[str], words: files.Words) -> int:
     """Makes a run that is drawn, of a file or of standard input, and returns the status of a run."""
     options = with_seed(words.others)
-    if are_refused(start, ["record", *options]):
+    if are_refused(start, ["record", *options], "run"):
         return WORDS
     for name in words.missing:
         files.tell_missing(name)

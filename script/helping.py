@@ -54,6 +54,16 @@ EDITORS = """
 An editor starts this and writes its messages to standard input; no FILE is named. extras/README.md says how each
 editor is set up.
 """
+BUILD = """Build all tools, which proves each crate that they are made of
+
+Usage: parbegin build
+
+What is built of the same files, or what the gate has kept of them on this machine, is taken. Standard error says how far it
+is, and an interrupt keeps what is built. docs/BUILDING.md says how long it takes.
+
+Options:
+  -h, --help  Print help
+"""
 HELPFUL = ("--help", "-h")
 VERSION = ("--version", "-V")
 # A text on which a session of the program lists its commands.
@@ -128,12 +138,15 @@ def write_refusal(told: bytes, messages: bytes) -> int:
     return WORDS
 
 
-def are_refused(start: list[str], words: list[str]) -> bool:
+def are_refused(start: list[str], words: list[str], typed: str | None = None) -> bool:
     """Returns whether the program refuses the words; then standard error has the reasons.
 
-    They are tried on an empty input, which every command refuses at once or answers in no time.
+    They are tried on an empty input, which every command refuses at once or answers in no time. `typed` is the command of the
+    call, if these words are those of another one.
     """
     status, told, messages = ran_on(start, words)
     if status == WORDS:
+        if typed:
+            told = told.replace(f"Usage: parbegin {words[0]} ".encode(), f"Usage: parbegin {typed} ".encode())
         write_refusal(told, messages)
     return status == WORDS
