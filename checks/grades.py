@@ -11,6 +11,7 @@ from __future__ import annotations
 import csv
 import html
 import json
+import os
 import pathlib
 import re
 import subprocess
@@ -133,6 +134,11 @@ def try_reasons(tally: Tally, it: Class) -> None:
     tally.expect("a.pb,1,refused P1 at 31,,line 3: `prabegin` is not a word of the language\n" in told, "the line of a word", told)
     is_told = said.startswith("parbegin: form.txt line 1: this is not a print line: a print line is P.a print V")
     tally.expect(is_told and " (1 more is refused by a line of it)\n" in said, "what a line of the exercise has to be", said)
+    (it.folder / "reasons/d.pb").write_text("process p begin print 3 end\n%%\np.0 print 3\n")
+    os.mkfifo(it.folder / "reasons/e.pb")
+    _, told, said = it.run("--csv", "reasons", "wanted.txt")
+    tally.expect('\nd.pb,1,refused K1 at 12,,"it has a line %%, and a submission is one text"\n' in told, "a text with a line %%", told)
+    tally.expect(said == "parbegin: e.pb: not a file\nparbegin: 5 submissions: 1 as expected, 1 not as expected, 2 refused, 1 not read\n", "a pipe", said)
     it.write("marked.txt", f"\ufeff{WANTED}")
     said = it.run("reasons", "marked.txt")[2]
     tally.expect(said.startswith("parbegin: marked.txt begins with a byte order mark"), "a byte order mark", said)

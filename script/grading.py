@@ -10,7 +10,7 @@ from concurrent.futures import Executor
 from dataclasses import dataclass
 
 from script.expected import ENDLESS, Difference, Told, circle_of, difference, ends_in_words, prints_of, read_told
-from script.files import MOST_READ, opened
+from script.files import MOST_READ, opened, parts_of
 from script.gradebook import lines_of, sums, write_report
 from script.helping import are_refused
 from script.options import Given, WrongWords, read_options
@@ -96,6 +96,8 @@ class Grade:
 # before the place of the refusal, which may be a line further on.
 PLACE = re.compile(r"^ *--> .*?(\bprint )?\bline (\d+)", re.M)
 NAMED_WORD = re.compile(r"error \w+: (`\w+`) is not a word")
+# Why a text with a line %% is refused: what follows that line is read as lines that are wanted.
+SEVERAL = "it has a line %%, and a submission is one text"
 HINT = re.compile(r"^ *= hint: (.*)$", re.M)
 # What a message says of a text whose process or arm the wanted lines do not name.
 THERE_ARE = re.compile(r"^ *= (?:the processes before the line %% are (.*)|(its (?:only arm|arms) .*))$", re.M)
@@ -154,8 +156,13 @@ class Grader:
 
     def read(self, name: str) -> bytes | None:
         """Returns a submission, with a line feed at its end, or says why it cannot be read."""
+        path = os.path.join(self.folder, name)
+        if os.path.exists(path) and not os.path.isfile(path):
+            # (a pipe would be waited for)
+            say(f"{shown(name)}: not a file")
+            return None
         try:
-            file = opened(os.path.join(self.folder, name))
+            file = opened(path)
             if file is None:
                 return None
             with file:
@@ -181,7 +188,9 @@ class Grader:
         # (a program that a signal ended has a status below 0)
         status = ran.returncode if ran.returncode >= 0 else 128 - ran.returncode
         message = ran.stderr.decode(errors="replace")
-        return Grade(name, given, status, told, message, reason_of(message, self.exercise, name), differs)
+        has_several = told.verdict.startswith("refused K1 ") and len(parts_of(given)) > 1
+        reason = SEVERAL if has_several else reason_of(message, self.exercise, name)
+        return Grade(name, given, status, told, message, reason, differs)
 
 
 def read_words(words: list[str]) -> tuple[Given, str, str]:
@@ -221,7 +230,7 @@ def call(start: list[str], words: list[str]) -> int:
 
 def tell_lines(grades: list[Grade]) -> None:
     """Says of the first text that is refused by a line of the exercise, as one that names another process, why."""
-    refused = [it for it in grades if it.told.verdict.startswith("refused K1 ")]
+    refused = [it for it in grades if it.told.verdict.startswith("refused K1 ") and it.reason != SEVERAL]
     if refused:
         more, hint = len(refused) - 1, HINT.search(refused[0].message)
         others = f" ({more} more {'is' if more == 1 else 'are'} refused by a line of it)" if more else ""
