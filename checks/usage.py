@@ -234,6 +234,18 @@ def try_waiting(tally: Tally, script: str, folder: pathlib.Path) -> None:
         tally.expect(is_told and terminal.shown.startswith("parbegin: waiting at the terminal for "), words, terminal.shown)
 
 
+def try_names(tally: Tally, script: str, folder: pathlib.Path) -> None:
+    """Calls with a file whose name has control characters, which are escaped in the title of a page and at a prompt."""
+    (folder / "a\n\x1b[1m.pb").write_bytes((folder / "hello.pb").read_bytes())
+    ran = subprocess.run([script, "page", "a\n\x1b[1m.pb"], cwd=folder, stdin=subprocess.DEVNULL, capture_output=True, check=False)
+    tally.expect(ran.returncode == DONE and b"<title>a\\n\\x1b[1m.pb" in ran.stdout and b"\x1b" not in ran.stdout, "a page", ran)
+    terminal = Terminal([script, "debug", "a\n\x1b[1m.pb"], str(folder))
+    terminal.wait_for("0/0> ")
+    terminal.type("quit\n")
+    terminal.end()
+    tally.expect(terminal.shown.startswith("a\\n\\x1b[1m.pb: process p; "), "a session", terminal.shown)
+
+
 def try_modules(tally: Tally, script: str, folder: pathlib.Path) -> None:
     """Calls with modules beside, and on PYTHONPATH, that have the names of modules of Python, and stop whoever takes them."""
     beside = folder / "beside"
@@ -266,6 +278,7 @@ def main() -> None:
         try_outputs(tally, script, folder)
         try_messages(tally, script, folder)
         try_waiting(tally, script, folder)
+        try_names(tally, script, folder)
         try_modules(tally, script, folder)
     tally.end("usage")
 
