@@ -12,7 +12,7 @@ from typing import Tuple, Union
 
 from script import files, helping
 from script.findings import Finding, Text, Unread, finding, texts_of
-from script.places import DEVICE, WORDS, say, shown
+from script.places import DEVICE, WORDS, say, shown, write_message
 from script.reports import gcc_lines, json_lines, sarif_document
 from script.standard import drop_output
 
@@ -144,11 +144,7 @@ def tell_text(name: str, answer: Answer) -> None:
     out.flush()
     # (no other line of a message begins so)
     messages = re.sub(rb"^(?=error )", lambda _: os.fsencode(f"{shown(name)}: "), answer.messages, flags=re.M)
-    try:
-        sys.stderr.buffer.write(messages)
-        sys.stderr.buffer.flush()
-    except (OSError, ValueError, AttributeError):
-        pass
+    write_message(messages)
 
 
 @dataclass
@@ -225,6 +221,9 @@ def tell_sums(sums: Sums, source: Source) -> None:
 
 def check(start: list[str], words: list[str]) -> int:
     """Checks files, and returns the greatest status."""
+    if "--json" in start:
+        say("check --format has no '--json': --format json is for programs")
+        return WORDS
     options = read_options(words)
     if isinstance(options, str):
         say(options)
@@ -232,6 +231,8 @@ def check(start: list[str], words: list[str]) -> int:
     sorted_words = files.sort_words(start, "check", options.words or [])
     if helping.are_refused(start, ["check", *sorted_words.others]):
         return WORDS
+    if not sorted_words.named:
+        files.tell_what_it_awaits("check")
     source, sums = Source(sorted_words.named or [STANDARD_INPUT]), Sums()
     # (a name of bytes that are no text is written as it is)
     sys.stdout.reconfigure(errors="surrogateescape")

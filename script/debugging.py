@@ -11,7 +11,7 @@ from script.code import read_code
 from script.files import MOST_READ, PICK, is_object, opened, parts_of
 from script.helping import ran_on
 from script.picks import Picks
-from script.places import DEVICE
+from script.places import DEVICE, shown
 
 
 def debug(start: list[str], words: list[str], name: str) -> int:
@@ -73,7 +73,7 @@ def at_terminal(start: list[str], words: list[str], given: bytes, name: str) -> 
     try:
         picks = Picks([line.decode() for line in pick_lines])
         session = session_of(start, first, read_code(told.decode()), picks, words)
-        return Prompt(session, name, is_object(first)).run([it.decode(errors="replace") for it in commands[0].splitlines()])
+        return Prompt(session, shown(name), is_object(first)).run([it.decode(errors="replace") for it in commands[0].splitlines()])
     except Refused as refused:
         if refused.told:
             print(refused.told)

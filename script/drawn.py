@@ -3,12 +3,10 @@ from __future__ import annotations
 
 import os
 import subprocess
-import sys
-from contextlib import suppress
 
 from script import files
 from script.helping import are_refused, ran_on
-from script.places import DEADLOCK, DEVICE, FAULT, LIMIT, WORDS, say, shown
+from script.places import DEADLOCK, DEVICE, FAULT, LIMIT, WORDS, say, shown, write_message
 from script.program import is_built
 from script.standard import write
 from script.tools import tool_of
@@ -50,7 +48,7 @@ def lending(words: list[str]) -> list[str]:
 def run_drawn(start: list[str], words: files.Words) -> int:
     """Makes a run that is drawn, of a file or of standard input, and returns the status of a run."""
     options = with_seed(words.others)
-    if are_refused(start, ["record", *options]):
+    if are_refused(start, ["record", *options], "run"):
         return WORDS
     for name in words.missing:
         files.tell_missing(name)
@@ -64,8 +62,8 @@ def run_drawn(start: list[str], words: files.Words) -> int:
         files.advise("run", words.others, name)
     if name:
         files.give_file(name)
-    elif os.isatty(0):
-        say("waiting at the terminal for a text. Ctrl-D at the start of a line ends it")
+    else:
+        files.tell_what_it_awaits("run")
     given = files.read_input()
     status, recorded, messages = ran_on(start, ["record", *options], given)
     if status not in (0, DEADLOCK):
@@ -106,9 +104,7 @@ def tell(start: list[str], options: list[str], given: bytes, recorded: bytes, me
     if status == LIMIT:
         # (in the program's words, by a run that has no step)
         messages = ran_on(start, ["run", "--steps", "0"], given)[2]
-    with suppress(OSError, AttributeError):
-        sys.stderr.buffer.write(messages if status != FAULT else messages.partition(b"\n")[0] + b"\n")
-        sys.stderr.flush()
+    write_message(messages if status != FAULT else messages.partition(b"\n")[0] + b"\n")
     if status == FAULT:
         words = " ".join(["record", *(word for word in options)])
         say(f"`parbegin {words} FILE > my.run` writes this run, and `parbegin debug my.run` goes along it")

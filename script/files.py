@@ -22,6 +22,14 @@ WITHOUT_VALUE = ("--quiet", "--json", "--help", "--live", "--first-deadlock", "-
 # Commands that an editor starts, and what its messages begin with.
 OF_MESSAGES = ("dap", "lsp")
 MESSAGE = b"Content-Length:"
+# What each command waits for at a terminal; any other waits for a text.
+AWAITED = {
+    "check": "texts, with lines %% between them", "plan": "a text, or several with lines %% between them", "exec": "an object", "migrate": "an object",
+    "replay": "a text, a line %% and pick lines", "draw": "a text, a line %% and pick lines",
+    "debug": "a text, a line %%, pick lines, a line %% and commands", "states": "a text or an object, a line %% and pick lines",
+    "bank": "commands, which `help` lists", "dap": "messages of the Debug Adapter Protocol",
+    "lsp": "messages of the Language Server Protocol",
+}
 PICK = re.compile(rb"[A-Za-z]\w*\.\d+ \d+$")
 # A file of which the kind is looked for is read up to here: the longest input of the program.
 MOST_READ = 4_194_304
@@ -113,6 +121,12 @@ def give_file(name: str) -> None:
         sys.exit(DEVICE)
     with file:
         os.dup2(file.fileno(), 0)
+
+
+def tell_what_it_awaits(command: str) -> None:
+    """Says what is to be typed, if standard input is a terminal."""
+    if os.isatty(0):
+        say(f"waiting at the terminal for {AWAITED.get(command, 'a text')}. Ctrl-D at the start of a line ends it")
 
 
 def read_input() -> bytes:

@@ -5,7 +5,10 @@ import re
 from dataclasses import dataclass, field
 
 HEAD = re.compile(r"error (\w+): (.*)")
-PLACE = re.compile(r" *--> (?:(?P<what>.*): )?(?:text (?P<text>\d+), )?line (?P<line>\d+), column (?P<column>\d+)")
+# (what stands before a place: `1 of tape: `, `it is opened at `, `a comment? `)
+PLACE = re.compile(r" *--> (?P<what>.*?)(?:text (?P<text>\d+), )?line (?P<line>\d+), column (?P<column>\d+)")
+# A line of its text that a message names in its words.
+NAMED_LINE = re.compile(r"\bof line (\d+)\b")
 NOTE = re.compile(r" *= (?:(expected|hint): )?(.*)")
 LINE = re.compile(r"refused (\w+)(?: at (\d+))?")
 
@@ -80,6 +83,17 @@ def place_at(text: Text, at: int) -> Place:
     return Place(text.lines_before + before.count(b"\n") + 1, at - before.rfind(b"\n"), "")
 
 
+def place_of(text: Text, shown: re.Match[str]) -> Place:
+    """Returns a place that a message shows of a text, in its file, with what is there: `1 of tape`, `it is opened here`."""
+    what = re.sub(r" at$", " here", shown["what"].strip().removesuffix(":"))
+    return Place(text.lines_before + int(shown["line"]), int(shown["column"]), what)
+
+
+def in_lines_of_file(text: Text, words: str) -> str:
+    """Returns words of a message with the lines of the file in the place of those of its text."""
+    return NAMED_LINE.sub(lambda it: f"of line {text.lines_before + int(it[1])}", words)
+
+
 def sort_notes(lines: list[str]) -> dict[str, list[str]]:
     """Returns what the notes of a message expect, hint at, and say beside."""
     kinds: dict[str, list[str]] = {"expected": [], "hint": [], "": []}
@@ -98,12 +112,11 @@ def finding(text: Text, line: str, message: str) -> Finding:
         return Finding(text, line) if line == "ok" else Finding(text, line, line or "none", why)
     lines = message.splitlines()
     head = HEAD.match(lines[0]) if lines else None
-    found = [it for it in map(PLACE.fullmatch, lines) if it]
-    places = [Place(text.lines_before + int(it["line"]), int(it["column"]), it["what"] or "") for it in found]
+    places = [place_of(text, it) for it in map(PLACE.fullmatch, lines) if it]
     at = int(refusal[2]) if refusal[2] else None
     if at is not None and not places:
         places = [place_at(text, at)]
     notes = sort_notes(lines)
     offset = None if at is None else text.bytes_before + at
-    said = head[2] if head else line
+    said = in_lines_of_file(text, head[2]) if head else line
     return Finding(text, line, refusal[1], said, offset, places, notes["expected"], notes["hint"], notes[""])

@@ -142,7 +142,7 @@ def write_page(grader: Grader, it: Grade, folder: str) -> str | None:
     picks = "".join(f"{line}\n" for line in it.told.picks).encode()
     try:
         lend = pages.Options(lend=options.get("--lend"))
-        made = pages.make_page([*grader.start, "--quiet"], it.name, it.given + b"%%\n" + picks, lend)
+        made = pages.make_page([*grader.start, "--quiet"], shown(it.name), it.given + b"%%\n" + picks, lend)
     except pages.Refusal:
         return None
     path = f"{it.name}.html"

@@ -1,6 +1,7 @@
 """`./parbegin grade`: judges the texts of a folder by `outcomes --expect`, each against one exercise."""
 from __future__ import annotations
 
+import codecs
 import os
 import re
 import subprocess
@@ -9,7 +10,7 @@ from concurrent.futures import Executor
 from dataclasses import dataclass
 
 from script.expected import ENDLESS, Difference, Told, circle_of, difference, ends_in_words, prints_of, read_told
-from script.files import MOST_READ, opened
+from script.files import MOST_READ, opened, parts_of
 from script.gradebook import lines_of, sums, write_report
 from script.helping import are_refused
 from script.options import Given, WrongWords, read_options
@@ -23,9 +24,9 @@ HELP = """Judge the texts of a folder, each against one exercise
 Usage: parbegin grade [OPTIONS] FOLDER EXERCISE
 
 FOLDER has the submissions: all files below it whose names end in .pb. EXERCISE is a file with the lines that each run
-has to print, as `outcomes --expect` reads them after a line %%, and before these any that require something of the text, as
-`has a parbegin`. Lines before them that begin with // are comments, and one that begins so and goes on with an option has
-options of the exercise, as in `// --any-order`.
+has to print, as `outcomes --expect` reads them after a line %%, and before these any that require something of the text:
+`has a parbegin`, `has a hold`, or `claims at least K R`, of a resource R that each text has. Lines before them that begin
+with // are comments, and one that begins so and goes on with an option has options of the exercise, as in `// --any-order`.
 
 Options:
       --any-order    As for `outcomes --expect`
@@ -91,15 +92,27 @@ class Grade:
         return ", ".join(it for it in came if it)
 
 
-# The place of a message: a line of the text, or of the lines that are wanted.
+# The place of a message: a line of the text, or of the lines that are wanted. That of a word which the message names counts
+# before the place of the refusal, which may be a line further on.
 PLACE = re.compile(r"^ *--> .*?(\bprint )?\bline (\d+)", re.M)
+NAMED_WORD = re.compile(r"error \w+: (`\w+`) is not a word")
+# Why a text with a line %% is refused: what follows that line is read as lines that are wanted.
+SEVERAL = "it has a line %%, and a submission is one text"
+HINT = re.compile(r"^ *= hint: (.*)$", re.M)
 # What a message says of a text whose process or arm the wanted lines do not name.
 THERE_ARE = re.compile(r"^ *= (?:the processes before the line %% are (.*)|(its (?:only arm|arms) .*))$", re.M)
 
 
+def place_of(message: str) -> re.Match[str] | None:
+    """Returns the place of a message, that of the word which it names if it shows one."""
+    word = NAMED_WORD.match(message)
+    named = re.search(rf"^ *--> {re.escape(word[1])}: ()line (\d+)", message, re.M) if word else None
+    return named or PLACE.search(message)
+
+
 def reason_of(message: str, exercise: Exercise, name: str) -> str:
     """Returns why a submission is refused, in a line, with the line of the text, or with that of the exercise and its name."""
-    head, place, there_are = re.match(r"error \w+: (.*)", message), PLACE.search(message), THERE_ARE.search(message)
+    head, place, there_are = re.match(r"error \w+: (.*)", message), place_of(message), THERE_ARE.search(message)
     if not head:
         return ""
     if not (place and place[1]):
@@ -143,8 +156,13 @@ class Grader:
 
     def read(self, name: str) -> bytes | None:
         """Returns a submission, with a line feed at its end, or says why it cannot be read."""
+        path = os.path.join(self.folder, name)
+        if os.path.exists(path) and not os.path.isfile(path):
+            # (a pipe would be waited for)
+            say(f"{shown(name)}: not a file")
+            return None
         try:
-            file = opened(os.path.join(self.folder, name))
+            file = opened(path)
             if file is None:
                 return None
             with file:
@@ -170,7 +188,9 @@ class Grader:
         # (a program that a signal ended has a status below 0)
         status = ran.returncode if ran.returncode >= 0 else 128 - ran.returncode
         message = ran.stderr.decode(errors="replace")
-        return Grade(name, given, status, told, message, reason_of(message, self.exercise, name), differs)
+        has_several = told.verdict.startswith("refused K1 ") and len(parts_of(given)) > 1
+        reason = SEVERAL if has_several else reason_of(message, self.exercise, name)
+        return Grade(name, given, status, told, message, reason, differs)
 
 
 def read_words(words: list[str]) -> tuple[Given, str, str]:
@@ -200,6 +220,8 @@ def call(start: list[str], words: list[str]) -> int:
         return DEVICE
     if are_refused(start[:1], ["outcomes", "--expect", *exercise.words]):
         return WORDS
+    if exercise.given.startswith(codecs.BOM_UTF8) and not is_quiet:
+        say(f"{shown(name)} begins with a byte order mark, which is taken for a part of its first line: save it without one")
     if b"\r\n" in exercise.given and not is_quiet:
         say(f"the lines of {shown(name)} end with a carriage return: save it with the line ends of Unix: a line feed alone")
     with workers(jobs) as pool:
@@ -208,9 +230,11 @@ def call(start: list[str], words: list[str]) -> int:
 
 def tell_lines(grades: list[Grade]) -> None:
     """Says of the first text that is refused by a line of the exercise, as one that names another process, why."""
-    reasons = [it.reason for it in grades if it.told.verdict.startswith("refused K1 ")]
-    if reasons:
-        say(f"{reasons[0]}{f' ({len(reasons) - 1} more are refused by a line of it)' if reasons[1:] else ''}")
+    refused = [it for it in grades if it.told.verdict.startswith("refused K1 ") and it.reason != SEVERAL]
+    if refused:
+        more, hint = len(refused) - 1, HINT.search(refused[0].message)
+        others = f" ({more} more {'is' if more == 1 else 'are'} refused by a line of it)" if more else ""
+        say(f"{refused[0].reason}{f': {hint[1]}' if hint else ''}{others}")
 
 
 def judge(pool: Executor, grader: Grader, names: list[str], given: Given, is_quiet: bool) -> int:

@@ -3,10 +3,8 @@ from __future__ import annotations
 
 import re
 import subprocess
-import sys
-from contextlib import suppress
 
-from script.places import WORDS
+from script.places import WORDS, write_message
 from script.program import is_built
 from script.standard import write
 from script.tools import tool_of
@@ -55,6 +53,16 @@ These are the program's commands:
 EDITORS = """
 An editor starts this and writes its messages to standard input; no FILE is named. extras/README.md says how each
 editor is set up.
+"""
+BUILD = """Build all tools, which proves each crate that they are made of
+
+Usage: parbegin build
+
+What is built of the same files, or what the gate has kept of them on this machine, is taken. Standard error says how far it
+is, and an interrupt keeps what is built. docs/BUILDING.md says how long it takes.
+
+Options:
+  -h, --help  Print help
 """
 HELPFUL = ("--help", "-h")
 VERSION = ("--version", "-V")
@@ -126,19 +134,19 @@ def help_on_words(words: list[str]) -> str | None:
 
 def write_refusal(told: bytes, messages: bytes) -> int:
     """Writes to standard error why the words are refused, and returns the status."""
-    with suppress(OSError, AttributeError):
-        # (it is nothing if it is closed)
-        sys.stderr.buffer.write(told + messages)
-        sys.stderr.flush()
+    write_message(told + messages)
     return WORDS
 
 
-def are_refused(start: list[str], words: list[str]) -> bool:
+def are_refused(start: list[str], words: list[str], typed: str | None = None) -> bool:
     """Returns whether the program refuses the words; then standard error has the reasons.
 
-    They are tried on an empty input, which every command refuses at once or answers in no time.
+    They are tried on an empty input, which every command refuses at once or answers in no time. `typed` is the command of the
+    call, if these words are those of another one.
     """
     status, told, messages = ran_on(start, words)
     if status == WORDS:
+        if typed:
+            told = told.replace(f"Usage: parbegin {words[0]} ".encode(), f"Usage: parbegin {typed} ".encode())
         write_refusal(told, messages)
     return status == WORDS

@@ -5,14 +5,13 @@ import importlib.util
 import json
 import os
 import shutil
-import sys
 from types import ModuleType
 
 from script.building import Build, run_to_end
 from script.crates import Crates, sources, with_those_below
 from script.helping import HELPFUL, write
 from script.kept import take_libraries
-from script.places import DEVICE, TOP, WORDS, is_installed, say, stop
+from script.places import DEVICE, TOP, WORDS, is_installed, say, stop, write_message
 from script.program import wait_for_others
 from script.sums import sum_of
 
@@ -42,7 +41,7 @@ def library(words: list[str]) -> int:
     if any(word in HELPFUL for word in words):
         return write(HELP)
     if len(words) != 1 or words[0].startswith("-"):
-        print(USE, file=sys.stderr)
+        write_message(f"{USE}\n")
         return WORDS
     if is_installed():
         stop("library is for a checkout")

@@ -9,18 +9,10 @@ import sys
 from script import files, helping
 from script.drawn import is_drawn
 from script.own import own_call, run_own
-from script.places import DEVICE, WORDS, say, shown
+from script.places import DEVICE, WORDS, say, shown, write_message
 from script.program import is_built, is_nothing_built, program, record_of_gate
+from script.standard import write
 from script.tools import CALLS, COMMANDS, command_of, path_of, tool_of
-
-# What each command waits for at a terminal; any other waits for a text.
-AWAITED = {
-    "check": "texts, with lines %% between them", "plan": "a text, or several with lines %% between them", "exec": "an object", "migrate": "an object",
-    "replay": "a text, a line %% and pick lines", "draw": "a text, a line %% and pick lines",
-    "debug": "a text, a line %%, pick lines, a line %% and commands", "states": "a text or an object, a line %% and pick lines",
-    "bank": "commands, which `help` lists", "dap": "messages of the Debug Adapter Protocol",
-    "lsp": "messages of the Language Server Protocol",
-}
 
 
 def start_program(start: list[str], words: list[str]) -> None:
@@ -30,12 +22,6 @@ def start_program(start: list[str], words: list[str]) -> None:
         signal.signal(it, signal.SIG_DFL)
     tool = tool_of(command_of(words))
     os.execv(path_of(tool) if tool else start[0], [*start, *words])
-
-
-def tell_what_it_awaits(command: str) -> None:
-    """Says what is to be typed, if standard input is a terminal."""
-    if os.isatty(0):
-        say(f"waiting at the terminal for {AWAITED.get(command, 'a text')}. Ctrl-D at the start of a line ends it")
 
 
 def as_codes(words: list[str]) -> list[str]:
@@ -55,7 +41,7 @@ def run_command(start: list[str], command: str, words: list[str]) -> int:
         from script.drawn import run_drawn
 
         return run_drawn(start, files.sort_words(start, "record", words))
-    if command == "check" and "--json" not in start and any(not word.startswith("-") or word.startswith("--format") for word in words):
+    if command == "check" and (is_in_format(words) or "--json" not in start and any(not word.startswith("-") for word in words)):
         from script.checking import check
 
         return check(start, words)
@@ -105,7 +91,7 @@ def run_on_file(start: list[str], command: str, words: files.Words) -> int:
     if name:
         files.give_file(name)
     else:
-        tell_what_it_awaits(command)
+        files.tell_what_it_awaits(command)
     if command == "outcomes" and "--expect" in words.others and len(start) == 1:
         from script.expected import run_expected
 
@@ -165,6 +151,17 @@ def run_unproved(words: list[str]) -> int:
     return run_trial(words)
 
 
+def build(words: list[str]) -> int:
+    """Builds all tools, unless help is asked for or there are more words, and returns the status."""
+    if any(word in helping.HELPFUL for word in words):
+        return write(helping.BUILD)
+    if words:
+        write_message("usage: parbegin build\n")
+        return WORDS
+    program(*CALLS["build"])
+    return 0
+
+
 def called(words: list[str]) -> list[str]:
     """Returns the commands of the tools that words need: that of the words, and those that a session at a terminal asks."""
     command = command_of(words)
@@ -183,7 +180,7 @@ def main(words: list[str]) -> int:
             return run_unproved(words[1:])
         if words[:1] == ["--built-by-the-gate"]:
             return record_of_gate(words[1:])
-        if words[:1] == ["help"] and words[1:] in (["library"], ["package"]):
+        if words[:1] == ["help"] and words[1:] in (["build"], ["library"], ["package"]):
             words = [words[1], "--help"]
         if words[:1] == ["package"] and words != ["package"]:
             from script.package import answer
@@ -193,9 +190,8 @@ def main(words: list[str]) -> int:
             from script.package import package
 
             return package([program(*CALLS["package"])])
-        if words == ["build"]:
-            program(*CALLS["build"])
-            return 0
+        if words[:1] == ["build"]:
+            return build(words[1:])
         own = own_call(words)
         if own:
             return run_own(own)

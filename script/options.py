@@ -1,11 +1,10 @@
 """Options that the script takes itself: each once, in any order, as `--name VALUE` or `--name=VALUE`."""
 from __future__ import annotations
 
-import sys
 from collections.abc import Collection
 from dataclasses import dataclass, field
 
-from script.places import WORDS
+from script.places import WORDS, write_message
 
 
 class WrongWords(Exception):
@@ -54,6 +53,5 @@ def read_options(words: list[str], with_value: Collection[str], without: Collect
 
 def tell_wrong(wrong: WrongWords, use: str) -> int:
     """Says what is wrong with the words of a command, as the program does, and returns the status."""
-    if sys.stderr is not None:
-        print(f"error: {wrong}\n\nUsage: {use}\n\nFor more information, try '--help'.", file=sys.stderr)
+    write_message(f"error: {wrong}\n\nUsage: {use}\n\nFor more information, try '--help'.\n")
     return WORDS

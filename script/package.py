@@ -6,12 +6,11 @@ import pathlib
 import re
 import shutil
 import subprocess
-import sys
 import tarfile
 import tempfile
 
 from script.helping import HELPFUL, ran_on, write
-from script.places import TOP, WORDS, is_installed, say, stop
+from script.places import TOP, WORDS, is_installed, say, stop, write_message
 
 USE = "usage: parbegin package"
 HELP = """Pack the program, the script and what belongs to them: a Debian package and a tar.gz
@@ -71,7 +70,7 @@ def answer(words: list[str]) -> int:
     """Answers a call that packs nothing, and returns the status."""
     if any(word in HELPFUL for word in words):
         return write(HELP)
-    print(USE, file=sys.stderr)
+    write_message(f"{USE}\n")
     return WORDS
 
 

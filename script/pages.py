@@ -10,7 +10,7 @@ from types import ModuleType
 from script.files import opened
 from script.helping import write_refusal
 from script.options import WrongWords, read_options
-from script.places import DEVICE, TOP, WORDS, is_installed, say
+from script.places import DEVICE, TOP, WORDS, is_installed, say, shown
 from script.standard import write
 
 # Where the template is: in a checkout, and under the prefix of install.sh.
@@ -58,7 +58,7 @@ def call(start: list[str], words: list[str]) -> int:
     with file:
         text = file.read()
     try:
-        made = pages.make_page(start, os.path.basename(name), text, options)
+        made = pages.make_page(start, shown(os.path.basename(name)), text, options)
     except pages.Refusal as refusal:
         return write_refusal(refusal.said, b"") if refusal.status == WORDS else write(refusal.said) or refusal.status
     if '"more_than":' in made and "--quiet" not in start:

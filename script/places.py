@@ -4,6 +4,7 @@ from __future__ import annotations
 import os
 import re
 import sys
+from contextlib import suppress
 from typing import NoReturn
 
 # The top of a checkout; or PREFIX/libexec/parbegin, where install.sh puts this folder beside the tools.
@@ -18,15 +19,24 @@ def shown(name: str) -> str:
     return re.sub(r"[\x00-\x1f\x7f-\x9f\u2028\u2029]", lambda it: it[0].encode("unicode_escape").decode(), name)
 
 
-def say(text: object) -> None:
-    """Writes a line to standard error, if that takes it."""
+def write_message(message: str | bytes) -> None:
+    """Writes to standard error, if that takes it. If not, nothing is written there any more, and the status stays as it is."""
     if sys.stderr is None:
-        # (print would take standard output in its place)
         return
     try:
-        print(f"parbegin: {text}", file=sys.stderr, flush=True)
+        given = message if isinstance(message, bytes) else message.encode(sys.stderr.encoding, "backslashreplace")
+        sys.stderr.flush()
+        sys.stderr.buffer.write(given)
+        sys.stderr.buffer.flush()
     except (OSError, ValueError):
-        pass
+        # (what could not be written would fail once more when Python ends, which then has a status of its own)
+        with suppress(OSError):
+            os.dup2(os.open(os.devnull, os.O_WRONLY), 2)
+
+
+def say(text: object) -> None:
+    """Writes a line to standard error, if that takes it."""
+    write_message(f"parbegin: {text}\n")
 
 
 def stop(text: object) -> NoReturn:

@@ -167,6 +167,8 @@ def plan_in_format(start: list[str], words: list[str]) -> int:
     call = ["plan", *(["--lend", given.options["--lend"]] if "--lend" in given.options else [])]
     if are_refused(start[:1], call):
         return WORDS
+    if not given.others:
+        files.tell_what_it_awaits("plan")
     read = read_files(given.others or [STANDARD_INPUT])
     unread = [it for _, it in read if isinstance(it, Unread)]
     # (a name of bytes that are no text is written as it is)

@@ -8,7 +8,7 @@ import tempfile
 from collections.abc import Iterator
 from dataclasses import dataclass
 
-from script.files import advise, give_file, read_input
+from script.files import advise, give_file, read_input, tell_what_it_awaits
 from script.helping import are_refused
 from script.options import Given, WrongWords, read_options
 from script.places import DEADLOCK, WORDS, say, shown
@@ -133,6 +133,8 @@ def call(start: list[str], words: list[str]) -> int:
         advise("run", words, name)
     if name:
         give_file(name)
+    else:
+        tell_what_it_awaits("run")
     with tempfile.NamedTemporaryFile(prefix="parbegin-sample-") as text:
         text.write(read_input())
         text.flush()

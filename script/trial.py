@@ -5,11 +5,10 @@ import contextlib
 import re
 import shutil
 import subprocess
-import sys
 import tempfile
 
 from script.kit import rt_path
-from script.places import TOP, is_installed, say, stop
+from script.places import TOP, is_installed, say, stop, write_message
 from script.tools import any_tool, command_of, crate_of, tool_of
 
 # How the lines begin that a trial run writes to standard error after those of the program, before its last one.
@@ -61,5 +60,5 @@ def run_unproved(words: list[str]) -> int:
         say(line)
     for line in messages_of(told):
         if line not in warned:
-            print(line, file=sys.stderr)
+            write_message(f"{line}\n")
     return int(ended[1])

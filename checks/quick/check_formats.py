@@ -37,6 +37,14 @@ PLACES = [
     ("name.pb", 3, 3, "N3"), ("claim.pb", 4, 3, "C1"), ("several.pb", 3, 23, "N3"), ("early.pb", 1, 16, "P1"),
     ("many.pb", 65, 1, "N1"), ("odd name %.pb", 1, 26, "P1"), ("a\n\x1b[1m.pb", 1, 23, "N3"),
 ]
+# Texts behind another one, with the message of each and the further places that it shows, in lines of the file.
+FURTHER = (
+    (b"process p begin\n  while 1 do skip\nend\n", "`od` is missing: the `while` of line 4 is not closed", [(4, 3, "it is opened here")]),
+    (b"process p begin\n  integer x,\n  x; skip end\n", "integer x is declared twice in process p", [(4, 11, "first declared here")]),
+    (b"process p begin\n  integer count; print cuont end\n", "integer cuont is not declared in process p",
+     [(4, 11, "`count` is declared here")]),
+    (b"process p begin\n  prnt 1 end\n", "`prnt` is not a word of the language", [(4, 3, "`prnt`")]),
+)
 NAMES = [*FILES, "nosuch.pb", "folder"]
 # Why those that are no files cannot be read.
 UNREAD = {"nosuch.pb": "no such file", "folder": "Is a directory"}
@@ -110,6 +118,19 @@ def try_json(tally: Tally, it: Script) -> None:
     tally.expect(json.loads(told)["file"] == "<stdin>", "JSON of standard input")
 
 
+def try_further_places(tally: Tally, it: Script) -> None:
+    """Tries the places that a message shows beside its first one, and the lines that it names."""
+    for given, message, places in FURTHER:
+        _, told, _ = it.run("check", "--format", "json", given=FINE + b"%%\n" + given)
+        found = json.loads(told.splitlines()[-1])
+        fits(tally, "check", found)
+        further = [(place["line"], place["column"], place.get("what")) for place in found["places"][1:]]
+        tally.expect((found["message"], further) == (message, places), "further places", found)
+        _, told, _ = it.run("check", "--format", "gcc", given=FINE + b"%%\n" + given)
+        lines = [f"<stdin>:{line}:{column}: note: {what}" for line, column, what in places]
+        tally.expect(told.splitlines()[1 : 1 + len(lines)] == lines, "further places as compilers write them", told)
+
+
 def try_sarif(tally: Tally, it: Script) -> None:
     """Tries one document for all."""
     _, told, _ = it.run("check", "--format", "sarif", *NAMES)
@@ -154,7 +175,7 @@ def main() -> None:
     tally = Tally()
     with tempfile.TemporaryDirectory(prefix="parbegin-formats-") as folder:
         it = Script(pathlib.Path(folder))
-        for attempt in (try_text, try_gcc, try_json, try_sarif, try_many, try_words):
+        for attempt in (try_text, try_gcc, try_json, try_further_places, try_sarif, try_many, try_words):
             attempt(tally, it)
     tell_if_missing()
     tally.end("check formats")

@@ -11,6 +11,7 @@ from __future__ import annotations
 import csv
 import html
 import json
+import os
 import pathlib
 import re
 import subprocess
@@ -125,6 +126,27 @@ def try_exercises(tally: Tally, it: Class) -> None:
         tally.expect(status == WORDS and not told and said, "an exercise with", text, status, told, said)
 
 
+def try_reasons(tally: Tally, it: Class) -> None:
+    """Tries what is told of texts that are refused: the line of a wrong word, and what is wrong with a line of the exercise."""
+    (it.folder / "reasons").mkdir()
+    for name, text in (("a.pb", "process p\nbegin\n  prabegin\n    skip\n  parend\nend\n"), ("b.pb", "process p begin print 2 end\n"),
+                       ("c.pb", "process p begin print 3 end\n")):
+        (it.folder / "reasons" / name).write_text(text)
+    it.write("form.txt", f"has a parbegn\n{WANTED}")
+    _, told, said = it.run("--csv", "reasons", "form.txt")
+    tally.expect("a.pb,1,refused P1 at 31,,line 3: `prabegin` is not a word of the language\n" in told, "the line of a word", told)
+    is_told = said.startswith("parbegin: form.txt line 1: this is not a print line: a print line is P.a print V")
+    tally.expect(is_told and " (1 more is refused by a line of it)\n" in said, "what a line of the exercise has to be", said)
+    (it.folder / "reasons/d.pb").write_text("process p begin print 3 end\n%%\np.0 print 3\n")
+    os.mkfifo(it.folder / "reasons/e.pb")
+    _, told, said = it.run("--csv", "reasons", "wanted.txt")
+    tally.expect('\nd.pb,1,refused K1 at 12,,"it has a line %%, and a submission is one text"\n' in told, "a text with a line %%", told)
+    tally.expect(said == "parbegin: e.pb: not a file\nparbegin: 5 submissions: 1 as expected, 1 not as expected, 2 refused, 1 not read\n", "a pipe", said)
+    it.write("marked.txt", f"\ufeff{WANTED}")
+    said = it.run("reasons", "marked.txt")[2]
+    tally.expect(said.startswith("parbegin: marked.txt begins with a byte order mark"), "a byte order mark", said)
+
+
 def try_csv(tally: Tally, it: Class) -> None:
     """Tries CSV."""
     status, told, _ = it.run("--csv", "handed_in", "wanted.txt")
@@ -209,7 +231,7 @@ def main() -> None:
     tally = Tally()
     with tempfile.TemporaryDirectory(prefix="parbegin-grades-") as name:
         it = Class(pathlib.Path(name))
-        for attempt in (try_lines, try_exercises, try_csv, try_table, try_report, try_words):
+        for attempt in (try_lines, try_exercises, try_reasons, try_csv, try_table, try_report, try_words):
             attempt(tally, it)
     tally.end("grades")
 

@@ -17,6 +17,7 @@ import tempfile
 sys.path.insert(0, str(pathlib.Path(__file__).resolve().parents[1] / "lib"))
 
 from calls import DEADLOCK, DEVICE, DONE, FAULT, LIMIT, REFUSED, TOP, WORDS, Tally, installed  # noqa: E402
+from pseudo_terminal import Terminal  # noqa: E402
 
 # The status of `outcomes --expect` if some run is not as expected.
 UNEXPECTED = 10
@@ -111,6 +112,11 @@ CALLS = [
     (["check", "--format", "gcc", "--format", "json", "hello.pb"], WORDS, None, "cannot be used multiple times"),
     (["check", "--jobs=1", "hello.pb", "--jobs", "2"], WORDS, None, "cannot be used multiple times"),
     (["check", "--json", "hello.pb", "lost.pb"], WORDS, None, "here are 2: hello.pb, lost.pb; `check --format json` tells of several"),
+    (["check", "--json", "--format", "gcc", "hello.pb"], WORDS, None, "check --format has no '--json'"),
+    (["run", "--seed", "1", "--seed", "2", "hello.pb"], WORDS, None, "Usage: parbegin run [OPTIONS]\n"),
+    (["build", "--help"], DONE, "Usage: parbegin build\n", None),
+    (["help", "build"], DONE, "Usage: parbegin build\n", None),
+    (["build", "run"], WORDS, None, "usage: parbegin build\n"),
     (["--quiet", "run", "--quiet", "hello.pb"], WORDS, None, "--quiet"),
     (["run", "hello.pb", "--steps", "5", "--steps=6"], WORDS, None, "cannot be used multiple times"),
     (["--unproved", "run", "nosuch"], DEVICE, None, "parbegin: no such file: nosuch\n"),
@@ -177,6 +183,13 @@ WRITING = (
     ["grade", ".", "wanted.txt"], ["grade", "--csv", ".", "wanted.txt"], ["sample", "--runs", "3", "lost.pb"],
     ["run", "--seed", "1", "lost.pb"], ["run", "--seed", "1", "wrong.pb"], ["outcomes", "--expect", "answer.pb"],
 )
+# Calls that read standard input.
+WAITING = (
+    ["run"], ["run", "--seed", "1"], ["check"], ["check", "--format", "gcc"], ["plan"], ["plan", "--format", "json"], ["sample"],
+    ["outcomes", "--expect"],
+)
+# Calls that write to standard error alone.
+REFUSING = (["fly"], ["run", "nosuch.pb"], ["run", "--workers", "99", "lost.pb"], ["sample", "--runs", "0", "lost.pb"], ["library"])
 
 
 def try_outputs(tally: Tally, script: str, folder: pathlib.Path) -> None:
@@ -193,10 +206,46 @@ def try_outputs(tally: Tally, script: str, folder: pathlib.Path) -> None:
         usual = subprocess.run(**call, capture_output=True)
         ran = subprocess.run(**call, preexec_fn=lambda: os.close(2), stdout=subprocess.PIPE)
         tally.expect((ran.returncode, ran.stdout) == (usual.returncode, usual.stdout), words, "with no standard error", ran)
+        with open("/dev/full", "w") as full:
+            ran = subprocess.run(**call, stdout=subprocess.PIPE, stderr=full)
+        tally.expect((ran.returncode, ran.stdout) == (usual.returncode, usual.stdout), words, "with a full standard error", ran)
         ran = subprocess.run([script, *words], cwd=folder, preexec_fn=lambda: os.close(0), capture_output=True, check=False)
         tally.expect((ran.returncode, ran.stdout, ran.stderr) == (usual.returncode, usual.stdout, usual.stderr), words, "with no input", ran)
     ran = subprocess.run(f"{script} page lost.run | head -n 1", shell=True, cwd=folder, capture_output=True, check=False)
     tally.expect((ran.stdout, ran.stderr) == (b"<!doctype html>\n", b""), "a reader that ends early", ran)
+
+
+def try_messages(tally: Tally, script: str, folder: pathlib.Path) -> None:
+    """Calls with a standard error that takes nothing, which changes no status."""
+    for words in REFUSING:
+        call = {"args": [script, *words], "cwd": folder, "stdin": subprocess.DEVNULL, "check": False}
+        usual = subprocess.run(**call, capture_output=True)
+        with open("/dev/full", "w") as full:
+            ran = subprocess.run(**call, stdout=subprocess.PIPE, stderr=full)
+        is_same = (ran.returncode, ran.stdout) == (usual.returncode, usual.stdout)
+        tally.expect(usual.stderr and is_same, words, "with a full standard error", ran, usual)
+
+
+def try_waiting(tally: Tally, script: str, folder: pathlib.Path) -> None:
+    """Calls without a file at a terminal, where each says what it waits for."""
+    for words in WAITING:
+        terminal = Terminal([script, *words], str(folder))
+        is_told = terminal.wait_for(r"Ctrl-D at the start of a line ends it\n")
+        terminal.type("\x04")
+        terminal.end()
+        tally.expect(is_told and terminal.shown.startswith("parbegin: waiting at the terminal for "), words, terminal.shown)
+
+
+def try_names(tally: Tally, script: str, folder: pathlib.Path) -> None:
+    """Calls with a file whose name has control characters, which are escaped in the title of a page and at a prompt."""
+    (folder / "a\n\x1b[1m.pb").write_bytes((folder / "hello.pb").read_bytes())
+    ran = subprocess.run([script, "page", "a\n\x1b[1m.pb"], cwd=folder, stdin=subprocess.DEVNULL, capture_output=True, check=False)
+    tally.expect(ran.returncode == DONE and b"<title>a\\n\\x1b[1m.pb" in ran.stdout and b"\x1b" not in ran.stdout, "a page", ran)
+    terminal = Terminal([script, "debug", "a\n\x1b[1m.pb"], str(folder))
+    terminal.wait_for("0/0> ")
+    terminal.type("quit\n")
+    terminal.end()
+    tally.expect(terminal.shown.startswith("a\\n\\x1b[1m.pb: process p; "), "a session", terminal.shown)
 
 
 def try_modules(tally: Tally, script: str, folder: pathlib.Path) -> None:
@@ -229,6 +278,9 @@ def main() -> None:
         is_told = b"parbegin: the input has picks" in ran.stderr and ran.stdout == b"refused L2 at 335\n"
         tally.expect(is_told, "picks on standard input", ran)
         try_outputs(tally, script, folder)
+        try_messages(tally, script, folder)
+        try_waiting(tally, script, folder)
+        try_names(tally, script, folder)
         try_modules(tally, script, folder)
     tally.end("usage")
 

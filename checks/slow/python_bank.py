@@ -21,9 +21,9 @@ TOP = Path(__file__).resolve().parents[2]
 PACKAGE = TOP / "extras" / "python"
 # What ./parbegin has built.
 BUILT = TOP / "script" / "tools.sh"
-# The tests of banks, and that of the commands too.
-BANKS = ("test_parbegin.Banks", "test_threads", "test_ends")
-ALL = ("test_parbegin", *BANKS[1:])
+# The tests of banks and of what is refused before a call, and those of the commands too.
+BANKS = ("test_parbegin.Banks", "test_parbegin.Words", "test_threads", "test_ends")
+ALL = ("test_parbegin", *BANKS[2:])
 LOCK = "threading.RLock()"
 # A lock that keeps nobody out.
 UNLOCKED = """

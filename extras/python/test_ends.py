@@ -10,6 +10,7 @@ import signal
 import subprocess
 import sys
 import tempfile
+import threading
 import time
 import unittest
 import unittest.mock
@@ -157,6 +158,28 @@ class Ends(unittest.TestCase):
         with unittest.mock.patch("parbegin._pipes.GRACE", 0.2):
             bank.close()
         self.assertEqual(process.returncode, -signal.SIGKILL)
+
+    def test_close_comes_before_calls_that_wait(self) -> None:
+        bank, said = self.open([4]), []
+
+        def call() -> None:
+            try:
+                said.append(bank.cash())
+            except Ended as fault:
+                said.append(str(fault))
+
+        threads = [threading.Thread(target=it) for it in (call, bank.close)]
+        with bank._lock:
+            for thread in threads:
+                thread.start()
+                time.sleep(0.1)
+        for thread in threads:
+            thread.join(PATIENCE)
+        self.assertEqual(said, ["the bank is closed"])
+
+    def test_an_answer_with_no_end(self) -> None:
+        with self.assertRaisesRegex(Ended, "one has no end, and begins with b'bank"):
+            Bank([1], "/usr/bin/yes")
 
     def test_programs_that_are_none(self) -> None:
         for program, kind in (

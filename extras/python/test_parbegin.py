@@ -156,6 +156,24 @@ class Banks(unittest.TestCase):
             self.assertRaises(Fault, Bank.from_bytes, damaged)
 
 
+class Words(unittest.TestCase):
+    """What the calls of the commands do not take."""
+
+    def test_numbers_that_are_none(self) -> None:
+        for named in ({"seed": "1"}, {"seed": 1.0}, {"seed": True}, {"steps": "5"}):
+            self.assertRaises(TypeError, parbegin.run, PLAN, **named)
+        for named in ({"seed": -1}, {"seed": 2**64}, {"steps": -1}, {"steps": 10_000_001}):
+            with self.assertRaisesRegex(Fault, "are from 0 to"):
+                parbegin.run(PLAN, **named)
+
+    def test_texts_and_lenders_that_are_none(self) -> None:
+        for call in (parbegin.check, parbegin.claims, parbegin.plan, parbegin.outcomes, parbegin.run):
+            for text in (None, 3, [PLAN]):
+                self.assertRaises(TypeError, call, text)
+        with self.assertRaisesRegex(Fault, "'nobody'"):
+            parbegin.outcomes(PLAN, lend="nobody")
+
+
 class Commands(unittest.TestCase):
     """The calls of the commands."""
 

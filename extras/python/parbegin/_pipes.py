@@ -10,6 +10,8 @@ import time
 
 from .answers import CLOSED, Ended, Fault
 
+# No answer is as long: of 16 resources, 64 jobs and as many wishes, with names of 32 bytes.
+MOST_ANSWER = 1_000_000
 # Seconds that a program has to end in when its input has ended.
 GRACE = 5
 
@@ -66,6 +68,8 @@ class Pipes:
                 raise
             if not told[-1]:
                 raise self.break_off(b"".join(told).decode(errors="replace"))
+            if sum(map(len, told)) > MOST_ANSWER:
+                raise self.refuse(f"one has no end, and begins with {told[0][:32]!r}")
         self.open = None
         return b"".join(told).decode(errors="replace").split("\n")[:-2]
 

@@ -13,7 +13,7 @@ from ._numbers import amounts_of, slot_of
 from ._pipes import GRACE
 from ._program import ProgramBank, find
 from ._saved import seal, unseal
-from .answers import HAS_WISH, NO_REQUEST, NO_WISH, WITHIN_A_CALL, Answer, Fault, Reason
+from .answers import CLOSED, HAS_WISH, NO_REQUEST, NO_WISH, WITHIN_A_CALL, Answer, Ended, Fault, Reason
 
 Call = TypeVar("Call", bound=Callable[..., Any])
 
@@ -58,6 +58,8 @@ def in_turn(call: Call) -> Call:
             raise Fault(WITHIN_A_CALL)
         with self._lock:
             self._bank.check()
+            if self._is_closing:
+                raise Ended(CLOSED)
             if not self._is_settled:
                 self._settle()
             self._is_settled = False
@@ -87,6 +89,8 @@ class Bank:
 
     def _begin(self, bank: Backend) -> None:
         self._bank, self._lock, self._is_settled = bank, threading.RLock(), True
+        # (threads that call again and again would keep their lock from whoever closes)
+        self._is_closing = False
         # the queue: the wish of each job that waits, in the order in which they came
         self._wishes: dict[int, list[int]] = {}
         # jobs whose wishes were granted, as long as no call has returned them
@@ -258,6 +262,7 @@ class Bank:
 
         It never raises. A call of another thread that does not end is broken off, and raises Ended.
         """
+        self._is_closing = True
         has_turn = self._lock.acquire(timeout=GRACE)
         if not has_turn:
             self._bank.kill()
