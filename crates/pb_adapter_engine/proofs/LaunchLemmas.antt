@@ -36,9 +36,11 @@ has_no_picks words seed lending source lines refusal verified v labels parts com
     (subst (λ (x : VerifiedCode). RefusesPicks seed lending x.code lines refusal) same refuses)
 
 -- what a request asks for is launched
-pub comes_to : (words text : List ℕ) (seed : Option ℕ) (lending : Lending) (path shown : List ℕ) (counting : Counting) (launch made : Launch)
-    → text ≡ words → shown ≡ path → made ≡ launch → ComesTo text seed lending shown counting made → ComesTo words seed lending path counting launch
-comes_to words text seed lending path shown counting launch made is named same comes =
+pub comes_to : (words text : List ℕ) (seed : Option ℕ) (lending : Lending) (path shown : List ℕ) (counting counted : Counting)
+    (launch made : Launch) → text ≡ words → shown ≡ path → counted ≡ counting → made ≡ launch
+    → ComesTo text seed lending shown counted made → ComesTo words seed lending path counting launch
+comes_to words text seed lending path shown counting counted launch made is named same_counting same comes =
     subst (λ (m : Launch). ComesTo words seed lending path counting m) same
-    (subst (λ (p : List ℕ). ComesTo words seed lending p counting made) named
-    (subst (λ (t : List ℕ). ComesTo t seed lending shown counting made) is comes))
+    (subst (λ (c : Counting). ComesTo words seed lending path c made) same_counting
+    (subst (λ (p : List ℕ). ComesTo words seed lending p counted made) named
+    (subst (λ (t : List ℕ). ComesTo t seed lending shown counted made) is comes)))
