@@ -5,7 +5,7 @@ use Rattle.pb_command_io.specs.Parts.{IsMarkAt, IsCutAt, AreParts, last, more}
 use Rattle.pb_command_io.specs.declared.status.Status.{Status}
 use Rattle.pb_command_io.specs.declared.status.Status.TheVariants.{Memory, Device}
 use Rattle.pb_accept.specs.Checks as checks
-use Rattle.pb_accept.specs.Checks.{AnswersTo, AreFirstParts, AreTold, IsLeft, SaysOfChecks, check_status, TellsAnswer, answered, out_of_memory, cut_off}
+use Rattle.pb_accept.specs.Checks.{AreFirstParts, AreTold, IsLeft, SaysOfChecks, check_status, TellsAnswer, answered, out_of_memory, cut_off}
 use Rattle.pb_accept.specs.Sayings.{Saying, NoMemory}
 use Rattle.pb_voice.specs.Tellings.{Ends, Speaks, whole, broken}
 use Rattle.pb_accept.specs.declared.check.Told.TheVariants as told

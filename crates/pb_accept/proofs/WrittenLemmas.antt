@@ -1,5 +1,5 @@
 -- From what was told of an input to the lines that are written of it.
-use Rattle.std.proofs.Common.{◌≡◌, ◌≢◌, ℕ, List, [], ◌∷◌, Option, Some, None, IfSome, refl, subst, sym, ap}
+use Rattle.std.proofs.Common.{◌≡◌, ◌≢◌, ℕ, List, [], Option, Some, None, IfSome, refl, subst, sym, ap}
 use Rattle.std.specs.List.{flat_map}
 use Rattle.pb_accept.specs.Claims.{SaysOfAny, too_long, no_memory, nothing, read}
 use Rattle.pb_accept.specs.Sayings.{Saying, line_of, text_of}

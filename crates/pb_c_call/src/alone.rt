@@ -9,7 +9,7 @@ ghost use Rattle.pb_options.specs.Lends.{lending_for};
 ghost use Rattle.pb_c_call.specs.Replies.{RefusesThreads};
 
 use crate::drawn::record_drawn_engine;
-use pb_accept::{write_checks, write_claims, emit_engine, migrate_engine, replay_engine};
+use pb_accept::{emit_engine, migrate_engine, replay_engine, write_checks, write_claims};
 use pb_adapter_engine::adapter_engine;
 use pb_bank_engine::bank_engine;
 use pb_base::{Input, Output};

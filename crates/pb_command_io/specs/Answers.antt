@@ -23,8 +23,3 @@ Says old new text status answered =
 abbrev pub Tells : (List ℕ → Status → Type 0) → Option (List ℕ) → Option (List ℕ) → Status → Type 0
 Tells MaySay old new answered =
     (text : List ℕ) × (status : Status) × MaySay text status × Says old new text status answered
-
--- an output, and the text that waits for it
-pub record Spoken : Type 0 where
-  pub written : Option (List ℕ)
-  pub page : List ℕ

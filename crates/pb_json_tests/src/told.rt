@@ -76,10 +76,22 @@ fn tells(
 
 #[test]
 fn objects_are_told(rt: HostRuntime) {
-    let claims = b"{\"kind\":\"claim\",\"process\":\"a\",\"claim\":2,\"resource\":\"tape\"}\n{\"kind\":\"claim\",\"process\":\"a\",\"claim\":0,\"resource\":\"disk\"}\n{\"kind\":\"claim\",\"process\":\"b\",\"claim\":0,\"resource\":\"tape\"}\n{\"kind\":\"claim\",\"process\":\"b\",\"claim\":0,\"resource\":\"disk\"}\n";
-    let over = b"{\"kind\":\"refused\",\"code\":\"C1\",\"process\":\"p\",\"resource\":\"r\",\"claim\":2,\"capital\":1}\n";
-    assert!(rt; matches!(tells(rt.alloc(), Command::Claims, TEXTS[0], claims, Status::Done), Ok(true)));
-    assert!(rt; matches!(tells(rt.alloc(), Command::Check, TEXTS[2], over, Status::Refused), Ok(true)));
+    let claims =
+        b"{\"kind\":\"claim\",\"process\":\"a\",\"claim\":2,\"resource\":\"tape\"}\n{\"kind\":\"claim\",\"process\":\"a\",\"claim\":0,\"resource\":\"disk\"}\n{\"kind\":\"claim\",\"process\":\"b\",\"claim\":0,\"resource\":\"tape\"}\n{\"kind\":\"claim\",\"process\":\"b\",\"claim\":0,\"resource\":\"disk\"}\n";
+    let over =
+        b"{\"kind\":\"refused\",\"code\":\"C1\",\"process\":\"p\",\"resource\":\"r\",\"claim\":2,\"capital\":1}\n";
+    assert!(rt;
+        matches!(
+            tells(rt.alloc(), Command::Claims, TEXTS[0], claims, Status::Done),
+            Ok(true)
+        )
+    );
+    assert!(rt;
+        matches!(
+            tells(rt.alloc(), Command::Check, TEXTS[2], over, Status::Refused),
+            Ok(true)
+        )
+    );
 }
 
 /// Returns the status of a call of which this write fails, counted from 0.

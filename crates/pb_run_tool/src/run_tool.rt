@@ -9,8 +9,8 @@ use pb_call::Commands;
 use pb_code::Format;
 use pb_command_io::Status;
 use pb_engines::{
-    write_checks, write_claims, emit_engine, exec_engine, migrate_engine, record_engine,
-    replay_engine, run_engine,
+    emit_engine, exec_engine, migrate_engine, record_engine, replay_engine, run_engine,
+    write_checks, write_claims,
 };
 use pb_explain::explain_engine;
 use pb_messages::{Reading, message_of};

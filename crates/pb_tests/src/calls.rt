@@ -4,9 +4,9 @@ use pb_base::{Input, MemoryInput, MemoryOutput, Output};
 use pb_code::Format;
 use pb_command_io::Status;
 use pb_engines::{
-    CheckOptions, EmitOptions, Lend, RecordOptions, ReplayOptions, RunOptions, write_checks,
-    write_claims, emit_engine, exec_engine, migrate_engine, record_engine, replay_engine,
-    run_engine,
+    CheckOptions, EmitOptions, Lend, RecordOptions, ReplayOptions, RunOptions, emit_engine,
+    exec_engine, migrate_engine, record_engine, replay_engine, run_engine, write_checks,
+    write_claims,
 };
 use std::alloc::Global;
 use std::sync::Wait;

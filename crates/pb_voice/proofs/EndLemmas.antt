@@ -1,16 +1,15 @@
 -- From what a voice was told to what is written in the end.
-use Rattle.std.proofs.Common.{◌≡◌, ◌≢◌, ◌++◌, ◌⊎◌, ℕ, List, [], ◌∷◌, Option, Some, None, IfSome, refl, sym, ap, ◌∙◌, subst, inl, inr, append-nil}
-use Rattle.std.specs.Bool.{⊤}
+use Rattle.std.proofs.Common.{◌≡◌, ◌≢◌, ◌++◌, ℕ, List, [], Option, Some, None, IfSome, refl, sym, ap, ◌∙◌, subst, inl, inr, append-nil}
 use Rattle.std.specs.List.{flat_map}
-use Rattle.pb_base.specs.Device.{appended, one_more_failure, AddsPrefix}
+use Rattle.pb_base.specs.Device.{appended, AddsPrefix}
 use Rattle.pb_command_io.specs.Answers.{Leaves, Says, Tells}
-use Rattle.pb_command_io.specs.Faults.{NoneFailed, ReadFailed, WriteFailed, TellsFaults, TellsWriteFaults}
+use Rattle.pb_command_io.specs.Faults.{TellsFaults, TellsWriteFaults}
 use Rattle.pb_command_io.specs.declared.status.Status.{Status}
 use Rattle.pb_command_io.specs.declared.status.Status.TheVariants.{Device}
 use Rattle.pb_command_io.proofs.PageLemmas.{Says-then}
 use Rattle.pb_voice.specs.Held.{At, Held}
-use Rattle.pb_voice.specs.Tellings.{Answers, Breaking, Ends, Speaks, Telling, whole, broken}
-use Rattle.pb_voice.specs.Voices.{Adds, Breaks, Written, breaks_in, tells_in}
+use Rattle.pb_voice.specs.Tellings.{Answers, Ends, Speaks, whole, broken}
+use Rattle.pb_voice.specs.Voices.{Written, breaks_in, tells_in}
 use Rattle.pb_voice.specs.declared.form.Form.{Form}
 use Rattle.pb_voice.proofs.LawLemmas.{writes_what_is_told, writes_first_part}
 
