@@ -60,25 +60,34 @@ fn ask(bank: &mut Bank, p: usize, amounts: [u32; 3]) -> Option<Answer> {
     Some(bank.ask(p, &amounts_of(amounts)))
 }
 
-/// Returns the bank of the table: 10, 5 and 7, and five processes with their claims and loans.
-fn table(alloc: Global) -> Option<Bank> {
+/// Returns a bank with 10, 5 and 7 of three resources, and jobs with these claims and loans.
+fn bank_of(alloc: Global, jobs: &[([u32; 3], [u32; 3])]) -> Option<Bank> {
     let capital = Capital::new(alloc, &[10, 5, 7]).ok()?;
     let mut bank = Bank::new(&capital);
-    for claims in &[[7, 5, 3], [3, 2, 2], [9, 0, 2], [2, 2, 2], [4, 3, 3]] {
+    for (claims, _) in jobs {
         let _ = join(&mut bank, *claims)?;
     }
-    for (p, loans) in &[
-        (0, [0, 1, 0]),
-        (1, [2, 0, 0]),
-        (2, [3, 0, 2]),
-        (3, [2, 1, 1]),
-        (4, [0, 0, 2]),
-    ] {
-        if !is_held(&mut bank, *p, *loans) {
+    for p in 0..jobs.len() {
+        let (_, loans) = jobs[p];
+        if !is_held(&mut bank, p, loans) {
             return None;
         }
     }
     Some(bank)
+}
+
+/// Returns the bank of the table, with its five processes.
+fn table(alloc: Global) -> Option<Bank> {
+    bank_of(
+        alloc,
+        &[
+            ([7, 5, 3], [0, 1, 0]),
+            ([3, 2, 2], [2, 0, 0]),
+            ([9, 0, 2], [3, 0, 2]),
+            ([2, 2, 2], [2, 1, 1]),
+            ([4, 3, 3], [0, 0, 2]),
+        ],
+    )
 }
 
 #[test]
@@ -112,4 +121,50 @@ fn a_slot_is_free_once_its_job_has_left(rt: HostRuntime) {
     assert!(rt; join(&mut bank, [10, 5, 7]) == Some(2));
     assert!(rt; join(&mut bank, [0, 0, 0]) == Some(5));
     assert!(rt; ask(&mut bank, 5, [0, 0, 1]) == Some(Answer::OverClaim));
+}
+
+#[test]
+fn an_asker_that_fits_at_once_is_granted(rt: HostRuntime) {
+    let Some(mut bank) = bank_of(
+        rt.alloc(),
+        &[([9, 0, 0], [0, 0, 0]), ([4, 0, 0], [3, 0, 0])],
+    ) else {
+        panic!(rt; "the jobs are refused");
+    };
+    assert!(rt; ask(&mut bank, 1, [1, 0, 0]) == Some(Answer::Granted));
+    assert!(rt; bank.order()[..2] == [1, 0]);
+}
+
+#[test]
+fn an_asker_is_granted_while_those_before_it_fit(rt: HostRuntime) {
+    let jobs = [
+        ([9, 0, 0], [0, 0, 0]),
+        ([4, 0, 0], [3, 0, 0]),
+        ([5, 0, 0], [1, 0, 0]),
+    ];
+    let Some(mut bank) = bank_of(rt.alloc(), &jobs) else {
+        panic!(rt; "the jobs are refused");
+    };
+    // With 4 left the third job can finish, then the second one, and then the first one, which needs 7.
+    assert!(rt; ask(&mut bank, 0, [2, 0, 0]) == Some(Answer::Granted));
+    assert!(rt; bank.order()[..3] == [1, 0, 2]);
+}
+
+#[test]
+fn an_asker_is_granted_after_others_that_are_searched(rt: HostRuntime) {
+    let jobs = [
+        ([9, 0, 0], [0, 0, 0]),
+        ([4, 0, 0], [3, 0, 0]),
+        ([5, 0, 0], [1, 0, 0]),
+    ];
+    let Some(mut bank) = bank_of(rt.alloc(), &jobs) else {
+        panic!(rt; "the jobs are refused");
+    };
+    // With 3 left the third job, which was first, cannot finish at once, but the second one can.
+    assert!(rt; ask(&mut bank, 0, [3, 0, 0]) == Some(Answer::Granted));
+    // With nothing left nobody could finish. A refusal changes nothing.
+    assert!(rt; ask(&mut bank, 2, [3, 0, 0]) == Some(Answer::NotNow));
+    assert!(rt; bank.slots() == 3 && bank.resources() == 3);
+    assert!(rt; bank.loan(2, 0) == 1 && bank.cash(0) == 3);
+    assert!(rt; ask(&mut bank, 1, [1, 0, 0]) == Some(Answer::Granted));
 }

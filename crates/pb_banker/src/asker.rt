@@ -13,8 +13,8 @@ use crate::places::{move_to_front, place_of};
 use pb_base::Bundle;
 use pb_base::limits::MAX_PROCESSES;
 
-/// Grants what a job asks for, or leaves the accounts as they are; `order` is one that finishes. It need not be the one
-/// that `decide` keeps.
+/// Grants what a job asks for, or leaves the accounts as they are; `order` is one that finishes, and need not be the one
+/// that `decide` would keep.
 pub fn decide_by_asker(
     accounts: &mut Accounts,
     order: &mut [u8; MAX_PROCESSES],
@@ -49,8 +49,8 @@ impl Accounts {
     ghost use Rattle.pb_banker.specs.Askers.{FitBy, IsFound, IsLeftBy, IsLentFrom};
 
     /// Makes of an order that finished before a loan one that finishes after it, and returns whether there is one. An
-    /// asker who fits at once becomes the first. Else the order stays if all before him still fit. Else those who fit
-    /// in turn until he does become the first.
+    /// asker who fits at once comes first. Else the order stays if all before him still fit. Else some who fit in turn,
+    /// the last of whom is the asker, come first.
     fn reorder(&self, order: &mut [u8; MAX_PROCESSES], asker: usize, bundle: &Bundle) -> bool
         requires sound { IsSound self.now }
         requires lent { IsLentFrom (state_of self.now) asker bundle.now (take self.now.processes order.old) }
