@@ -14,9 +14,11 @@ import json
 import os
 import pathlib
 import re
+import signal
 import subprocess
 import sys
 import tempfile
+import time
 from urllib.parse import unquote
 
 sys.path.insert(0, str(pathlib.Path(__file__).resolve().parents[1] / "lib"))
@@ -208,6 +210,31 @@ def try_page(tally: Tally, page: str, lines: list[str], name: str) -> None:
     tally.expect(name.rpartition("/")[2] in data["title"] or "\n" in name, "the title of a page", data["title"])
 
 
+def try_end(tally: Tally, it: Class) -> None:
+    """Ends the script while it judges texts whose search takes long; no call of the program goes on."""
+    arms = "; ".join(f"while {name} < 90 do {name} := {name} + 1 od" for name in "abcd")
+    (it.folder / "long").mkdir()
+    for name in ("a.pb", "b.pb"):
+        (it.folder / "long" / name).write_text(f"process p begin integer a, b, c, d; parbegin {arms} parend; print a end\n")
+    words = [it.script, "grade", "--jobs", "2", "--states", "4000000", "long", "wanted.txt"]
+    with subprocess.Popen(words, cwd=it.folder, stdout=subprocess.PIPE, stderr=subprocess.PIPE, start_new_session=True) as script:
+        time.sleep(2)
+        script.terminate()
+        began = time.monotonic()
+        script.communicate()
+    tally.expect(script.returncode == 128 + signal.SIGINT and time.monotonic() - began < 5, "the end of the script", script.returncode)
+    group = [path for path in pathlib.Path("/proc").glob("[0-9]*/stat") if group_of(path) == script.pid]
+    tally.expect(not group, "calls go on", group)
+
+
+def group_of(path: pathlib.Path) -> int:
+    """Returns the process group of a process, or 0 if it is not there any more."""
+    try:
+        return int(path.read_text().rpartition(")")[2].split()[2])
+    except OSError:
+        return 0
+
+
 def try_words(tally: Tally, it: Class) -> None:
     """Tries words that are refused, and files that are not there."""
     for words, wanted, part in [
@@ -231,7 +258,7 @@ def main() -> None:
     tally = Tally()
     with tempfile.TemporaryDirectory(prefix="parbegin-grades-") as name:
         it = Class(pathlib.Path(name))
-        for attempt in (try_lines, try_exercises, try_reasons, try_csv, try_table, try_report, try_words):
+        for attempt in (try_lines, try_exercises, try_reasons, try_csv, try_table, try_report, try_end, try_words):
             attempt(tally, it)
     tally.end("grades")
 
