@@ -13,7 +13,7 @@ struct Case {
     said: &'static [&'static str],
 }
 
-const CASES: [Case; 8] = [
+const CASES: [Case; 6] = [
     // Before a launch.
     Case {
         asked: &[
@@ -196,6 +196,10 @@ const CASES: [Case; 8] = [
             "{\"body\":null,\"command\":\"disconnect\",\"request_seq\":5,\"seq\":9,\"success\":true,\"type\":\"response\"}",
         ],
     },
+];
+
+/// A client that counts from 0, and what is refused.
+const REFUSALS: [Case; 2] = [
     // A client that counts from 0, launches that are refused, another text, and expressions that are refused.
     Case {
         asked: &[
@@ -263,16 +267,30 @@ fn framed(alloc: Global, contents: &[&str]) -> Result<Said, NoMemory> {
     Ok(messages)
 }
 
+/// Whether a conversation is answered as the case says.
+fn is_answered(alloc: Global, case: &Case) -> Result<bool, NoMemory> {
+    let asked = framed(alloc, case.asked)?;
+    let wanted = framed(alloc, case.said)?;
+    let mut said = Said::new(alloc);
+    let mut input = MemoryInput::new(asked.as_slice());
+    let status = adapter_engine(alloc, &mut input, &mut said);
+    Ok(status == Status::Done && said.as_slice() == wanted.as_slice())
+}
+
 #[test]
 fn conversations_are_answered(rt: HostRuntime) -> Result<(), NoMemory> {
     for case in &CASES {
-        let asked = framed(rt.alloc(), case.asked)?;
-        let wanted = framed(rt.alloc(), case.said)?;
-        let mut said = Said::new(rt.alloc());
-        let mut input = MemoryInput::new(asked.as_slice());
-        let status = adapter_engine(rt.alloc(), &mut input, &mut said);
-        assert!(rt; status == Status::Done);
-        assert!(rt; said.as_slice() == wanted.as_slice());
+        let answered = is_answered(rt.alloc(), case)?;
+        assert!(rt; answered);
+    }
+    Ok(())
+}
+
+#[test]
+fn refusals_are_told_as_the_client_counts(rt: HostRuntime) -> Result<(), NoMemory> {
+    for case in &REFUSALS {
+        let answered = is_answered(rt.alloc(), case)?;
+        assert!(rt; answered);
     }
     Ok(())
 }
