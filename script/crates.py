@@ -26,7 +26,7 @@ MINUTES = {
     "pb_picks": 0.8, "pb_plan": 1.1, "pb_plan_engine": 1, "pb_record": 0.5, "pb_resolver": 2.9, "pb_search": 1.8,
     "pb_search_engine": 1.7, "pb_search_fair": 0.9, "pb_search_graph": 0.8, "pb_search_stages": 2.5, "pb_server": 2.1,
     "pb_server_claims": 1.9, "pb_server_engine": 0.6, "pb_server_names": 1.4, "pb_server_texts": 1, "pb_shared": 2.6,
-    "pb_sources": 0.2, "pb_tree": 1.4, "pb_verifier": 2.1, "pb_words": 1.3, "pb_workers": 0.8,
+    "pb_sources": 0.2, "pb_tree": 1.4, "pb_verifier": 2.1, "pb_voice": 0.7, "pb_words": 1.3, "pb_workers": 0.8,
 }
 
 
