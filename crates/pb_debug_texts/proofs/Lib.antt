@@ -1,3 +1,4 @@
 pub mod Asking
 pub mod EachNumber
 pub mod ResourceTexts
+pub mod Tops
