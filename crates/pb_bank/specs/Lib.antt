@@ -2,4 +2,5 @@ pub mod Answers
 pub mod Desks
 pub mod Queues
 pub mod Requests
+pub mod Saving
 pub mod Words
