@@ -51,7 +51,7 @@ pub fn without_last(text: &[u8]) -> &[u8]
     &text[..text.len().saturating_sub(1)]
 }
 
-/// Returns the response to command lines that a session answers so.
+/// Returns the response to command lines to which the answer of a session is this text.
 pub fn evaluated(
     alloc: Global,
     seq: u64,

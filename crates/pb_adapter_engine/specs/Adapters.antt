@@ -84,7 +84,7 @@ pub data SaysOfAdapter (bytes : List ℕ) : List ℕ → Status → Type 0 where
 
 -- ---- a read that fails
 
--- the text is what answers all messages that are whole in what was read: while nothing is launched, and behind a launch
+-- the text is what answers all messages that are whole in what was read: while nothing is launched, and after a launch
 -- in its session
 pub data AnswersMessages (read : List ℕ) : List ℕ → Type 0 where
   before_launch : (text : List ℕ) → AnswersRead AnswersWaiting (λ s. s.over) nobody 1 read text → AnswersMessages read text

@@ -117,7 +117,7 @@ abbrev pub reading_of : (seed : Option ℕ) → Lending → Reading
 reading_of None lending = Replayed lending
 reading_of (Some seed) lending = Text
 
--- a line that refuses a launch, and behind it what a person is told of the text, if there is something to be told
+-- a line that refuses a launch, and after it what a person is told of the text, if anything is
 abbrev pub in_words : (refusal message : List ℕ) → List ℕ
 in_words refusal message = without_feed (line refusal ++ message)
 
@@ -143,7 +143,7 @@ lending_said false None = Some ByBanker
 abbrev pub lending_of : Asked → Option Lending
 lending_of r = lending_said (is_given (codes "lend") r) (text_of (codes "lend") r)
 
--- the seed of a launch, if it has one; nothing if it is no number of its range
+-- the seed of a launch: `Some None` if it gives none, `None` if what it gives is not a number in its range
 abbrev pub seed_said : (given : Bool) → Option ℕ → Option (Option ℕ)
 seed_said given (Some n) = Some (Some n)
 seed_said true None = None

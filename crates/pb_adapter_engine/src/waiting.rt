@@ -80,7 +80,7 @@ fn lending_of(request: Request<'_>) -> Option<Lending>
     }
 }
 
-/// Returns the seed of a launch, if it has one; nothing if that is no number of its range.
+/// Returns the seed of a launch: `Some(None)` if it gives none, `None` if what it gives is not in 0..=18446744073709551615.
 fn seed_of(request: Request<'_>) -> Option<Option<u64>>
     ensures { result ≡ seed_asked (request_view request.entry) }
 {
@@ -139,7 +139,7 @@ fn message_for(
     }
 }
 
-/// Returns the line of a refusal, and behind it what a person is told, if there is something to be told.
+/// Returns the line of a refusal, and after it what a person is told, if anything is.
 fn in_words(alloc: Global, line: &[u8], message: &[u8]) -> Result<String, NoMemory>
     ensures { IfOk result (λ said. said.bytes.items ≡ utf8_lossy (spec.in_words line.now message.now)) }
 {
@@ -178,7 +178,7 @@ impl Waiting {
         }
     }
 
-    /// Answers a launch of a text, with pick lines behind it if no seed is given, under a lending.
+    /// Launches a text by its seed, or else by the pick lines after it; or refuses it with the message of its fault.
     fn launch_text(
         &mut self,
         alloc: Global,
@@ -204,7 +204,7 @@ impl Waiting {
         }
     }
 
-    /// Answers a launch of a text under a lending.
+    /// Launches a text under this lending, or refuses it if `seed` is not in its range.
     fn launch_by(
         &mut self,
         alloc: Global,
@@ -228,7 +228,7 @@ impl Waiting {
         }
     }
 
-    /// Answers a launch of a text that is shown under a path.
+    /// Launches a text that has a path, or refuses it if `lend` is neither `banker` nor `cash`.
     fn launch_lent(
         &mut self,
         alloc: Global,
@@ -246,7 +246,7 @@ impl Waiting {
         }
     }
 
-    /// Answers a launch of a text.
+    /// Launches a text, or refuses it if `program` is missing or empty.
     fn launch_named(
         &mut self,
         alloc: Global,
