@@ -249,7 +249,7 @@ def calls() -> list[tuple[list[str], bytes]]:
             b"want 1-b 3 tape-1\nwhy a 1 2.d\norder\norder a 1-b\norder 1-b a\norder a a\norder a\nstate\ngive a 2 tape-1\nhelp\n"
             b"hold a 1 2.d\ndrop a\nleave a\nnonsense\n")
     made.append((["bank"], jobs))
-    for words in (["record"], ["record", "--seed", "3"], ["outcomes", "--run", "1"], ["outcomes", "--run=1"], ["outcomes", "--run", "1", "--expect"],
+    for words in (["record"], ["record", "--seed", "3"], ["outcomes", "--run", "1"], ["outcomes", "--run=1"], ["outcomes", "--run", "1", "--prints"],
                   ["outcomes", "--deadlock", "1"], ["outcomes"], ["run"]):
         made.append((words, odd))
     made.append((["record"], b"process p begin print x end\n"))

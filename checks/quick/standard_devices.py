@@ -171,11 +171,21 @@ def try_call(tally: Tally, of: Call) -> None:
         look_at(tally, of, name, got, got == (of.status, of.whole))
 
 
+def look_at_words(tally: Tally) -> None:
+    """Looks whether a person is told of an output that is full, unless the call is to be quiet."""
+    for words, wanted in ((["claims"], b"device: "), (["--quiet", "claims"], b"")):
+        with open("/dev/full", "wb") as full:
+            done = subprocess.run([program(words), *words], input=b"process p begin skip end\n", stdout=full, stderr=subprocess.PIPE,
+                                  timeout=WATCHDOG, check=False)
+        tally.expect(done.stderr[:8] == wanted, *words, "says", done.stderr)
+
+
 def main() -> None:
     tally = Tally()
     for of in calls():
         tally.expect(len(of.whole) > ROOM, *of.words, "writes", of.whole)
         try_call(tally, of)
+    look_at_words(tally)
     tally.end("standard devices")
 
 

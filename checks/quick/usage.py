@@ -86,6 +86,8 @@ CALLS = [
     (["outcomes", "--endless", "spins.pb"], DONE, "endless\nreached by\n", None),
     (["outcomes", "--endless", "--fair", "spins.pb"], DONE, "every fair run ends\n", None),
     (["outcomes", "--endless", "hello.pb"], DONE, "every run ends\n", None),
+    (["outcomes", "--endless", "--run", "1", "hello.pb"], WORDS, None, "error: these options of 'outcomes' mean nothing together\n"),
+    (["outcomes", "--any-order", "hello.pb"], WORDS, None, "  --any-order goes with --expect alone"),
     (["--json", "outcomes", "--endless", "spins.pb"], DONE, '{"kind":"round",', None),
     (["outcomes", "--expect", "spins_wanted.pb"], UNEXPECTED, "some run does not end\n", "parbegin: a run that does not end: p.0 1, and then again and again p.1 5\n"),
     (["outcomes", "--expect", "--fair", "spins_wanted.pb"], DONE, "as expected\n", None),

@@ -6,7 +6,7 @@ use Rattle.pb_base.specs.Device.{appended, one_more_failure, AddsPrefix}
 use Rattle.pb_call.specs.Calls.{AfterRead, CallTellsFaults, CallWrites, Saying}
 use Rattle.pb_command_io.specs.Faults.{Devices, TellsFaults}
 use Rattle.pb_command_io.specs.declared.status.Status.{Status}
-use Rattle.pb_command_io.specs.declared.status.Status.TheVariants.{Done, Fault, Limit, Refused}
+use Rattle.pb_command_io.specs.declared.status.Status.TheVariants.{Device, Done, Fault, Limit, Refused}
 use Rattle.pb_json_lines.specs.Dialects.{comes_live, dialect_of}
 use Rattle.pb_json_lines.specs.Live.{IsEnded, LiveSink, begun, failures_of_writers, seen_by_writers}
 use Rattle.pb_json_lines.specs.Replies.{TellsInJson}
@@ -99,6 +99,10 @@ fault_message (option.Replay options) = faulted_replay
 fault_message (option.Run numbers) = faulted_run
 fault_message (option.States numbers) = []
 
+-- what a person is told of a call that could not read its input, or not write its output
+abbrev pub device_message : List ℕ
+device_message = codes "device: the input could not be read, or the output could not be written whole\n"
+
 -- nothing was written to an output
 abbrev pub Untouched : Devices → Devices → Type 0
 Untouched old new = (new.writes ≡ old.writes) × (new.written ≡ old.written)
@@ -127,14 +131,15 @@ abbrev pub ExplainsFault : (words : List (Bor Text)) → Devices → Devices →
 ExplainsFault words old new = (o : Options) × WordsSay words o × Wrote old new (fault_message o)
 
 -- what a person is told of a call, if it is not to be quiet: nothing; or if it ends with the status of a refusal,
--- what its command says of the bytes that were kept, if with that of a limit, how the limit is raised, and if with
--- that of a fault, how it is seen where
+-- what its command says of the bytes that were kept, if with that of a limit, how the limit is raised, if with that of
+-- a fault, how it is seen where, and if a device failed, that one did
 abbrev pub TellsPerson : Telling → (words heard : List (Bor Text)) → Status → (kept : Option (List ℕ)) → Devices → Devices → Type 0
 TellsPerson TellsRefused words heard status kept old new =
     Untouched old new
     ⊎ ((IsQuiet words → ⊥)
     × ((status ≡ Refused) × ((bytes : List ℕ) × (kept ≡ Some bytes) × Explains TellsRefused heard bytes old new)
-    ⊎ ((status ≡ Limit) × ExplainsLimit heard old new ⊎ (status ≡ Fault) × ExplainsFault heard old new)))
+    ⊎ ((status ≡ Limit) × ExplainsLimit heard old new ⊎ ((status ≡ Fault) × ExplainsFault heard old new
+    ⊎ (status ≡ Device) × Wrote old new device_message))))
 
 -- what a call writes as JSON lines: those of what it would write to memory, if there is enough, in the forms of its
 -- command, with its status

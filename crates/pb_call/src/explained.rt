@@ -5,6 +5,7 @@ ghost use Rattle.pb_call.specs.Explained.{Answers, AnswersAndExplains, IsFirst, 
 
 use crate::answer::answer;
 use crate::commands::Commands;
+use crate::explain_device::explain_device;
 use crate::explain_fault::explain_fault;
 use crate::explain_limit::explain_limit;
 use crate::explain_refusal::explain_refusal;
@@ -18,7 +19,8 @@ use std::sync::Wait;
 use std::thread::Threads;
 
 /// Does what the words of a call say, of which the first is the program's own name, and explains a refusal, how a
-/// limit is raised, or how it is seen where a process faulted, on standard error, unless the next word is `--quiet`. If
+/// limit is raised, how it is seen where a process faulted, or that input or output failed, on standard error, unless the
+/// next word is `--quiet`. If
 /// `--json` is the next word, or the one behind `--quiet`, the answer is JSON lines, those of `debug` and `bank` as they
 /// come. Returns the status of the call.
 pub fn answer_and_explain<R: Threads + Wait + Sync, C: Commands, I: Input, O: Output, E: Output>(
@@ -56,6 +58,10 @@ pub fn answer_and_explain<R: Threads + Wait + Sync, C: Commands, I: Input, O: Ou
     }
     if status == Status::Fault {
         explain_fault(alloc, said, error);
+        return status;
+    }
+    if status == Status::Device {
+        explain_device(error);
         return status;
     }
     if let (Status::Refused, Some(bytes)) = (status, input.kept()) {

@@ -271,20 +271,19 @@ fn outcomes_of_text<'a>(alloc: Global) -> Result<Command<'a>, AllocError>
     let fair = "Say at the end whether some run never ends in which no arm is passed over for ever";
     let outcomes = with_flag(alloc, outcomes, "fair", fair);
     let expect =
-        "Compare the prints of every run with the lines after the program and a line %%; with --fair only fair runs count; --prints and --first-deadlock then change nothing";
+        "Compare the prints of every run with the lines after the program and a line %%; with --fair only fair runs count";
     let outcomes = with_flag(alloc, outcomes, "expect", expect);
     let any_order = "With --expect: those lines may be printed in any order";
     let outcomes = with_flag(alloc, outcomes, "any-order", any_order);
     let endless =
         "Print picks that lead into a circle and picks that go round it, if some run never ends; with --fair only fair runs count";
     let outcomes = with_flag(alloc, outcomes, "endless", endless);
-    let graph =
-        "Print all schedules as a document for a page; of the other options only --states and --lend then count";
+    let graph = "Print all schedules as a document for a page";
     let outcomes = with_flag(alloc, outcomes, "graph", graph);
     let run =
         "Print the program with the picks that lead to the outcome with this number, for replay";
     let outcomes = with_given_number(alloc, outcomes, "run", 1, 4_000_000, run);
-    let deadlock = "The same of the deadlock with this number; with --run it changes nothing";
+    let deadlock = "The same of the deadlock with this number";
     with_given_number(alloc, outcomes, "deadlock", 1, 4_000_000, deadlock)
 }
 

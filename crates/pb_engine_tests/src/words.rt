@@ -514,6 +514,48 @@ fn other_words_are_refused(rt: HostRuntime) {
 }
 
 #[test]
+fn options_of_outcomes_that_mean_nothing_together_are_refused(rt: HostRuntime) {
+    for (one, other) in [
+        ("--endless", "--run=1"),
+        ("--endless", "--prints"),
+        ("--expect", "--endless"),
+        ("--expect", "--prints"),
+        ("--expect", "--first-deadlock"),
+        ("--graph", "--fair"),
+        ("--graph", "--any-order"),
+        ("--run=1", "--deadlock=1"),
+        ("--run=1", "--fair"),
+        ("--fair", "--any-order"),
+    ] {
+        assert!(rt;
+            options(rt.alloc(), &["parbegin", "outcomes", one, other]).is_err(),
+            "{one} {other}"
+        );
+    }
+    assert!(rt; is_refused(rt.alloc(), "outcomes", "--any-order"));
+}
+
+#[test]
+fn options_of_outcomes_that_mean_something_together_are_read(rt: HostRuntime) {
+    for (one, other) in [
+        ("--expect", "--any-order"),
+        ("--expect", "--fair"),
+        ("--endless", "--fair"),
+        ("--endless", "--lend=cash"),
+        ("--graph", "--states=10"),
+        ("--run=2", "--prints"),
+        ("--deadlock=1", "--first-deadlock"),
+        ("--prints", "--fair"),
+        ("--prints", "--first-deadlock"),
+    ] {
+        assert!(rt;
+            options(rt.alloc(), &["parbegin", "outcomes", one, other]).is_ok(),
+            "{one} {other}"
+        );
+    }
+}
+
+#[test]
 fn an_option_that_is_given_twice_is_refused(rt: HostRuntime) {
     assert!(rt; options(rt.alloc(), &["parbegin", "run", "--steps=3", "--steps=3"]).is_err());
     assert!(rt; options(rt.alloc(), &["parbegin", "explain", "N3", "N4"]).is_err());

@@ -37,6 +37,8 @@ use Rattle.pb_options.specs.declared.options.RunOptions.{RunOptions}
 use Rattle.pb_options.specs.declared.options.StatesOptions.{StatesOptions}
 use Rattle.pb_options.specs.Codes.{IsCodeOf, code_name}
 use Rattle.pb_options.specs.declared.code.Code.{Code}
+use Rattle.pb_words.specs.Together.{AtMostOne, GoTogether, NoneGiven, has_value, in_place, in_place_of_list, of_no_end}
+use Rattle.pb_base.specs.declared.limits.TheConstants.{MAX_STATES}
 use Rattle.pb_words.specs.declared.words.WordsFault.{WordsFault}
 use Rattle.pb_words.specs.declared.words.WordsFault.TheVariants.{Words, Memory}
 
@@ -661,3 +663,49 @@ is_free_command_line = refl
 pub IfNone-of : {X P : Type 0} (o : Option X) → P → IfNone o P
 IfNone-of None p = p
 IfNone-of (Some x) p = tt
+
+-- ---- options of `outcomes` that mean nothing together
+
+-- a flag is read from the rows in one way
+pub one_flag : (rows : List Row) (id : Text) (a b : Bool) → HasFlag rows id a → HasFlag rows id b → a ≡ b
+one_flag rows id true true x y = refl
+one_flag rows id false false x y = refl
+one_flag rows id true false x y = let w : false ≡ true = y.1 (x.0 refl) in absurd (cc w)
+one_flag rows id false true x y = let w : false ≡ true = x.1 (y.0 refl) in absurd (cc w)
+
+-- and so is whether a number is given
+pub one_given : (rows : List Row) (id : Text) (least most : ℕ) (a b : Option ℕ) → HasOptionalNumberIn rows id least most a
+    → HasOptionalNumberIn rows id least most b → has_value a ≡ has_value b
+one_given rows id least most None None x y = refl
+one_given rows id least most (Some m) (Some n) x y = refl
+one_given rows id least most None (Some n) x y = let is = y.0.1 in absurd (cc (x, is))
+one_given rows id least most (Some m) None x y = let is = x.0.1 in absurd (cc (y, is))
+
+-- so if the options that are read mean nothing together, the rows say none that do
+pub no_others : (rows : List Row) (o other : OutcomesOptions) → (GoTogether o → ⊥)
+    → HasFlag rows (codes "first-deadlock") o.first_deadlock → HasFlag rows (codes "prints") o.prints
+    → HasFlag rows (codes "fair") o.fair → HasFlag rows (codes "expect") o.expect
+    → HasFlag rows (codes "any-order") o.any_order → HasFlag rows (codes "endless") o.endless
+    → HasFlag rows (codes "graph") o.graph → HasOptionalNumberIn rows (codes "run") 1 MAX_STATES o.run
+    → HasOptionalNumberIn rows (codes "deadlock") 1 MAX_STATES o.deadlock → HasSearchOptions rows other → ⊥
+no_others rows o other none first prints fair expect order endless graph run deadlock says =
+    let (states, lends, first_2, prints_2, fair_2, expect_2, order_2, endless_2, graph_2, run_2, deadlock_2, together) = says in
+    let is_first = one_flag rows _ _ _ first_2 first in
+    let is_prints = one_flag rows _ _ _ prints_2 prints in
+    let is_fair = one_flag rows _ _ _ fair_2 fair in
+    let is_expect = one_flag rows _ _ _ expect_2 expect in
+    let is_order = one_flag rows _ _ _ order_2 order in
+    let is_endless = one_flag rows _ _ _ endless_2 endless in
+    let is_graph = one_flag rows _ _ _ graph_2 graph in
+    let is_run = one_given rows _ _ _ _ _ run_2 run in
+    let is_deadlock = one_given rows _ _ _ _ _ deadlock_2 deadlock in
+    let places : in_place other ≡ in_place o = cc (is_expect, is_endless, is_graph, is_run, is_deadlock) in
+    let lists : in_place_of_list other ≡ in_place_of_list o = cc (is_expect, is_endless, is_graph) in
+    let ends : of_no_end other ≡ of_no_end o = cc (is_graph, is_run, is_deadlock) in
+    none (record {
+      one = subst AtMostOne places together.one;
+      order = λ given. sym is_expect ∙ together.order (is_order ∙ given);
+      fair = λ given. subst NoneGiven ends (together.fair (is_fair ∙ given));
+      first = λ given. subst NoneGiven lists (together.first (is_first ∙ given));
+      prints = λ given. subst NoneGiven lists (together.prints (is_prints ∙ given));
+    })

@@ -25,6 +25,7 @@ use Rattle.pb_options.specs.declared.options.RunOptions.{RunOptions}
 use Rattle.pb_options.specs.declared.options.StatesOptions.{StatesOptions}
 use Rattle.pb_options.specs.Codes.{code_name}
 use Rattle.pb_options.specs.declared.code.Code.{Code}
+use Rattle.pb_words.specs.Together.{GoTogether}
 use Rattle.pb_words.specs.declared.words.WordsFault.{WordsFault}
 use Rattle.pb_words.specs.declared.words.WordsFault.TheVariants as fault
 
@@ -82,7 +83,7 @@ HasEmitNumber rows o = HasNumber rows (codes "object") (format_number o.object)
 abbrev pub HasCode : List Row → Option Code → Type 0
 HasCode rows code = one_of (codes "CODE") rows ≡ option_map code_name code
 
--- the options of `outcomes`
+-- the options of `outcomes`, which go together
 abbrev pub HasSearchOptions : List Row → OutcomesOptions → Type 0
 HasSearchOptions rows o = HasNumber rows (codes "states") o.states × HasLend rows o.lend
     × HasFlag rows (codes "first-deadlock") o.first_deadlock × HasFlag rows (codes "prints") o.prints
@@ -91,6 +92,7 @@ HasSearchOptions rows o = HasNumber rows (codes "states") o.states × HasLend ro
     × HasFlag rows (codes "endless") o.endless
     × HasFlag rows (codes "graph") o.graph
     × HasOptionalNumberIn rows (codes "run") 1 MAX_STATES o.run × HasOptionalNumberIn rows (codes "deadlock") 1 MAX_STATES o.deadlock
+    × GoTogether o
 
 -- the options of `debug`
 abbrev pub HasDebugOptions : List Row → DebugOptions → Type 0

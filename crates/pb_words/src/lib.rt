@@ -3,6 +3,7 @@
 #![tactic(auto)]
 
 mod read;
+mod together;
 mod tool;
 mod words;
 

@@ -18,6 +18,7 @@ ghost use Rattle.pb_options.specs.declared.options.ReplayOptions.{ReplayOptions 
 ghost use Rattle.pb_options.specs.declared.options.RunOptions.{RunOptions as AnyRunOptions};
 ghost use Rattle.pb_options.specs.declared.options.StatesOptions.{StatesOptions as AnyStatesOptions};
 
+use crate::together::{NOT_TOGETHER, go_together};
 use crate::words::{Options, WordsFault};
 use clap::error::ErrorKind;
 use clap::{ArgMatches, Error};
@@ -162,7 +163,7 @@ fn outcomes_options(matches: &ArgMatches<'_>) -> Option<OutcomesOptions>
     let lend = lend(matches)?;
     let run = number_if_given(matches, "run", 1, MAX_STATES)?;
     let deadlock = number_if_given(matches, "deadlock", 1, MAX_STATES)?;
-    Some(OutcomesOptions {
+    let options = OutcomesOptions {
         states: states as u32,
         lend,
         first_deadlock: flag(matches, "first-deadlock"),
@@ -174,7 +175,11 @@ fn outcomes_options(matches: &ArgMatches<'_>) -> Option<OutcomesOptions>
         graph: flag(matches, "graph"),
         run,
         deadlock,
-    })
+    };
+    if !go_together(&options) {
+        return None;
+    }
+    Some(options)
 }
 
 fn plan_options(matches: &ArgMatches<'_>) -> Option<PlanOptions>
@@ -298,7 +303,7 @@ pub fn options(alloc: Global, words: &[&str]) -> Result<Options, WordsFault>
     };
     match read_matches(&matches) {
         Some(options) => Ok(options),
-        // clap has looked at the numbers: only a code is left that is not there, or who lends.
+        // clap has looked at the numbers: a code is left that is not there, who lends, or options that mean nothing together.
         None => match unread_text(alloc, &matches) {
             Ok(text) => Err(WordsFault::Words(text)),
             Err(_) => Err(WordsFault::Memory),
@@ -310,6 +315,7 @@ pub fn options(alloc: Global, words: &[&str]) -> Result<Options, WordsFault>
 fn unread_text(alloc: Global, matches: &ArgMatches<'_>) -> Result<String, AllocError> {
     match matches.subcommand() {
         Some(("record", inner)) if is_cash(inner) => String::from_str(alloc, NO_SEED),
+        Some(("outcomes", inner)) if has_lend(inner) => String::from_str(alloc, NOT_TOGETHER),
         Some(("debug" | "draw" | "outcomes" | "plan" | "record" | "replay" | "states", _)) => {
             String::from_str(alloc, NO_LEND)
         }
@@ -322,6 +328,14 @@ fn is_cash(matches: &ArgMatches<'_>) -> bool {
     match lend(matches) {
         Some(Lend::Cash) => true,
         Some(Lend::Banker) | None => false,
+    }
+}
+
+/// Returns whether the option names somebody who decides.
+fn has_lend(matches: &ArgMatches<'_>) -> bool {
+    match lend(matches) {
+        Some(_) => true,
+        None => false,
     }
 }
 
