@@ -5,6 +5,5 @@ pub mod OrderLemmas
 pub mod PairLemmas
 pub mod PlaceLemmas
 pub mod QueueTexts
-pub mod Results
 pub mod Waiting
 pub mod WordLemmas

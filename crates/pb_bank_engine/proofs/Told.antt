@@ -38,8 +38,3 @@ module _ (d : DeskValue) (first : IsFirstDesk d) (bytes : List ℕ) (old : Optio
 -- which device failed
 pub one_failed : (old new : Devices) → CountsBoth stop.Device old.reads new.reads old.writes new.writes → TellsAnyFault old new Device
 one_failed old new counts = (λ none. absurd (none refl), λ same. counts)
-
-pub says_weaker : (P Q : List ℕ → List ℕ → Type 0) → ((read text : List ℕ) → P read text → Q read text) → (o left old new : Option (List ℕ))
-    → IfSome o (λ bytes. SaysBefore P bytes left old new) → IfSome o (λ bytes. SaysBefore Q bytes left old new)
-says_weaker P Q f None left old new says = tt
-says_weaker P Q f (Some bytes) left old new (read, text, to, follows, written) = (read, text, to, f read text follows, written)

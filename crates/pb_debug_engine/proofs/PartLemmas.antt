@@ -264,15 +264,6 @@ early_in_second (Some bytes) mid last source (behind, is, first) second =
 
 -- ---- how many bytes are taken
 
--- nothing is read
-pub takes_none : (o : Option (List ℕ)) (most : ℕ) → LeavesRest o o most
-takes_none None most = ([], omega arith, refl)
-takes_none (Some bytes) most = ([], omega arith, refl)
-
--- at most more
-pub takes_fewer : (old new : Option (List ℕ)) (k most : ℕ) → LeavesRest old new k → k ≤ most → LeavesRest old new most
-takes_fewer old new k most (read, few, is) enough = (read, omega (arith, few, enough), is)
-
 -- first some bytes, then others
 pub takes_then : (old mid new : Option (List ℕ)) (k n most : ℕ) → LeavesRest old mid k → LeavesRest mid new n → k + n ≤ most
     → LeavesRest old new most

@@ -73,9 +73,6 @@ module _ (v : VerifiedCode) (labels : List ProcessLabels) (picks : List Pick) (a
 
 -- ---- searches
 
-pub not_true : (b : Bool) → b ≡ false → IsTrue b → ⊥
-not_true b e t = let no : true ≡ false = sym t ∙ e in cc
-
 -- the last up to one number is the last up to the next, if it doesn't hold there
 pub last_not_here : (Holds : ℕ → Type 0) (from at next : ℕ) (last : Option ℕ) → next ≡ at + 1 → IsLast Holds from at last → (Holds at → ⊥)
     → IsLast Holds from next last

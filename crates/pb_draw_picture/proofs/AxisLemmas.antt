@@ -231,7 +231,3 @@ pub axis_none : (knots : List Knot) (i : ℕ) → IsChain knots → ((d : Knot) 
     → x_at knots i ≡ 0
 axis_none [] i chain after = refl
 axis_none (k ∷ knots) i chain after = let lt : i < k.position = after k refl in let e = chain.0 in absurd (omega (arith, lt, e))
-
--- an element that is read is there
-pub read_there : {X : Type 0} (xs : List X) (i : ℕ) (x : X) → i < length xs → x ≡ get_or xs i x → slice_get xs i ≡ Some x
-read_there xs i x within is = slice_get-get_or xs i x within ∙ ap (λ y. Some y) (sym is)

@@ -89,14 +89,6 @@ lines_are_too_long lending code steps seed bytes ended is (picks, end, recorded,
     let mark = length-append (line (codes "%%")) lines in
     too_long ended picks end is recorded (omega (arith, long, text, mark))
 
--- a reply with the line that a run is too long
-pub reply_is_too_long : (r : Result Reply NoMemory) (SaysOf : List ℕ → Status → Type 0)
-    → IfOk r (λ x. (x.text.items ≡ line (codes "refused output")) × (x.status ≡ Refused))
-    → SaysOf (line (codes "refused output")) Refused → IfOk r (λ x. SaysOf x.text.items x.status)
-reply_is_too_long (Ok r) SaysOf (text, status) says =
-    subst (λ (t : List ℕ). SaysOf t r.status) (sym text) (subst (λ (s : Status). SaysOf (line (codes "refused output")) s) (sym status) says)
-reply_is_too_long (Err e) SaysOf same says = tt
-
 -- a fault that is not out of memory comes without a seed
 no_seed : (seed : Option ℕ) (f : RunFault) → IfSome seed (λ number. f ≡ OutOfMemory) → f ≢ OutOfMemory → seed ≡ None
 no_seed None f only other = refl

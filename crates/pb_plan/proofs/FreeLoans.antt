@@ -10,9 +10,10 @@ use Rattle.pb_base.specs.Steppers.{Takes, event_of, loans_after, move_of, openin
 use Rattle.pb_codegen.proofs.ClaimsHeld.{HasClaims, Opened, asks_at_most, opened}
 use Rattle.pb_names.specs.Program.{AllWellNumbered, Process}
 use Rattle.pb_names.specs.Source.{SourceProcess, source_process, source_step}
-use Rattle.pb_plan.proofs.OrderedLoans.{lent_here, none_here}
+use Rattle.pb_plan.proofs.OrderedLoans.{none_here}
 use Rattle.pb_verifier.proofs.LoansWithinClaims.{zero_loans}
 use Rattle.pb_verifier.proofs.States.{lent_there}
+use Rattle.pb_codegen.proofs.ClaimsLoans.{lent_here}
 
 -- one pick more
 makes_more : {P : Type 0} (bank : Bank) (step : Stepper P) (a s : State P) (picks : List Pick) (events : List Event)

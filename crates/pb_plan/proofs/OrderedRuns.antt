@@ -16,12 +16,13 @@ use Rattle.pb_names.specs.Program.{Process, arms_in, IsWellNumbered}
 use Rattle.pb_names.specs.Source.{items_of, Arm, Doing, Ended, ArmStep, Goes, Breaks, Ends, step_arm, find, put, SourceProcess}
 use Rattle.pb_names.specs.Source.{settle, step_run, source_step, source_process}
 use Rattle.pb_plan.proofs.OrderedItems.{FitsArm, fits_start}
-use Rattle.pb_plan.proofs.OrderedLoans.{lent_here, none_here}
+use Rattle.pb_plan.proofs.OrderedLoans.{none_here}
 use Rattle.pb_plan.proofs.OrderedPlaces.{IsPlaced, placed}
 use Rattle.pb_plan.proofs.OrderedSteps.{Balances, KeepsOn, keeps_on}
 use Rattle.pb_plan.specs.Orders.{EachHold}
 use Rattle.pb_verifier.proofs.LoansWithinClaims.{zero_loans}
 use Rattle.pb_verifier.proofs.States.{slice_set_same, slice_set_other, lent_there}
+use Rattle.pb_codegen.proofs.ClaimsLoans.{lent_here}
 
 slice_set_there : {X : Type 0} (xs : List X) (i : ℕ) (x y : X) → slice_get xs i ≡ Some x
     → slice_get (slice_set xs i y) i ≡ Some y

@@ -37,7 +37,7 @@ use Rattle.pb_options.specs.declared.options.RunOptions.{RunOptions}
 use Rattle.pb_options.specs.declared.options.StatesOptions.{StatesOptions}
 use Rattle.pb_options.specs.Codes.{IsCodeOf, code_name}
 use Rattle.pb_options.specs.declared.code.Code.{Code}
-use Rattle.pb_words.specs.Together.{AtMostOne, GoTogether, NoneGiven, has_value, in_place, in_place_of_list, of_no_end}
+use Rattle.pb_words.specs.Together.{AtMostOne, MeanSomething, NoneGiven, has_value, in_place, in_place_of_list, of_no_end}
 use Rattle.pb_base.specs.declared.limits.TheConstants.{MAX_STATES}
 use Rattle.pb_words.specs.declared.words.WordsFault.{WordsFault}
 use Rattle.pb_words.specs.declared.words.WordsFault.TheVariants.{Words, Memory}
@@ -682,7 +682,7 @@ one_given rows id least most None (Some n) x y = let is = y.0.1 in absurd (cc (x
 one_given rows id least most (Some m) None x y = let is = x.0.1 in absurd (cc (y, is))
 
 -- so if the options that are read mean nothing together, the rows say none that do
-pub no_others : (rows : List Row) (o other : OutcomesOptions) → (GoTogether o → ⊥)
+pub no_others : (rows : List Row) (o other : OutcomesOptions) → (MeanSomething o → ⊥)
     → HasFlag rows (codes "first-deadlock") o.first_deadlock → HasFlag rows (codes "prints") o.prints
     → HasFlag rows (codes "fair") o.fair → HasFlag rows (codes "expect") o.expect
     → HasFlag rows (codes "any-order") o.any_order → HasFlag rows (codes "endless") o.endless

@@ -25,7 +25,7 @@ use Rattle.pb_options.specs.declared.options.RunOptions.{RunOptions}
 use Rattle.pb_options.specs.declared.options.StatesOptions.{StatesOptions}
 use Rattle.pb_options.specs.Codes.{code_name}
 use Rattle.pb_options.specs.declared.code.Code.{Code}
-use Rattle.pb_words.specs.Together.{GoTogether}
+use Rattle.pb_words.specs.Together.{MeanSomething}
 use Rattle.pb_words.specs.declared.words.WordsFault.{WordsFault}
 use Rattle.pb_words.specs.declared.words.WordsFault.TheVariants as fault
 
@@ -92,7 +92,7 @@ HasSearchOptions rows o = HasNumber rows (codes "states") o.states × HasLend ro
     × HasFlag rows (codes "endless") o.endless
     × HasFlag rows (codes "graph") o.graph
     × HasOptionalNumberIn rows (codes "run") 1 MAX_STATES o.run × HasOptionalNumberIn rows (codes "deadlock") 1 MAX_STATES o.deadlock
-    × GoTogether o
+    × MeanSomething o
 
 -- the options of `debug`
 abbrev pub HasDebugOptions : List Row → DebugOptions → Type 0

@@ -31,7 +31,7 @@ of_no_end o = o.graph ∷ has_value o.run ∷ has_value o.deadlock ∷ []
 
 -- the options mean something together: one thing at most is asked for in place of all outcomes; `--any-order` is of
 -- `--expect`, `--fair` of whether runs end, and `--first-deadlock` and `--prints` of outcomes as they are listed
-pub record GoTogether (o : OutcomesOptions) : Type 0 where
+pub record MeanSomething (o : OutcomesOptions) : Type 0 where
   pub one : AtMostOne (in_place o)
   pub order : o.any_order ≡ true → o.expect ≡ true
   pub fair : o.fair ≡ true → NoneGiven (of_no_end o)

@@ -18,7 +18,7 @@ ghost use Rattle.pb_options.specs.declared.options.ReplayOptions.{ReplayOptions 
 ghost use Rattle.pb_options.specs.declared.options.RunOptions.{RunOptions as AnyRunOptions};
 ghost use Rattle.pb_options.specs.declared.options.StatesOptions.{StatesOptions as AnyStatesOptions};
 
-use crate::together::{NOT_TOGETHER, go_together};
+use crate::together::{NOT_TOGETHER, mean_something};
 use crate::words::{Options, WordsFault};
 use clap::error::ErrorKind;
 use clap::{ArgMatches, Error};
@@ -176,7 +176,7 @@ fn outcomes_options(matches: &ArgMatches<'_>) -> Option<OutcomesOptions>
         run,
         deadlock,
     };
-    if !go_together(&options) {
+    if !mean_something(&options) {
         return None;
     }
     Some(options)

@@ -1,7 +1,7 @@
 //! Which options of `outcomes` mean something together.
 
 ghost use Rattle.std.specs.Prelude.{◌≡◌, ◌↔◌, IsTrue, true};
-ghost use Rattle.pb_words.specs.Together.{AtMostOne, GoTogether, NoneGiven, has_value, in_place, in_place_of_list, of_no_end};
+ghost use Rattle.pb_words.specs.Together.{AtMostOne, MeanSomething, NoneGiven, has_value, in_place, in_place_of_list, of_no_end};
 
 use pb_options::OutcomesOptions;
 
@@ -11,8 +11,8 @@ pub const NOT_TOGETHER: &str =
 
 /// Returns whether the options mean something together: one thing at most is asked for in place of all outcomes, and
 /// no option is given that would change nothing.
-pub(crate) fn go_together(o: &OutcomesOptions) -> bool
-    ensures { IsTrue result ↔ GoTogether o.now }
+pub(crate) fn mean_something(o: &OutcomesOptions) -> bool
+    ensures { IsTrue result ↔ MeanSomething o.now }
 {
     if !at_most_one(&[
         o.expect,

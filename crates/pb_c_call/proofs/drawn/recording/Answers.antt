@@ -1,7 +1,8 @@
 use Rattle.std.proofs.Common.{Some, ap, subst, arith}
 use Rattle.pb_engines.specs.Records.{IsRecordedWith, SaysOfRecording}
 use Rattle.pb_record.specs.Recorded.{IsTooLong}
-use Rattle.pb_engines.proofs.RecordLemmas.{Answers, lines_are_too_long, reply_is_too_long}
+use Rattle.pb_accept.proofs.RunTextLemmas.{reply_is_too_long}
+use Rattle.pb_engines.proofs.RecordLemmas.{Answers, lines_are_too_long}
 use Rattle.pb_engines.proofs.RecordLemmas.{have_processes, lines_behind, says_too_long, says_written}
 use Rattle.pb_c_call.proofs.drawn.recording.Goals as goal
 

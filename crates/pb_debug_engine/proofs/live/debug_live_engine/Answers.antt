@@ -1,7 +1,8 @@
 use Rattle.std.proofs.Common.{◌∙◌, arith}
 use Rattle.pb_debug_engine.proofs.LiveLemmas.{device_told, live_answered, live_told, unread_answered, unread_device}
 use Rattle.pb_debug_engine.proofs.LiveLemmas.{unread_told}
-use Rattle.pb_debug_engine.proofs.PartLemmas.{takes_fewer, takes_then}
+use Rattle.pb_debug_engine.proofs.PartLemmas.{takes_then}
+use Rattle.pb_debug.proofs.LineParts.{takes_fewer}
 use Rattle.pb_debug_engine.proofs.live.debug_live_engine.Goals as goal
 
 pub returns-in-Ok-clause-text : goal.returns-in-Ok-clause-text

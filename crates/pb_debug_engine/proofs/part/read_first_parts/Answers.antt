@@ -1,7 +1,8 @@
 use Rattle.std.proofs.Common.{inl, arith}
 use Rattle.std.proofs.lemmas.Result.{err_from_is_err_and}
 use Rattle.std.proofs.lemmas.Option.{IfSome_then}
-use Rattle.pb_debug_engine.proofs.PartLemmas.{early_in_second, takes_fewer, takes_then, two_then_two}
+use Rattle.pb_debug_engine.proofs.PartLemmas.{early_in_second, takes_then, two_then_two}
+use Rattle.pb_debug.proofs.LineParts.{takes_fewer}
 use Rattle.pb_debug_engine.proofs.part.read_first_parts.Goals as goal
 
 pub returns-clause-parts : goal.returns-clause-parts

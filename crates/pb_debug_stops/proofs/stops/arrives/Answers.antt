@@ -5,7 +5,8 @@ use Rattle.pb_code.specs.View.{labels_view}
 use Rattle.pb_machine.specs.Views.{machine_view, proc_view}
 use Rattle.pb_debug_positions.specs.Searches.{line_in}
 use Rattle.pb_debug_stops.specs.Stops.{ComesTo}
-use Rattle.pb_debug_stops.proofs.StopLemmas.{comes_as, none_past, not_true}
+use Rattle.pb_debug_stops.proofs.StopLemmas.{comes_as, none_past}
+use Rattle.pb_debug_positions.proofs.Searches.{not_true}
 use Rattle.pb_debug_stops.proofs.stops.arrives.Goals as goal
 
 pub loop-arm-preserved : goal.loop-arm-preserved

@@ -4,7 +4,7 @@ use Rattle.std.proofs.lemmas.List.{length-map}
 use Rattle.pb_code.specs.View.{labels_view}
 use Rattle.pb_history.specs.Entries.{picks_of}
 use Rattle.pb_debug_stops.specs.Stops.{Arrives}
-use Rattle.pb_debug_stops.proofs.StopLemmas.{not_true}
+use Rattle.pb_debug_positions.proofs.Searches.{not_true}
 use Rattle.pb_debug_stops.proofs.stops.first_arrival.Goals as goal
 
 pub loop-walker-preserved : goal.loop-walker-preserved

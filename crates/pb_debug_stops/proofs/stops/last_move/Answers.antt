@@ -3,7 +3,8 @@ use Rattle.pb_code.specs.View.{labels_view}
 use Rattle.pb_history.specs.Entries.{picks_of}
 use Rattle.pb_debug_positions.specs.Searches.{IsLast}
 use Rattle.pb_debug_stops.specs.Stops.{Moves}
-use Rattle.pb_debug_stops.proofs.StopLemmas.{last_not_here, not_true}
+use Rattle.pb_debug_stops.proofs.StopLemmas.{last_not_here}
+use Rattle.pb_debug_positions.proofs.Searches.{not_true}
 use Rattle.pb_debug_stops.proofs.stops.last_move.Goals as goal
 
 pub loop-walker-preserved : goal.loop-walker-preserved

@@ -2,9 +2,9 @@ use Rattle.std.proofs.Common.{arith}
 use Rattle.std.proofs.lemmas.Grind.{common_steps}
 use Rattle.pb_base.specs.Lines.{names_view}
 use Rattle.pb_code.specs.View.{labels_view}
-use Rattle.pb_draw_picture.proofs.AxisLemmas.{read_there}
 use Rattle.pb_draw_picture.proofs.AxisSteps.{so_far_axis, so_far_chain, so_far_push, so_far_skip, so_far_start}
 use Rattle.pb_draw_picture.proofs.KnotSteps.{knots_end, knots_push, knots_skip, knots_start}
+use Rattle.pb_base.proofs.Lists.{item_at}
 use Rattle.pb_draw_picture.proofs.axis.axis_of.Goals as goal
 use Rattle.pb_draw_picture.proofs.axis.axis_of.Goals.{then-start-next+in_ok-push+in_ok-width_of, else-start-next}
 
@@ -22,7 +22,7 @@ pub loop-mark-preserved : goal.loop-mark-preserved
 loop-mark-preserved c =
     let names = names_view c.args.names.now in
     let labels = labels_view c.args.labels.now in
-    let there = read_there c.args.marks.now c.loop-mark.mark-index c.mark-item.result (omega arith) c.mark-item.is in
+    let there = item_at c.args.marks.now c.loop-mark.mark-index c.mark-item.result (omega arith) c.mark-item.is in
     elim c.if-start-next.branch [
       | then-start-next+in_ok-push+in_ok-width_of w ↦ record {
         axis =

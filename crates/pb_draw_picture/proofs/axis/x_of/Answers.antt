@@ -2,7 +2,8 @@ use Rattle.std.proofs.Common.{◌≡◌, ◌<◌, ◌+◌, ◌-◌, ℕ, Some, a
 use Rattle.std.specs.Prelude.{slice_get}
 use Rattle.std.proofs.lemmas.Grind.{common_steps}
 use Rattle.pb_draw_picture.specs.declared.knot.Knot.{Knot}
-use Rattle.pb_draw_picture.proofs.AxisLemmas.{axis_at, read_there}
+use Rattle.pb_draw_picture.proofs.AxisLemmas.{axis_at}
+use Rattle.pb_base.proofs.Lists.{item_at}
 use Rattle.pb_draw_picture.proofs.axis.x_of.Goals as goal
 
 pub returns-clause-x : goal.returns-clause-x
@@ -13,7 +14,7 @@ returns-clause-x c =
     let some : 0 < low = grind (arith, common_steps) in
     let same : low ≡ high = grind (arith, common_steps) in
     let there : slice_get c.args.knots.now (low - 1) ≡ Some at =
-    read_there c.args.knots.now (low - 1) at (omega (arith, some, c.loop-low.invariant.within, c.loop-low.invariant.order))
+    item_at c.args.knots.now (low - 1) at (omega (arith, some, c.loop-low.invariant.within, c.loop-low.invariant.order))
     c.index-knots-low.is in
     let next : low - 1 + 1 ≡ low = omega (arith, some) in
     let found = axis_at c.args.knots.now at (low - 1) c.args.position c.requires there

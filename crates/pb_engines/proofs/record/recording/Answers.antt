@@ -2,8 +2,9 @@ use Rattle.std.proofs.Common.{ap, subst, arith}
 use Rattle.pb_engines.specs.Records.{IsRecordedWith, SaysOfRecording}
 use Rattle.pb_options.specs.Lends.{lending_for}
 use Rattle.pb_record.specs.Recorded.{IsTooLong}
-use Rattle.pb_engines.proofs.RecordLemmas.{Answers, lines_are_too_long, reply_is_too_long}
+use Rattle.pb_engines.proofs.RecordLemmas.{Answers, lines_are_too_long}
 use Rattle.pb_engines.proofs.RecordLemmas.{have_processes, lines_behind, says_no_threads, says_too_long, says_written}
+use Rattle.pb_accept.proofs.RunTextLemmas.{reply_is_too_long}
 use Rattle.pb_engines.proofs.record.recording.Goals as goal
 
 pub returns-in_default : goal.returns-in_default

@@ -5,7 +5,7 @@ use Rattle.pb_bank.specs.Words.{before, kind_within, trimmed, words_of}
 use Rattle.pb_bank.specs.declared.kind.Kind.{Kind}
 use Rattle.pb_bank.specs.declared.kind.Kind.TheVariants.{Skip, Resource, Job, Ask, Want, Drop, Give, Leave}
 use Rattle.pb_bank.specs.declared.kind.Kind.TheVariants.{Hold, Why, Order, State, Help, Other}
-use Rattle.pb_bank.proofs.Results.{on_ok}
+use Rattle.pb_base.proofs.Results.{on_ok}
 use Rattle.pb_bank.proofs.desk.Desk.answer.Goals as goal
 
 -- the first of the words, and those behind it

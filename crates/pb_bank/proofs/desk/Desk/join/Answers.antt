@@ -5,7 +5,7 @@ use Rattle.pb_bank.specs.declared.request.Request.{Request}
 use Rattle.pb_bank.specs.Desks.{IsRequestOf}
 use Rattle.pb_bank.specs.Queues.{ServesQueue}
 use Rattle.pb_bank.proofs.DeskLemmas.{desk_of, joined_desk, requests_joined}
-use Rattle.pb_bank.proofs.Results.{on_ok}
+use Rattle.pb_base.proofs.Results.{on_ok}
 use Rattle.pb_bank.proofs.desk.Desk.join.Goals as goal
 
 pub serve-requires-clause-of : goal.serve-requires-clause-of

@@ -6,7 +6,7 @@ use Rattle.pb_bank.specs.declared.request.Request.{Request}
 use Rattle.pb_bank.specs.Desks.{DeskValue, IsRequestOf}
 use Rattle.pb_bank.specs.Queues.{without_wish, ServesQueue}
 use Rattle.pb_bank.proofs.DeskLemmas.{left_desk, requests_joined}
-use Rattle.pb_bank.proofs.Results.{on_ok}
+use Rattle.pb_base.proofs.Results.{on_ok}
 use Rattle.pb_bank.proofs.desk.Desk.leave.Goals as goal
 
 pub serve-requires-clause-of : goal.serve-requires-clause-of

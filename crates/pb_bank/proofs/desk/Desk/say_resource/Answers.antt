@@ -4,7 +4,7 @@ use Rattle.pb_bank.specs.Answers.{AddsResource, AnswersResource, resource_refusa
 use Rattle.pb_bank.specs.Desks.{DeskValue}
 use Rattle.pb_bank.specs.Words.{amount_of, words_of}
 use Rattle.pb_bank.specs.declared.refusal.Refusal.{Refusal}
-use Rattle.pb_bank.proofs.Results.{on_ok}
+use Rattle.pb_base.proofs.Results.{on_ok}
 use Rattle.pb_bank.proofs.desk.Desk.say_resource.Goals as goal
 
 -- two words that name a resource and its amount

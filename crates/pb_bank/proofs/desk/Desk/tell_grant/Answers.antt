@@ -2,7 +2,7 @@ use Rattle.std.proofs.Common.{◌++◌, [], refl, ap, ◌∙◌}
 use Rattle.pb_banker.specs.declared.reason.Reason.TheVariants.{Rest}
 use Rattle.pb_bank.specs.Answers.{reason_text}
 use Rattle.pb_bank.specs.Desks.{DeskValue}
-use Rattle.pb_bank.proofs.Results.{on_ok}
+use Rattle.pb_base.proofs.Results.{on_ok}
 use Rattle.pb_bank.proofs.desk.Desk.tell_grant.Goals as goal
 
 pub returns-in-Rest : goal.returns-in-Rest

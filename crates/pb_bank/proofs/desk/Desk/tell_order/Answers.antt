@@ -5,7 +5,7 @@ use Rattle.pb_base.specs.Lines.{line, names_view}
 use Rattle.pb_bank.specs.Answers.{TellsOrder, order_text}
 use Rattle.pb_bank.specs.Desks.{DeskValue}
 use Rattle.pb_bank.proofs.OrderLemmas.{order_is_below, three_parts}
-use Rattle.pb_bank.proofs.Results.{on_ok}
+use Rattle.pb_base.proofs.Results.{on_ok}
 use Rattle.pb_bank.proofs.desk.Desk.tell_order.Goals as goal
 
 -- as many slots as have a row, in the order that is found
