@@ -8,19 +8,19 @@ use Rattle.pb_command_io.specs.Faults.{TellsFaults}
 use Rattle.pb_command_io.specs.declared.status.Status.{Status}
 use Rattle.pb_command_io.specs.declared.status.Status.TheVariants.{Done}
 use Rattle.pb_call.specs.Explained.{Answers, AnswersInJson, AnswersLive, IsFirst, IsWithout, WritesJson, devices_of}
-use Rattle.pb_call.specs.Explained.IsWithout.{whole, behind}
+use Rattle.pb_call.specs.Explained.IsWithout.{whole, after}
 use Rattle.pb_json_lines.specs.Dialects.{comes_live, dialect_of}
 use Rattle.pb_json_lines.specs.Live.{LiveSink, seen_by_writers}
 use Rattle.pb_words.specs.declared.tool.Tool.{Tool}
 
--- behind the first word, if it is this one, are the words that are read
-pub behind_the_name : (word : Text) (words : List (Bor Text)) → IsFirst word words
+-- after the first word, if it is this one, are the words that are read
+pub after_the_name : (word : Text) (words : List (Bor Text)) → IsFirst word words
     → IsWithout word words (take (length words - 1) (drop 1 words))
-behind_the_name word [] is = absurd is
-behind_the_name word (name ∷ []) is = absurd is
-behind_the_name word (name ∷ next ∷ words) is =
+after_the_name word [] is = absurd is
+after_the_name word (name ∷ []) is = absurd is
+after_the_name word (name ∷ next ∷ words) is =
     subst (IsWithout word (name ∷ next ∷ words)) (sym (take_all (length (name ∷ next ∷ words) - 1) (next ∷ words) (omega arith)))
-    (behind name (next ∷ words) is)
+    (after name (next ∷ words) is)
 
 -- no words are read of a call without words
 pub no_words : (word : Text) (words : List (Bor Text)) → length words < 1 → IsWithout word words words

@@ -16,7 +16,7 @@ use Rattle.pb_words.specs.declared.tool.Tool.{Tool}
 use Rattle.pb_words.specs.declared.words.Options.{Options}
 use Rattle.pb_words.specs.declared.words.Options.TheVariants as option
 
--- this word is the first behind the program's name
+-- this word is the first after the program's name
 abbrev pub IsFirst : Text → List (Bor Text) → Type 0
 IsFirst word [] = ⊥
 IsFirst word (name ∷ []) = ⊥
@@ -26,13 +26,13 @@ IsFirst word (name ∷ next ∷ words) = next.now ≡ word
 -- place of the program's name
 pub data IsWithout (word : Text) : (words left : List (Bor Text)) → Type 0 where
   whole : (words : List (Bor Text)) → (IsFirst word words → ⊥) → IsWithout word words words
-  behind : (name : Bor Text) (words : List (Bor Text)) → IsFirst word (name ∷ words) → IsWithout word (name ∷ words) words
+  after : (name : Bor Text) (words : List (Bor Text)) → IsFirst word (name ∷ words) → IsWithout word (name ∷ words) words
 
 -- the call is to be quiet: `--quiet` is the first word
 abbrev pub IsQuiet : List (Bor Text) → Type 0
 IsQuiet words = IsFirst (codes "--quiet") words
 
--- its answer is to be JSON lines: `--json` is the first word, or the one behind `--quiet`
+-- its answer is to be JSON lines: `--json` is the first word, or the one after `--quiet`
 abbrev pub IsInJson : (heard : List (Bor Text)) → Type 0
 IsInJson heard = IsFirst (codes "--json") heard
 
@@ -46,7 +46,7 @@ stopped_search = codes "limit search: there may be more than what was found; the
 
 -- what a person is told of a picture that would be too large
 abbrev pub large_picture : List ℕ
-large_picture = codes "limit picture: the picture would have more than 8388608 bytes\n  = hint: the first of the lines behind %% draw the begin of the run; `parbegin page` shows a long run a part at a time\n"
+large_picture = codes "limit picture: the picture would have more than 8388608 bytes\n  = hint: the first of the lines after %% draw the beginning of the run; `parbegin page` shows a long run a part at a time\n"
 
 -- what a person is told of a call that was stopped by a limit: how it is raised
 abbrev pub limit_message : Options → List ℕ
@@ -70,14 +70,14 @@ limit_message (option.States numbers) = []
 
 -- what a person is told of a run in which a process faulted, and of one of code
 abbrev pub faulted_run : List ℕ
-faulted_run = codes "fault: an operator of a process had no result, which ended the process\n  = hint: `parbegin record FILE > my.run` writes a run with its picks; if a process faults in it, `parbegin draw my.run` shows in which line, and `fault P` of `parbegin debug my.run`, behind that pick, with which operands\n"
+faulted_run = codes "fault: an operator of a process had no result, which ended the process\n  = hint: `parbegin record FILE > my.run` writes a run with its picks; if a process faults in it, `parbegin draw my.run` shows in which line, and `fault P` of `parbegin debug my.run`, after that pick, with which operands\n"
 
 abbrev pub faulted_code : List ℕ
-faulted_code = codes "fault: an operator of a process had no result, which ended the process\n  = hint: of the text, `parbegin record FILE > my.run` writes a run with its picks; if a process faults in it, `parbegin draw my.run` shows in which line, and `fault P` of `parbegin debug my.run`, behind that pick, with which operands\n"
+faulted_code = codes "fault: an operator of a process had no result, which ended the process\n  = hint: of the text, `parbegin record FILE > my.run` writes a run with its picks; if a process faults in it, `parbegin draw my.run` shows in which line, and `fault P` of `parbegin debug my.run`, after that pick, with which operands\n"
 
 -- and of picks that were made anew
 abbrev pub faulted_replay : List ℕ
-faulted_replay = codes "fault: an operator of a process had no result, which ended the process\n  = hint: `parbegin draw` of the same input shows in which line, and `fault P` of `parbegin debug`, behind that pick, with which operands\n"
+faulted_replay = codes "fault: an operator of a process had no result, which ended the process\n  = hint: `parbegin draw` of the same input shows in which line, and `fault P` of `parbegin debug`, after that pick, with which operands\n"
 
 -- what a person is told of a call in which a process faulted: how it is seen where
 abbrev pub fault_message : Options → List ℕ

@@ -9,7 +9,7 @@ pub record KeptSource : Type 0 where
   pub kept : Option (List ℕ)
   pub room : ℕ
 
--- these bytes are kept behind the others, or nothing is kept from now on
+-- these bytes are kept after the others, or nothing is kept from now on
 abbrev pub IsAdded : List ℕ → (old new : Option (List ℕ)) → Type 0
 IsAdded bytes old None = ⊤
 IsAdded bytes None (Some new) = ⊥

@@ -10,15 +10,15 @@ use std::alloc::Global;
 
 /// What is said of a run of a text in which a process faulted.
 const FAULTED_RUN: &[u8] =
-    b"fault: an operator of a process had no result, which ended the process\n  = hint: `parbegin record FILE > my.run` writes a run with its picks; if a process faults in it, `parbegin draw my.run` shows in which line, and `fault P` of `parbegin debug my.run`, behind that pick, with which operands\n";
+    b"fault: an operator of a process had no result, which ended the process\n  = hint: `parbegin record FILE > my.run` writes a run with its picks; if a process faults in it, `parbegin draw my.run` shows in which line, and `fault P` of `parbegin debug my.run`, after that pick, with which operands\n";
 
 /// What is said of a run of code in which a process faulted.
 const FAULTED_CODE: &[u8] =
-    b"fault: an operator of a process had no result, which ended the process\n  = hint: of the text, `parbegin record FILE > my.run` writes a run with its picks; if a process faults in it, `parbegin draw my.run` shows in which line, and `fault P` of `parbegin debug my.run`, behind that pick, with which operands\n";
+    b"fault: an operator of a process had no result, which ended the process\n  = hint: of the text, `parbegin record FILE > my.run` writes a run with its picks; if a process faults in it, `parbegin draw my.run` shows in which line, and `fault P` of `parbegin debug my.run`, after that pick, with which operands\n";
 
 /// What is said of picks that were made anew, with which a process faulted.
 const FAULTED_REPLAY: &[u8] =
-    b"fault: an operator of a process had no result, which ended the process\n  = hint: `parbegin draw` of the same input shows in which line, and `fault P` of `parbegin debug`, behind that pick, with which operands\n";
+    b"fault: an operator of a process had no result, which ended the process\n  = hint: `parbegin draw` of the same input shows in which line, and `fault P` of `parbegin debug`, after that pick, with which operands\n";
 
 /// Writes how it is seen where a process of the command of these words faulted, if it can be.
 pub fn explain_fault<E: Output>(alloc: Global, words: &[&str], error: &mut E)

@@ -18,7 +18,7 @@ const STOPPED_SEARCH: &[u8] =
 
 /// What is said of a picture that would be too large.
 const LARGE_PICTURE: &[u8] =
-    b"limit picture: the picture would have more than 8388608 bytes\n  = hint: the first of the lines behind %% draw the begin of the run; `parbegin page` shows a long run a part at a time\n";
+    b"limit picture: the picture would have more than 8388608 bytes\n  = hint: the first of the lines after %% draw the beginning of the run; `parbegin page` shows a long run a part at a time\n";
 
 /// Writes how the limit that stopped the command of these words is raised, if it can be.
 pub fn explain_limit<E: Output>(alloc: Global, words: &[&str], error: &mut E)

@@ -21,7 +21,7 @@ use std::thread::Threads;
 /// Does what the words of a call say, of which the first is the program's own name, and explains a refusal, how a
 /// limit is raised, how it is seen where a process faulted, or that input or output failed, on standard error, unless the
 /// next word is `--quiet`. If
-/// `--json` is the next word, or the one behind `--quiet`, the answer is JSON lines, those of `debug` and `bank` as they
+/// `--json` is the next word, or the one after `--quiet`, the answer is JSON lines, those of `debug` and `bank` as they
 /// come. Returns the status of the call.
 pub fn answer_and_explain<R: Threads + Wait + Sync, C: Commands, I: Input, O: Output, E: Output>(
     commands: &C,
@@ -90,7 +90,7 @@ fn answer_as<R: Threads + Wait + Sync, C: Commands, I: Input, O: Output>(
     }
 }
 
-/// Returns whether a word is the first behind the program's name.
+/// Returns whether a word is the first after the program's name.
 fn is_first(words: &[&str], word: &str) -> bool
     ensures { IsTrue result ↔ IsFirst word.now words.now }
 {

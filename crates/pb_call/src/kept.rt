@@ -65,7 +65,7 @@ impl<I: Input> KeptInput<I> {
     }
 }
 
-/// Puts bytes behind those that are kept, or keeps none if out of memory for them.
+/// Puts bytes after those that are kept, or keeps none if out of memory for them.
 fn put(kept: &mut Option<Vec<u8>>, bytes: &[u8])
     ensures { IsAdded bytes.now (option_map (λ v. v.items) kept.old) (option_map (λ v. v.items) kept.new) }
 {

@@ -18,7 +18,7 @@ const VERSION: &str = "1.0\nproved with rattle-kit-13f logic dac8208d650f15bf";
 
 /// What is above the help. `--quiet` and `--json` are taken off before these words are read.
 const ABOUT: &str =
-    "Programs with parbegin: checked, run, recorded, debugged and drawn.\nWith --quiet before the command no message explains a refused input; with --json behind that, or alone, each line is written as a JSON object";
+    "Programs with parbegin: checked, run, recorded, debugged and drawn.\nWith --quiet before the command no message explains a refused input; with --json after that, or alone, each line is written as a JSON object";
 
 /// The help of the option that says who decides on a request.
 const LEND: &str = "Who decides on a request: banker or cash";
