@@ -682,13 +682,14 @@ one_given rows id least most None (Some n) x y = let is = y.0.1 in absurd (cc (x
 one_given rows id least most (Some m) None x y = let is = x.0.1 in absurd (cc (y, is))
 
 -- so if the options that are read mean nothing together, the rows say none that do
-pub no_others : (rows : List Row) (o other : OutcomesOptions) → (MeanSomething o → ⊥)
+pub no_others : (rows : List Row) (o : OutcomesOptions) → (MeanSomething o → ⊥)
     → HasFlag rows (codes "first-deadlock") o.first_deadlock → HasFlag rows (codes "prints") o.prints
     → HasFlag rows (codes "fair") o.fair → HasFlag rows (codes "expect") o.expect
     → HasFlag rows (codes "any-order") o.any_order → HasFlag rows (codes "endless") o.endless
     → HasFlag rows (codes "graph") o.graph → HasOptionalNumberIn rows (codes "run") 1 MAX_STATES o.run
-    → HasOptionalNumberIn rows (codes "deadlock") 1 MAX_STATES o.deadlock → HasSearchOptions rows other → ⊥
-no_others rows o other none first prints fair expect order endless graph run deadlock says =
+    → HasOptionalNumberIn rows (codes "deadlock") 1 MAX_STATES o.deadlock
+    → (other : OutcomesOptions) → HasSearchOptions rows other → ⊥
+no_others rows o none first prints fair expect order endless graph run deadlock other says =
     let (states, lends, first_2, prints_2, fair_2, expect_2, order_2, endless_2, graph_2, run_2, deadlock_2, together) = says in
     let is_first = one_flag rows _ _ _ first_2 first in
     let is_prints = one_flag rows _ _ _ prints_2 prints in
