@@ -25,8 +25,8 @@ Usage: parbegin grade [OPTIONS] FOLDER EXERCISE
 
 FOLDER has the submissions: all files below it whose names end in .pb. EXERCISE is a file with the lines that each run
 has to print, as `outcomes --expect` reads them after a line %%, and before these any that require something of the text:
-`has a parbegin`, `has a hold`, or `claims at least K R`, of a resource R that each text has. Lines before them that begin
-with // are comments, and one that begins so and goes on with an option has options of the exercise, as in `// --any-order`.
+`has a parbegin`, `has a hold`, or `claims at least K R`, of a resource R. Lines before them that begin with // are
+comments, and one that begins so and goes on with an option has options of the exercise, as in `// --any-order`.
 
 Options:
       --any-order    As for `outcomes --expect`

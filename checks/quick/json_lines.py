@@ -262,7 +262,7 @@ def calls() -> list[tuple[list[str], bytes]]:
     for words in (["explain"], ["explain", "N3"], ["explain", "O1"], ["explain", "V9"]):
         made.append((words, b""))
     required = b"resource tape = 2; process p begin hold 1 of tape do skip od end\n%%\nclaims at least "
-    for given in (b"2 tape\n", b"1 tape\nhas a parbegin\n", b"1 tape\nhas a hold\np.0 print 1\n", b"1 tape\nhas a hold\n", b"1 disk\n"):
+    for given in (b"2 tape\n", b"1 tape\nhas a parbegin\n", b"1 tape\nhas a hold\np.0 print 1\n", b"1 tape\nhas a hold\n", b"1 disk\n", b"0 tape\n"):
         made.append((["outcomes", "--expect"], required + given))
     for given in (names, nothing):
         for words in (["run"], ["claims"], ["plan"], ["outcomes"], ["outcomes", "--prints"], ["outcomes", "--lend", "cash"]):

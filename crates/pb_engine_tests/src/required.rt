@@ -21,7 +21,7 @@ const TEXT: &[u8] =
 /// One process, which prints 1 and has neither a hold nor a parbegin.
 const PLAIN: &[u8] = b"resource tape = 1; process p begin print 1 end\n%%\n";
 
-const MET: [Case; 8] = [
+const MET: [Case; 9] = [
     Case {
         lines: b"claims at least 2 tape\nhas a parbegin\nhas a hold\nclaims at least 1 tape\nq.1 print 1\n",
         said: b"as expected\n",
@@ -57,7 +57,13 @@ const MET: [Case; 8] = [
         said: b"not as expected: claims at least 1 disk\n",
         status: Status::Unexpected,
     },
-    // what is required stands behind a print line
+    // no resource has this name
+    Case {
+        lines: b"has a hold\nclaims at least 1 printer\nq.1 print 1\n",
+        said: b"not as expected: claims at least 1 printer\n",
+        status: Status::Unexpected,
+    },
+    // what is required stands after a print line
     Case {
         lines: b"q.1 print 1\nhas a hold\n",
         said: b"refused K1 at 12\n",
@@ -71,7 +77,7 @@ const MET: [Case; 8] = [
     },
 ];
 
-const UNMET: [Case; 3] = [
+const UNMET: [Case; 4] = [
     Case {
         lines: b"has a parbegin\np.0 print 1\n",
         said: b"not as expected: has a parbegin\n",
@@ -87,17 +93,25 @@ const UNMET: [Case; 3] = [
         said: b"not as expected: claims at least 1 tape\n",
         status: Status::Unexpected,
     },
+    // the text has the resource `tape` alone
+    Case {
+        lines: b"claims at least 1 disk\np.0 print 1\n",
+        said: b"not as expected: claims at least 1 disk\n",
+        status: Status::Unexpected,
+    },
 ];
 
-/// Lines that require nothing of a text with the one resource `tape`.
-const BAD_LINES: [&[u8]; 12] = [
+/// Lines that require nothing.
+const BAD_LINES: [&[u8]; 14] = [
     b"claims at least 0 tape\n",
     b"claims at least 01 tape\n",
     b"claims at least +1 tape\n",
     b"claims at least -1 tape\n",
     b"claims at least 1000001 tape\n",
     b"claims at least 18446744073709551617 tape\n",
-    b"claims at least 1 disk\n",
+    b"claims at least 1 ta-pe\n",
+    b"claims at least 1 hold\n",
+    b"claims at least 1 \n",
     b"claims at least 1  tape\n",
     b"claims at least 1 tape \n",
     b"claims at least tape\n",

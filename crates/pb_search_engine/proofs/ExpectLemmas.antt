@@ -232,13 +232,13 @@ module _ (fair : Bool) (lending : Lending) (any_order : Bool) (requirements : Li
     (labels : List ProcessLabels) (states : ℕ) (same : seen ≡ code) (given : List Requirement) (is : given ≡ requirements) where
   -- a requirement is not met
   pub unmet_said : (r : Requirement) → IsFirstUnmet seen given r → (text : List ℕ) (status : Status)
-      → text ≡ other_line (requirement_text seen.names r) → status ≡ Unexpected
+      → text ≡ other_line (requirement_text r) → status ≡ Unexpected
       → SaysOfAsked fair lending any_order requirements prints code labels states text status
   unmet_said r first text status told unexpected =
       let here = subst (λ (c : Code). IsFirstUnmet c requirements r) same (subst (λ (l : List Requirement). IsFirstUnmet seen l r) is first) in
       subst (λ (s : Status). SaysOfAsked fair lending any_order requirements prints code labels states text s) (sym unexpected)
       (subst (λ (t : List ℕ). SaysOfAsked fair lending any_order requirements prints code labels states t Unexpected)
-      (sym (told ∙ ap (λ (c : Code). other_line (requirement_text c.names r)) same)) (unmet r here))
+      (sym told) (unmet r here))
 
   -- all are met, and this is said of the runs
   pub met_said : AreMet seen given → (shown : List Print) → shown ≡ prints → (text : List ℕ) (status : Status)

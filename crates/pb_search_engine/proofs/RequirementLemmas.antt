@@ -1,19 +1,20 @@
 -- Lines that say requirements, and whether these are met.
-use Rattle.std.proofs.Common.{◌≡◌, ◌≢◌, ◌+◌, ◌<◌, ◌≤◌, ◌^◌, ℕ, Bool, true, false, ◌||◌, List, [], ◌∷◌, ◌++◌, append_assoc, codes, Option, None, Some}
+use Rattle.std.proofs.Common.{◌≡◌, ◌≢◌, ◌+◌, ◌<◌, ◌≤◌, ◌^◌, ℕ, Bool, true, false, ◌||◌, List, [], ◌∷◌, ◌++◌, codes, Option, None, Some}
 use Rattle.std.proofs.Common.{get_or, length, map, take, refl, sym, ap, subst, ◌∙◌, arith}
-use Rattle.std.specs.Prelude.{ℤ, pos, All, IfNone, IfSome, MatchOption}
+use Rattle.std.specs.Prelude.{ℤ, pos, IfNone, IfSome, MatchOption}
 use Rattle.std.specs.Fmt.{decimal, signed_decimal}
 use Rattle.std.specs.List.{list_any}
-use Rattle.std.proofs.lemmas.Fmt.{signed_decimal_injective}
-use Rattle.std.proofs.lemmas.List.{append_cancel_right, get_or-map, length-map, take_all, take_more}
-use Rattle.std.proofs.lemmas.List.Elements.{All-cons, All-nil, All-push}
+use Rattle.std.proofs.lemmas.Fmt.{digits_decimal, signed_decimal_injective}
+use Rattle.std.proofs.lemmas.List.{get_or-map, length-map, take_all, take_more}
+use Rattle.std.proofs.lemmas.List.Elements.{All-push}
 use Rattle.std.proofs.lemmas.List.Folds.{list_any_at, list_any_more}
 use Rattle.pb_base.specs.declared.limits.TheConstants.{MAX_AMOUNT}
 use Rattle.pb_code.specs.Limits.{IsSigned, IsUpTo}
 use Rattle.pb_code.specs.Whole.{Code}
-use Rattle.pb_picks.specs.PickLines.{IsFirstLine}
-use Rattle.pb_picks.proofs.PickParts.{behind_line}
-use Rattle.pb_search_engine.specs.Requirements.{AreMet, IsMet, MayBeClaimed, MayBeRequired, ReadsRequirements, SpellsRequirement, claim_text, part_text}
+use Rattle.pb_code.proofs.NumeralLemmas.{own}
+use Rattle.pb_picks.specs.PickLines.{IsFirstLine, Lacks}
+use Rattle.pb_picks.proofs.PickParts.{behind_line, digits_lack, never_lacks, same_parts}
+use Rattle.pb_search_engine.specs.Requirements.{AreMet, IsMet, MayBeClaimed, ReadsRequirements, SpellsRequirement, claim_text, part_text}
 use Rattle.pb_search_engine.specs.declared.requirements.Part.{Part}
 use Rattle.pb_search_engine.specs.declared.requirements.Part.TheVariants.{Hold, Parbegin}
 use Rattle.pb_search_engine.specs.declared.requirements.Requirement.{Requirement}
@@ -22,36 +23,29 @@ use Rattle.pb_search_engine.proofs.PrintLemmas.{signed_fits}
 
 -- ---- lines
 
-pub one_requirement_more : (code : Code) (text : List ℕ) (before : List Requirement) (rest : List ℕ) (r : Requirement) (line after : List ℕ)
-    → ReadsRequirements code text before rest → rest ≢ [] → IsFirstLine rest line after → SpellsRequirement code line r
-    → ReadsRequirements code text (before ++ (r ∷ [])) after
-one_requirement_more code text [] rest r line after reads some first says =
-    subst (λ (t : List ℕ). ReadsRequirements code t (r ∷ []) after) (sym reads) (some, line, after, first, says, refl)
-one_requirement_more code text (b ∷ before) rest r line after reads some first says =
-    (reads.0, reads.1, reads.2, reads.3, reads.4, one_requirement_more code reads.2 before rest r line after reads.5 some first says)
+pub one_requirement_more : (text : List ℕ) (before : List Requirement) (rest : List ℕ) (r : Requirement) (line after : List ℕ)
+    → ReadsRequirements text before rest → rest ≢ [] → IsFirstLine rest line after → SpellsRequirement line r
+    → ReadsRequirements text (before ++ (r ∷ [])) after
+one_requirement_more text [] rest r line after reads some first says =
+    subst (λ (t : List ℕ). ReadsRequirements t (r ∷ []) after) (sym reads) (some, line, after, first, says, refl)
+one_requirement_more text (b ∷ before) rest r line after reads some first says =
+    (reads.0, reads.1, reads.2, reads.3, reads.4, one_requirement_more reads.2 before rest r line after reads.5 some first says)
 
 -- what follows the requirements is no longer than all
-pub reads_within : (code : Code) (text : List ℕ) (requirements : List Requirement) (rest : List ℕ)
-    → ReadsRequirements code text requirements rest → length rest ≤ length text
-reads_within code text [] rest reads = let e = ap (λ (t : List ℕ). length t) reads in omega (arith, e)
-reads_within code text (r ∷ requirements) rest reads =
+pub reads_within : (text : List ℕ) (requirements : List Requirement) (rest : List ℕ)
+    → ReadsRequirements text requirements rest → length rest ≤ length text
+reads_within text [] rest reads = let e = ap (λ (t : List ℕ). length t) reads in omega (arith, e)
+reads_within text (r ∷ requirements) rest reads =
     let a = behind_line text reads.1 reads.2 reads.3 in
-    let b = reads_within code reads.2 requirements rest reads.5 in
+    let b = reads_within reads.2 requirements rest reads.5 in
     omega (arith, a, b)
 
--- what lines say may be required
-pub may_all : (code : Code) (text : List ℕ) (requirements : List Requirement) (rest : List ℕ)
-    → ReadsRequirements code text requirements rest → All (MayBeRequired code) requirements
-may_all code text [] rest reads = All-nil (MayBeRequired code)
-may_all code text (r ∷ requirements) rest reads =
-    All-cons (MayBeRequired code) r requirements reads.4.may (may_all code reads.2 requirements rest reads.5)
-
 -- a line that requires no part and no claim says no requirement
-pub says_none : (code : Code) (line : List ℕ) → ((part : Part) → line ≢ part_text part)
-    → ((amount resource : ℕ) → MayBeClaimed code amount resource → line ≢ codes "claims at least " ++ claim_text code.names amount resource)
-    → (r : Requirement) → SpellsRequirement code line r → ⊥
-says_none code line parts claims (Claims amount resource) says = claims amount resource says.may says.spelled
-says_none code line parts claims (Has part) says = parts part says.spelled
+pub says_none : (line : List ℕ) → ((part : Part) → line ≢ part_text part)
+    → ((amount : ℕ) (name : List ℕ) → MayBeClaimed amount name → line ≢ codes "claims at least " ++ claim_text amount name)
+    → (r : Requirement) → SpellsRequirement line r → ⊥
+says_none line parts claims (Claims amount name) says = claims amount name.now says.may says.spelled
+says_none line parts claims (Has part) says = parts part says.spelled
 
 pub no_part : (line : List ℕ) → line ≢ part_text Parbegin → line ≢ part_text Hold → (part : Part) → line ≢ part_text part
 no_part line a b Parbegin = a
@@ -76,30 +70,16 @@ amount_told word value given None fits is same some none = λ amount up e.
     none amount up (same ∙ signed_decimal_injective value (pos amount) (signed_fits value fits).sfits small (sym is ∙ e))
 amount_told word value given (Some amount) fits is same some none = (some.1, is ∙ ap signed_decimal (sym same ∙ some.0))
 
--- what stands before a name, and before the space
-pub before_name : (text name front tail : List ℕ) → text ≡ front ++ name → text ≡ tail ++ (codes " " ++ name) → front ≡ tail ++ codes " "
-before_name text name front tail e f =
-    append_cancel_right front (tail ++ codes " ") name (sym e ∙ (f ∙ sym (append_assoc tail (codes " ") name)))
+-- the amount and the name are what stands before the first space and after it
+pub claim_parts : (text word name : List ℕ) (amount : ℕ) (other : List ℕ) → IsUpTo MAX_AMOUNT amount → text ≡ word ++ (32 ∷ name) → Lacks 32 word
+    → text ≡ claim_text amount other → (word ≡ decimal amount) × (name ≡ other)
+claim_parts text word name amount other up e lacks is =
+    let most : amount ≤ 1000000 = up.1 in
+    same_parts 32 word name (decimal amount) other lacks (digits_lack 32 refl (decimal amount) (digits_decimal own amount (omega (arith, most)))) (sym e ∙ is)
 
--- the amount and the space stand before the name
-pub amount_front : (text name : List ℕ) (amount : ℕ) → text ≡ decimal amount ++ (codes " " ++ name) → text ≡ (decimal amount ++ codes " ") ++ name
-amount_front text name amount is = is ∙ sym (append_assoc (decimal amount) (codes " ") name)
-
-pub before_space : (front word tail : List ℕ) → front ≡ word ++ codes " " → front ≡ tail ++ codes " " → word ≡ tail
-before_space front word tail e f = append_cancel_right word tail (codes " ") (sym e ∙ f)
-
--- the amount before the space and the name is that of the word
-pub amount_before : (text name front word : List ℕ) (r : Option ℕ) → text ≡ front ++ name → front ≡ word ++ codes " "
-    → MatchOption r ((amount : ℕ) → IsUpTo MAX_AMOUNT amount → word ≢ decimal amount)
-    (λ amount. IsUpTo MAX_AMOUNT amount × (word ≡ decimal amount))
-    → MatchOption r ((amount : ℕ) → IsUpTo MAX_AMOUNT amount → text ≢ decimal amount ++ (codes " " ++ name))
-    (λ amount. IsUpTo MAX_AMOUNT amount × (text ≡ decimal amount ++ (codes " " ++ name)))
-amount_before text name front word None e f told = λ amount up is.
-    told amount up (before_space front word (decimal amount) f (before_name text name front (decimal amount) e is))
-amount_before text name front word (Some amount) e f told = (
-  told.0,
-  e ∙ (ap (λ (t : List ℕ). t ++ name) (f ∙ ap (λ (t : List ℕ). t ++ codes " ") told.1) ∙ append_assoc (decimal amount) (codes " ") name),
-)
+-- a text without a space requires no claim
+pub no_space : (text : List ℕ) → Lacks 32 text → (amount : ℕ) (name : List ℕ) → text ≢ claim_text amount name
+no_space text lacks amount name is = never_lacks 32 (decimal amount) name (subst (λ (t : List ℕ). Lacks 32 t) is lacks)
 
 -- ---- requirements that are met
 

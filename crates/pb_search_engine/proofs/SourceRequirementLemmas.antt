@@ -159,13 +159,13 @@ module _ (part : Part) where
 
 module _ (program : Program) (claims : Table) where
   met_too : (r : Requirement) → IsMet (program_code program claims) r → IsMetBy program claims r
-  met_too (Claims amount resource) (p, there, enough) =
-      let size = length-map program.processes process_code in (p, subst (λ (n : ℕ). p < n) size there, enough)
+  met_too (Claims amount name) (r, named, some) =
+      let size = length-map program.processes process_code in (r, named, (some.0, subst (λ (n : ℕ). some.0 < n) size some.1, some.2))
   met_too (Has part) is = sym (of_processes part program.processes) ∙ is
 
   met_back : (r : Requirement) → IsMetBy program claims r → IsMet (program_code program claims) r
-  met_back (Claims amount resource) (p, there, enough) =
-      let size = length-map program.processes process_code in (p, subst (λ (n : ℕ). p < n) (sym size) there, enough)
+  met_back (Claims amount name) (r, named, some) =
+      let size = length-map program.processes process_code in (r, named, (some.0, subst (λ (n : ℕ). some.0 < n) (sym size) some.1, some.2))
   met_back (Has part) is = of_processes part program.processes ∙ is
 
   -- so it is with all requirements

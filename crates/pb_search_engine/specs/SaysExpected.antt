@@ -99,7 +99,7 @@ pub data SaysOfRuns (fair : Bool) (lending : Lending) (any_order : Bool) (wanted
 pub data SaysOfAsked (fair : Bool) (lending : Lending) (any_order : Bool) (requirements : List Requirement) (wanted : List Print)
     (code : Code) (labels : List ProcessLabels) (states : ℕ) : List ℕ → Status → Type 0 where
   unmet : (r : Requirement) → IsFirstUnmet code requirements r
-      → SaysOfAsked fair lending any_order requirements wanted code labels states (other_line (requirement_text code.names r)) Unexpected
+      → SaysOfAsked fair lending any_order requirements wanted code labels states (other_line (requirement_text r)) Unexpected
   met : AreMet code requirements
       → (said : List ℕ) (status : Status) → SaysOfRuns fair lending any_order wanted code labels states said status
       → SaysOfAsked fair lending any_order requirements wanted code labels states said status

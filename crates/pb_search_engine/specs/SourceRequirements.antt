@@ -1,9 +1,10 @@
 -- What is required of a program, by its statements and its claims.
-use Rattle.std.specs.Prelude.{◌≡◌, ◌<◌, ◌≤◌, ℕ, Bool, true, false, ◌||◌, List, All, length}
+use Rattle.std.specs.Prelude.{◌≡◌, ◌<◌, ◌≤◌, ℕ, Bool, true, false, ◌||◌, List, All, Some, length, slice_get}
 use Rattle.std.specs.List.{list_any}
 use Rattle.pb_base.specs.Banker.{cell}
 use Rattle.pb_base.specs.Steppers.{Table}
 use Rattle.pb_names.specs.Program.{AndArm, Arms, Assign, Block, Hold, If, NoArm, Parbegin, Print, Process, Program, Skip, Stmt, Then, While}
+use Rattle.pb_names.specs.Resolves.{resource_names}
 use Rattle.pb_search_engine.specs.Requirements.{is_hold, is_parbegin}
 use Rattle.pb_search_engine.specs.declared.requirements.Part.{Part}
 use Rattle.pb_search_engine.specs.declared.requirements.Requirement.{Requirement}
@@ -33,9 +34,18 @@ abbrev mutual
 abbrev pub process_has : Part → Process → Bool
 process_has part process = block_has part process.body
 
--- some process claims at least so much of the resource; some process has the part
+-- some process claims at least so much of the resource with this number
+abbrev pub SomeClaimsBy : Program → Table → (amount resource : ℕ) → Type 0
+SomeClaimsBy program claims amount resource = (p : ℕ) × (p < length program.processes) × (amount ≤ cell claims p resource)
+
+-- there is a resource with this name, and some process claims at least so much of it
+abbrev pub IsClaimedBy : Program → Table → (amount : ℕ) → (name : List ℕ) → Type 0
+IsClaimedBy program claims amount name =
+    (r : ℕ) × (slice_get (resource_names program) r ≡ Some name) × SomeClaimsBy program claims amount r
+
+-- such an amount is claimed; some process has the part
 abbrev pub IsMetBy : Program → Table → Requirement → Type 0
-IsMetBy program claims (Claims amount resource) = (p : ℕ) × (p < length program.processes) × (amount ≤ cell claims p resource)
+IsMetBy program claims (Claims amount name) = IsClaimedBy program claims amount name.now
 IsMetBy program claims (Has part) = list_any (process_has part) program.processes ≡ true
 
 -- each of them is met

@@ -14,23 +14,23 @@ use std::alloc::Global;
 
 /// What is asked of a text.
 #[derive(Drop)]
-pub struct Asked {
+pub struct Asked<'t> {
     /// What it has to have.
-    pub requirements: Vec<Requirement>,
+    pub requirements: Vec<Requirement<'t>>,
     /// What each run has to print.
     pub prints: Vec<Print>,
 }
 
-/// Reads requirements, a line each, and then print lines, `P.a print V` each, of the resources, processes and arms of
-/// this code. The last line feed may be missing. The first line that says neither, or a requirement behind a print line,
-/// is refused, with the place at which it begins.
-pub fn read_asked(alloc: Global, code: &Code, text: &[u8]) -> Result<Asked, PrintFault>
+/// Reads requirements, a line each, and then print lines, `P.a print V` each, of the processes and arms of this code.
+/// The last line feed may be missing. The first line that says neither, or a requirement after a print line, is refused,
+/// with the place at which it begins.
+pub fn read_asked<'t>(alloc: Global, code: &Code, text: &'t [u8]) -> Result<Asked<'t>, PrintFault>
     requires { KeepsLimits (code_view code.now) }
     ensures read { IfOk result (λ asked. SpellsAsked (code_view code.now) text.now asked.requirements.items asked.prints.items) }
     ensures refused { IfErr result (IsBadAsked (code_view code.now) text.now) }
 {
-    match read_requirements(alloc, code, text) {
-        Ok((requirements, rest)) => read_behind(alloc, code, text, requirements, rest),
+    match read_requirements(alloc, text) {
+        Ok((requirements, rest)) => read_after(alloc, code, text, requirements, rest),
         Err(NoMemory) => Err(PrintFault::NoMemory),
     }
 }
@@ -38,17 +38,15 @@ pub fn read_asked(alloc: Global, code: &Code, text: &[u8]) -> Result<Asked, Prin
 /// Reads the lines at the beginning of a text that say requirements, and returns what follows them too.
 fn read_requirements<'t>(
     alloc: Global,
-    code: &Code,
     text: &'t [u8],
-) -> Result<(Vec<Requirement>, &'t [u8]), NoMemory>
-    requires { KeepsLimits (code_view code.now) }
-    ensures { IfOk result (λ x. AreRequirements (code_view code.now) text.now x.0.items x.1.now) }
+) -> Result<(Vec<Requirement<'t>>, &'t [u8]), NoMemory>
+    ensures { IfOk result (λ x. AreRequirements text.now x.0.items x.1.now) }
 {
     let mut requirements = Vec::new(alloc);
     let mut rest = text;
     while !rest.is_empty() {
         let (line, after) = first_line(rest);
-        let Some(requirement) = requirement_of(code, line) else {
+        let Some(requirement) = requirement_of(line) else {
             return Ok((requirements, rest));
         };
         requirements.push(requirement)?;
@@ -58,15 +56,15 @@ fn read_requirements<'t>(
 }
 
 /// Reads the print lines that follow the requirements of a text.
-fn read_behind(
+fn read_after<'t>(
     alloc: Global,
     code: &Code,
     text: &[u8],
-    requirements: Vec<Requirement>,
+    requirements: Vec<Requirement<'t>>,
     rest: &[u8],
-) -> Result<Asked, PrintFault>
+) -> Result<Asked<'t>, PrintFault>
     requires limits { KeepsLimits (code_view code.now) }
-    requires before { AreRequirements (code_view code.now) text.now requirements.items rest.now }
+    requires before { AreRequirements text.now requirements.items rest.now }
     ensures read { IfOk result (λ asked. SpellsAsked (code_view code.now) text.now asked.requirements.items asked.prints.items) }
     ensures refused { IfErr result (IsBadAsked (code_view code.now) text.now) }
 {

@@ -1,6 +1,6 @@
 //! The command `outcomes --expect`: whether all runs of a program are as expected.
 
-ghost use Rattle.std.specs.Prelude.{◌≡◌, ◌≤◌, ◌<◌, ◌⊎◌, All, IfOk, length, map, true};
+ghost use Rattle.std.specs.Prelude.{◌≡◌, ◌≤◌, ◌<◌, ◌⊎◌, IfOk, length, map, true};
 ghost use Rattle.pb_base.specs.declared.limits.TheConstants.{MAX_INPUT};
 ghost use Rattle.pb_code.specs.Limits.{AreLabels};
 ghost use Rattle.pb_command_io.specs.Answers.{Tells};
@@ -11,7 +11,6 @@ ghost use Rattle.pb_search.specs.Deadlocks.{deadlock_view};
 ghost use Rattle.pb_search.specs.Outcomes.{found_view};
 ghost use Rattle.pb_search.specs.Told.{AreSome};
 ghost use Rattle.pb_search_engine.specs.Expected.{printing};
-ghost use Rattle.pb_search_engine.specs.Requirements.{MayBeRequired};
 ghost use Rattle.pb_search_engine.specs.SaysExpected.{IsPlainBy, SaysOfAsked, SaysOfEndless, SaysOfExpected, SaysOfLines, SaysOfRuns, TellsDeadlock, TellsOutcome};
 ghost use Rattle.pb_options.specs.Lends.{lending_for};
 
@@ -32,7 +31,7 @@ use pb_search::{Extent, Outcomes, Until};
 use pb_search_fair::fair_runs;
 use std::alloc::Global;
 
-/// Writes whether a text is as the lines ask that follow it, behind a line `%%`: whether it has what they require, and
+/// Writes whether a text is as the lines ask that follow it, after a line `%%`: whether it has what they require, and
 /// all its runs are as the print lines say; and else the first requirement that is not met, or the first outcome or
 /// deadlock that is not as expected, or that some run does not end. With `options.fair` a run that does not end counts
 /// only if it is fair.
@@ -54,7 +53,7 @@ pub fn tell_expected<O: Output>(
     }
 }
 
-/// Returns what is said of a compiled text and the lines behind it.
+/// Returns what is said of a compiled text and the lines after it.
 fn reply(
     alloc: Global,
     options: OutcomesOptions,
@@ -78,16 +77,15 @@ fn answered(
     alloc: Global,
     options: OutcomesOptions,
     compiled: &Compiled,
-    asked: &Asked,
+    asked: &Asked<'_>,
 ) -> Result<Reply, NoMemory>
-    requires labels { AreLabels compiled.now.verified.code compiled.now.labels }
-    requires may { All (MayBeRequired compiled.now.verified.code) asked.now.requirements.items }
+    requires { AreLabels compiled.now.verified.code compiled.now.labels }
     ensures { IfOk result (λ r. SaysOfAsked options.fair (lending_for options.lend) options.any_order asked.now.requirements.items
         asked.now.prints.items compiled.now.verified.code compiled.now.labels options.states r.text.items r.status) }
 {
     let code = compiled.verified().code();
     match first_unmet(code, &asked.requirements) {
-        Some(requirement) => unmet(alloc, &code.names, requirement),
+        Some(requirement) => unmet(alloc, requirement),
         None => compared(
             alloc,
             options,

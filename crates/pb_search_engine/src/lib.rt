@@ -20,4 +20,4 @@ mod wanted;
 pub use asked::{Asked, read_asked};
 pub use outcomes::outcomes_engine;
 pub use print_lines::PrintFault;
-pub use requirements::{Part, Requirement};
+pub use requirements::{Part, Requirement, requirement_of};

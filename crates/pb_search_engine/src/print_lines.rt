@@ -1,11 +1,11 @@
 //! Print lines, read.
 
-ghost use Rattle.std.specs.Prelude.{◌≡◌, ◌≢◌, ◌<◌, ◌≤◌, ◌↔◌, ◌++◌, ℕ, ℤ, List, IfErr, IfOk, IsTrue, MatchOption, Some};
+ghost use Rattle.std.specs.Prelude.{◌≡◌, ◌≢◌, ◌<◌, ◌≤◌, ◌↔◌, ◌++◌, ◌∷◌, ℕ, ℤ, List, IfErr, IfOk, IsTrue, MatchOption, Some};
 ghost use Rattle.std.specs.Fmt.{decimal, signed_decimal};
 ghost use Rattle.pb_base.specs.declared.limits.TheConstants.{MAX_ARMS};
 ghost use Rattle.pb_code.specs.Limits.{IsSigned, KeepsLimits};
 ghost use Rattle.pb_code.specs.View.{code_view};
-ghost use Rattle.pb_picks.specs.PickLines.{IsFirstLine};
+ghost use Rattle.pb_picks.specs.PickLines.{IsFirstLine, Lacks};
 ghost use Rattle.pb_search_engine.specs.OutcomeLines.{arm_print_text, process_print_text};
 ghost use Rattle.pb_search_engine.specs.PrintLines.{IsBadPrint, SpellsPrint, SpellsPrints};
 ghost use Rattle.pb_search_stages.specs.declared.print.Print.{Print as AnyPrint};
@@ -60,12 +60,23 @@ pub(crate) fn read_prints(alloc: Global, code: &Code, text: &[u8]) -> Result<Vec
 pub(crate) fn first_line(text: &[u8]) -> (&[u8], &[u8])
     ensures { IsFirstLine text.now result.0.now result.1.now }
 {
+    match split_first(text, b'\n') {
+        Some(parts) => parts,
+        None => (text, &text[text.len()..]),
+    }
+}
+
+/// Splits a text at the first byte that is the mark.
+pub(crate) fn split_first(text: &[u8], mark: u8) -> Option<(&[u8], &[u8])>
+    ensures { MatchOption result (Lacks mark text.now)
+        (λ parts. Lacks mark parts.0.now × (text.now ≡ parts.0.now ++ (mark ∷ parts.1.now))) }
+{
     for end in 0..text.len() {
-        if text[end] == b'\n' {
-            return (&text[..end], &text[end + 1..]);
+        if text[end] == mark {
+            return Some((&text[..end], &text[end + 1..]));
         }
     }
-    (text, &text[text.len()..])
+    None
 }
 
 /// Returns the print that a line says, if it says one.

@@ -128,11 +128,11 @@ fn as_expected(alloc: Global) -> Result<Reply, NoMemory>
 }
 
 /// Returns the answer that this requirement is not met.
-pub fn unmet(alloc: Global, names: &Names, requirement: Requirement) -> Result<Reply, NoMemory>
-    ensures { IfOk result (λ r. (r.text.items ≡ other_line (requirement_text (names_view names.now) requirement))
+pub fn unmet(alloc: Global, requirement: Requirement<'_>) -> Result<Reply, NoMemory>
+    ensures { IfOk result (λ r. (r.text.items ≡ other_line (requirement_text requirement.entry))
         × (r.status ≡ Status.Unexpected)) }
 {
-    let text = text_of(alloc, names, requirement)?;
+    let text = text_of(alloc, requirement)?;
     unexpected(alloc, &text)
 }
 

@@ -1,9 +1,8 @@
 //! What a text has to have beside its prints: the line that says it, and whether it is met.
 
-ghost use Rattle.std.specs.Prelude.{◌≡◌, ◌≢◌, ◌<◌, ◌≤◌, ◌↔◌, ◌++◌, ℕ, List, All, IfNone, IfOk, IfSome, MatchOption, codes, length, pos, true};
+ghost use Rattle.std.specs.Prelude.{◌≡◌, ◌≢◌, ◌<◌, ◌↔◌, ◌++◌, ℕ, List, IfNone, IfOk, IfSome, MatchOption, codes, length, pos, true};
 ghost use Rattle.std.specs.Fmt.{decimal};
 ghost use Rattle.std.specs.List.{list_any};
-ghost use Rattle.pb_base.specs.Lines.{names_view};
 ghost use Rattle.pb_base.specs.Steppers.{Bundle};
 ghost use Rattle.pb_base.specs.declared.limits.TheConstants.{MAX_AMOUNT as MOST};
 ghost use Rattle.pb_code.specs.Limits.{IsUpTo, KeepsLimits};
@@ -11,14 +10,12 @@ ghost use Rattle.pb_code.specs.View.{code_view, instr_view, process_view};
 ghost use Rattle.pb_search_engine.specs.Requirements as spec;
 ghost use Rattle.pb_search_engine.specs.declared.requirements.Part.{Part as AnyPart};
 ghost use Rattle.pb_search_engine.specs.declared.requirements.Requirement.{Requirement as AnyRequirement};
-ghost use Rattle.pb_search_engine.specs.declared.requirements.Requirement.TheVariants.{Claims as ClaimsSome};
 
-use crate::names::name_at;
-use crate::print_lines::{after, value_of};
+use crate::print_lines::{after, split_first, value_of};
+use pb_base::NoMemory;
 use pb_base::limits::MAX_AMOUNT;
 use pb_base::writing::{put, put_name, put_number};
-use pb_base::{Names, NoMemory};
-use pb_code::{Code, Instr, ProcessCode};
+use pb_code::{Code, Instr, ProcessCode, is_name};
 use std::alloc::Global;
 
 /// What a process may have to have.
@@ -31,24 +28,23 @@ pub enum Part {
 }
 
 /// What a text has to have beside its prints.
-#[derive(Clone, Copy, Debug, PartialEq, Eq)]
-pub enum Requirement {
-    /// Some process claims at least this amount of the resource with this number.
-    Claims { amount: u32, resource: u8 },
+#[derive(Clone, Copy)]
+pub enum Requirement<'t> {
+    /// Some process claims at least this amount of the resource with this name.
+    Claims { amount: u32, resource: &'t [u8] },
     /// Some process has this part.
     Has(Part),
 }
 
 /// Returns the requirement that a line says, if it says one.
-pub(crate) fn requirement_of(code: &Code, line: &[u8]) -> Option<Requirement>
-    requires { KeepsLimits (code_view code.now) }
-    ensures { MatchOption result ((r : AnyRequirement) → spec.SpellsRequirement (code_view code.now) line.now r → ⊥)
-        (λ r. spec.SpellsRequirement (code_view code.now) line.now r) }
+pub fn requirement_of(line: &[u8]) -> Option<Requirement<'_>>
+    ensures { MatchOption result ((r : AnyRequirement) → spec.SpellsRequirement line.now r → ⊥)
+        (λ r. spec.SpellsRequirement line.now r) }
 {
     match part_of(line) {
         Some(part) => Some(Requirement::Has(part)),
         None => {
-            let (amount, resource) = claim_of(code, line)?;
+            let (amount, resource) = claim_of(line)?;
             Some(Requirement::Claims { amount, resource })
         }
     }
@@ -77,53 +73,29 @@ fn part_words(part: Part) -> &'static [u8]
     }
 }
 
-/// Returns the amount and the resource of a line, if it requires a claim.
-fn claim_of(code: &Code, line: &[u8]) -> Option<(u32, u8)>
-    requires { KeepsLimits (code_view code.now) }
+/// Returns the amount and the name of a resource of a line, if it requires a claim.
+fn claim_of(line: &[u8]) -> Option<(u32, &[u8])>
     ensures { MatchOption result
-        ((amount resource : ℕ) → spec.MayBeClaimed (code_view code.now) amount resource
-        → line.now ≢ codes "claims at least " ++ spec.claim_text (names_view code.now.names) amount resource)
-        (λ x. spec.MayBeClaimed (code_view code.now) x.0 x.1
-        × (line.now ≡ codes "claims at least " ++ spec.claim_text (names_view code.now.names) x.0 x.1)) }
+        ((amount : ℕ) (name : List ℕ) → spec.MayBeClaimed amount name
+        → line.now ≢ codes "claims at least " ++ spec.claim_text amount name)
+        (λ x. spec.MayBeClaimed x.0 x.1.now × (line.now ≡ codes "claims at least " ++ spec.claim_text x.0 x.1.now)) }
 {
     let rest = after(line, b"claims at least ")?;
-    amount_and_resource(code, rest)
+    amount_and_name(rest)
 }
 
-/// Returns the amount and the resource that a text is, as `K R`, if it is so.
-fn amount_and_resource(code: &Code, text: &[u8]) -> Option<(u32, u8)>
-    requires { KeepsLimits (code_view code.now) }
+/// Returns the amount and the name that a text is, as `K R`, if it is so.
+fn amount_and_name(text: &[u8]) -> Option<(u32, &[u8])>
     ensures { MatchOption result
-        ((amount resource : ℕ) → spec.MayBeClaimed (code_view code.now) amount resource
-        → text.now ≢ spec.claim_text (names_view code.now.names) amount resource)
-        (λ x. spec.MayBeClaimed (code_view code.now) x.0 x.1 × (text.now ≡ spec.claim_text (names_view code.now.names) x.0 x.1)) }
+        ((amount : ℕ) (name : List ℕ) → spec.MayBeClaimed amount name → text.now ≢ spec.claim_text amount name)
+        (λ x. spec.MayBeClaimed x.0 x.1.now × (text.now ≡ spec.claim_text x.0 x.1.now)) }
 {
-    for r in 0..code.names.resources.len() {
-        match amount_before(text, &code.names.resources[r]) {
-            Some(amount) => return Some((amount, r as u8)),
-            None => {}
-        }
+    let (word, name) = split_first(text, b' ')?;
+    let amount = amount_of(word)?;
+    if !is_name(name) {
+        return None;
     }
-    None
-}
-
-/// Returns the amount that stands before a space and a name, if a text is so.
-fn amount_before(text: &[u8], name: &[u8]) -> Option<u32>
-    ensures { MatchOption result
-        ((amount : ℕ) → IsUpTo MOST amount → text.now ≢ decimal amount ++ (codes " " ++ name.now))
-        (λ amount. IsUpTo MOST amount × (text.now ≡ decimal amount ++ (codes " " ++ name.now))) }
-{
-    let front = before(text, name)?;
-    let word = before(front, b" ")?;
-    amount_of(word)
-}
-
-/// Returns what stands before these bytes, if the text ends with them.
-fn before<'t>(text: &'t [u8], end: &[u8]) -> Option<&'t [u8]>
-    ensures { MatchOption result ((front : List ℕ) → text.now ≢ front ++ end.now)
-        (λ front. text.now ≡ front.now ++ end.now) }
-{
-    text.strip_suffix(end)
+    Some((amount, name))
 }
 
 /// Returns the amount that a word is, if it is one as it is written.
@@ -147,19 +119,14 @@ fn as_amount(value: i64) -> Option<u32>
 }
 
 /// Returns how a requirement is written.
-pub(crate) fn text_of(
-    alloc: Global,
-    names: &Names,
-    requirement: Requirement,
-) -> Result<Vec<u8>, NoMemory>
-    ensures { IfOk result (λ text. text.items ≡ spec.requirement_text (names_view names.now) requirement) }
+pub(crate) fn text_of(alloc: Global, requirement: Requirement<'_>) -> Result<Vec<u8>, NoMemory>
+    ensures { IfOk result (λ text. text.items ≡ spec.requirement_text requirement.entry) }
 {
     let mut text = Vec::new(alloc);
     match requirement {
         Requirement::Claims { amount, resource } => {
-            let name = name_at(&names.resources, resource as usize);
             put_number(&mut text, b"claims at least ", amount)?;
-            put_name(&mut text, b" ", name)?;
+            put_name(&mut text, b" ", resource)?;
         }
         Requirement::Has(part) => put(&mut text, part_words(part))?,
     }
@@ -167,9 +134,11 @@ pub(crate) fn text_of(
 }
 
 /// Returns the first requirement that is not met, if there is one.
-pub(crate) fn first_unmet(code: &Code, requirements: &[Requirement]) -> Option<Requirement>
-    requires limits { KeepsLimits (code_view code.now) }
-    requires may { All (spec.MayBeRequired (code_view code.now)) requirements.now }
+pub(crate) fn first_unmet<'t>(
+    code: &Code,
+    requirements: &[Requirement<'t>],
+) -> Option<Requirement<'t>>
+    requires { KeepsLimits (code_view code.now) }
     ensures some { IfSome result (λ r. spec.IsFirstUnmet (code_view code.now) requirements.now r) }
     ensures none { IfNone result (spec.AreMet (code_view code.now) requirements.now) }
 {
@@ -182,10 +151,9 @@ pub(crate) fn first_unmet(code: &Code, requirements: &[Requirement]) -> Option<R
 }
 
 /// Returns whether a requirement is met.
-fn is_met(code: &Code, requirement: Requirement) -> bool
-    requires limits { KeepsLimits (code_view code.now) }
-    requires may { spec.MayBeRequired (code_view code.now) requirement }
-    ensures { (result ≡ true) ↔ spec.IsMet (code_view code.now) requirement }
+fn is_met(code: &Code, requirement: Requirement<'_>) -> bool
+    requires { KeepsLimits (code_view code.now) }
+    ensures { (result ≡ true) ↔ spec.IsMet (code_view code.now) requirement.entry }
 {
     match requirement {
         Requirement::Claims { amount, resource } => is_claimed(code, amount, resource),
@@ -193,14 +161,27 @@ fn is_met(code: &Code, requirement: Requirement) -> bool
     }
 }
 
-/// Returns whether some process claims at least this amount of a resource.
-fn is_claimed(code: &Code, amount: u32, resource: u8) -> bool
+/// Returns whether some process claims at least this amount of a resource with this name.
+fn is_claimed(code: &Code, amount: u32, name: &[u8]) -> bool
+    requires { KeepsLimits (code_view code.now) }
+    ensures { (result ≡ true) ↔ spec.IsClaimed (code_view code.now) amount name.now }
+{
+    for r in 0..code.names.resources.len() {
+        if code.names.resources[r].as_slice() == name && some_claims(code, amount, r) {
+            return true;
+        }
+    }
+    false
+}
+
+/// Returns whether some process claims at least this amount of the resource with this number.
+fn some_claims(code: &Code, amount: u32, resource: usize) -> bool
     requires limits { KeepsLimits (code_view code.now) }
-    requires may { spec.MayBeClaimed (code_view code.now) amount resource }
-    ensures { (result ≡ true) ↔ spec.IsMet (code_view code.now) (ClaimsSome amount resource) }
+    requires there { resource < length (code_view code.now).names.resources }
+    ensures { (result ≡ true) ↔ spec.SomeClaims (code_view code.now) amount resource }
 {
     for p in 0..code.processes.len() {
-        if code.claims.get(p, resource as usize) >= u64::from(amount) {
+        if code.claims.get(p, resource) >= u64::from(amount) {
             return true;
         }
     }

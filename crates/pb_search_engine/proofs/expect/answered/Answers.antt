@@ -1,27 +1,17 @@
-use Rattle.std.proofs.Common.{List, ap, sym, subst, ◌∙◌}
-use Rattle.std.specs.Prelude.{All}
+use Rattle.std.proofs.Common.{ap, sym, subst, ◌∙◌}
 use Rattle.std.proofs.lemmas.Result.{MatchResult-weaker}
 use Rattle.pb_code.specs.Limits.{KeepsLimits}
 use Rattle.pb_code.specs.View.{code_view}
-use Rattle.pb_code.specs.Whole.{Code}
 use Rattle.pb_options.specs.Lends.{lending_for}
 use Rattle.pb_search.proofs.OutcomeLists.{if_some}
 use Rattle.pb_verifier.specs.Verified.{VerifiedCode}
 use Rattle.pb_verifier.specs.declared.fault.VerifyFault.TheVariants.{OutOfLimits}
-use Rattle.pb_search_engine.specs.Requirements.{AreMet, IsFirstUnmet, MayBeRequired}
-use Rattle.pb_search_engine.specs.declared.requirements.Requirement.{Requirement}
+use Rattle.pb_search_engine.specs.Requirements.{AreMet, IsFirstUnmet}
 use Rattle.pb_search_engine.proofs.ExpectLemmas.{if_none, met_said, unmet_said}
 use Rattle.pb_search_engine.proofs.expect.answered.Goals as goal
 
-pub first_unmet-requires-clause-limits : goal.first_unmet-requires-clause-limits
-first_unmet-requires-clause-limits c =
-    subst KeepsLimits (sym c.code-code.ensures.code) (c.code-code.ensures.verified.faultless OutOfLimits)
-
-pub first_unmet-requires-clause-may : goal.first_unmet-requires-clause-may
-first_unmet-requires-clause-may c =
-    let same = c.code-code.ensures.code ∙ ap (λ (v : VerifiedCode). v.code) c.verified.ensures in
-    subst (λ (l : List Requirement). All (MayBeRequired (code_view c.code-code.result.now)) l) (sym c.deref.ensures.value)
-    (subst (λ (code : Code). All (MayBeRequired code) c.args.asked.now.requirements.items) (sym same) c.requires.may)
+pub first_unmet-requires : goal.first_unmet-requires
+first_unmet-requires c = subst KeepsLimits (sym c.code-code.ensures.code) (c.code-code.ensures.verified.faultless OutOfLimits)
 
 pub returns-in-Some : goal.returns-in-Some
 returns-in-Some c =

@@ -3,28 +3,16 @@ use Rattle.std.proofs.lemmas.Result.{MatchResult-weaker}
 use Rattle.pb_accept.specs.Causes.{cause_line}
 use Rattle.pb_options.specs.declared.code.Code.TheVariants.{K1}
 use Rattle.pb_base.specs.Lines.{line}
-use Rattle.std.specs.Prelude.{All}
 use Rattle.pb_code.specs.Limits.{KeepsLimits}
 use Rattle.pb_code.specs.View.{code_view}
-use Rattle.pb_code.specs.Whole.{Code}
 use Rattle.pb_verifier.specs.Verified.{VerifiedCode}
 use Rattle.pb_verifier.specs.declared.fault.VerifyFault.TheVariants.{OutOfLimits}
 use Rattle.pb_options.specs.Lends.{lending_for}
-use Rattle.pb_search_engine.specs.Requirements.{MayBeRequired}
 use Rattle.pb_search_engine.proofs.ExpectLemmas.{asked_said, bad_said}
-use Rattle.pb_search_engine.proofs.RequirementLemmas.{may_all}
 use Rattle.pb_search_engine.proofs.expect.reply.Goals as goal
 
 pub read_asked-requires : goal.read_asked-requires
 read_asked-requires c = subst KeepsLimits (sym c.code.ensures.code) (c.code.ensures.verified.faultless OutOfLimits)
-
-pub answered-requires-clause-may : goal.answered-requires-clause-may
-answered-requires-clause-may c =
-    let same = c.code.ensures.code ∙ ap (λ (v : VerifiedCode). v.code) c.verified.ensures in
-    let asked = c.in-Ok.asked in
-    let read = c.in-Ok.ensures.read in
-    subst (λ (code : Code). All (MayBeRequired code) asked.requirements.items) same
-    (may_all (code_view c.code.result.now) c.args.lines.now asked.requirements.items read.0 read.1.reads)
 
 pub returns-in-Ok : goal.returns-in-Ok
 returns-in-Ok c =
