@@ -1,10 +1,12 @@
 pub mod Faults
 pub mod FurtherPicks
+pub mod InTurn
 pub mod LineParts
 pub mod Lines
 pub mod NameTexts
 pub mod NamedPicks
 pub mod Positions
+pub mod ReadyArms
 pub mod Requests
 pub mod ResourceTexts
 pub mod SourceLines

@@ -1,5 +1,6 @@
 pub mod Answers
 pub mod Appends
+pub mod Arms
 pub mod Checkpoints
 pub mod Following
 pub mod Refusals

@@ -36,7 +36,7 @@ fn find_name(names: &[Vec<u8>], word: &[u8]) -> Option<usize>
 
 impl<'c> Debugger<'c> {
     /// Returns the number of the process of this name.
-    fn process(&self, word: &[u8]) -> Option<usize>
+    pub(crate) fn process(&self, word: &[u8]) -> Option<usize>
         ensures some { IfSome result (λ p. slice_get (shown_names self.now).processes p ≡ Some word.now) }
         ensures none { IfNone result (HasNoName (shown_names self.now) word.now) }
         ensures within { IfSome result (λ p. p < length (state_of self.now).processes) }
@@ -353,6 +353,7 @@ impl<'c> Debugger<'c> {
             Command::Fault(word) => self.say_fault(text, word),
             Command::Loans => self.say_loans(text),
             Command::Circle => self.say_circle(text),
+            Command::Arms => self.say_arms(text),
             Command::Who(word) => self.say_who(text, word),
             Command::Next => self.say_next(text),
             Command::Prev => self.say_prev(text),
@@ -360,6 +361,7 @@ impl<'c> Debugger<'c> {
             Command::Line(word) => self.say_line(text, word),
             Command::Text(word) => self.say_text(text, word),
             Command::Why(word) => self.say_why(text, word),
+            Command::Does(word) => self.say_does(text, word),
             Command::Stack(word) => self.say_stack(text, word),
             Command::Pick(word) => self.say_pick(text, word),
         }

@@ -3,6 +3,7 @@
 
 mod answer;
 mod append;
+mod arms;
 mod debugger;
 mod fault;
 pub mod laws;

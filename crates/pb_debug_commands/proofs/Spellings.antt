@@ -18,7 +18,7 @@ use Rattle.pb_code.proofs.NumeralLemmas.{own, numeral_is, is_numeral_decimal}
 use Rattle.pb_code.specs.Names.{is_name_byte}
 use Rattle.pb_code.specs.Numerals.{is_numeral}
 use Rattle.pb_debug_commands.specs.Commands.{Command, To, Step, Back, Mark, Vars, Threads, Fault, Wrote, Until, Loans, Next, Prev}
-use Rattle.pb_debug_commands.specs.Commands.{Help, Circle, Line, Text, Why, Stack, Pick, Who, arm_at, arm_of, both_of, integer_at, integer_of}
+use Rattle.pb_debug_commands.specs.Commands.{Help, Circle, Arms, Line, Text, Why, Stack, Pick, Does, Who, arm_at, arm_of, both_of, integer_at, integer_of}
 use Rattle.pb_debug_commands.specs.Commands.{stop_at, stop_from, stop_of, command_of, looks_like_name, keyed, mark_of, number_of}
 use Rattle.pb_debug_commands.specs.Commands.{parted, said_by, trimmed, word_of}
 use Rattle.pb_debug_commands.specs.Spellings.{CommandsBySpelling, IsOneStep, IsProper, command_spelling}
@@ -407,7 +407,10 @@ module _ (key word : List ℕ) (c : Command) where
                                   | inl s ↦ armed (codes "stack") (λ p. Stack p.0 p.1) (λ x. refl) (λ x e lt. (e, lt)) s.0 s.1
                                   | inr h ↦ elim (chosen (bytes_eq key (codes "pick")) _ _ c h) [
                                     | inl s ↦ armed (codes "pick") (λ p. Pick p.0 p.1) (λ x. refl) (λ x e lt. (e, lt)) s.0 s.1
-                                    | inr h ↦ absurd cc
+                                    | inr h ↦ elim (chosen (bytes_eq key (codes "does")) _ _ c h) [
+                                      | inl s ↦ armed (codes "does") (λ p. Does p.0 p.1) (λ x. refl) (λ x e lt. (e, lt)) s.0 s.1
+                                      | inr h ↦ absurd cc
+                                    ]
                                   ]
                                 ]
                               ]
@@ -461,13 +464,16 @@ says_what line c h =
             | inl l ↦ alone line (codes "help") Help c l.0 l.1 refl tt
             | inr p ↦ elim (chosen (bytes_eq line (codes "circle")) _ _ c p) [
               | inl l ↦ alone line (codes "circle") Circle c l.0 l.1 refl tt
-              | inr p ↦ elim (chosen (bytes_eq line (codes "step")) _ _ c p) [
-                | inl l ↦ once line (codes "step") (Step 1) c l.0 l.1 (omega arith) (λ e. inl (e, refl))
-                | inr p ↦ elim (chosen (bytes_eq line (codes "back")) _ _ c p) [
-                  | inl l ↦ once line (codes "back") (Back 1) c l.0 l.1 (omega arith) (λ e. inr (e, refl))
-                  | inr p ↦ (
-                      let r = parted_is line (first_at 32 line) c refl (subst (λ (o : Option ℕ). parted line o ≡ Some c) (position_is 32 line) p) in
-                      (inl r.0, r.1))
+              | inr p ↦ elim (chosen (bytes_eq line (codes "arms")) _ _ c p) [
+                | inl l ↦ alone line (codes "arms") Arms c l.0 l.1 refl tt
+                | inr p ↦ elim (chosen (bytes_eq line (codes "step")) _ _ c p) [
+                  | inl l ↦ once line (codes "step") (Step 1) c l.0 l.1 (omega arith) (λ e. inl (e, refl))
+                  | inr p ↦ elim (chosen (bytes_eq line (codes "back")) _ _ c p) [
+                    | inl l ↦ once line (codes "back") (Back 1) c l.0 l.1 (omega arith) (λ e. inr (e, refl))
+                    | inr p ↦ (
+                        let r = parted_is line (first_at 32 line) c refl (subst (λ (o : Option ℕ). parted line o ≡ Some c) (position_is 32 line) p) in
+                        (inl r.0, r.1))
+                  ]
                 ]
               ]
             ]
@@ -480,50 +486,54 @@ says_what line c h =
 
 said_short : (line : List ℕ) (c : Command) → bytes_eq line (codes "loans") ≡ false
     → bytes_eq line (codes "next") ≡ false → bytes_eq line (codes "prev") ≡ false → bytes_eq line (codes "help") ≡ false
-    → bytes_eq line (codes "circle") ≡ false → bytes_eq line (codes "step") ≡ false → bytes_eq line (codes "back") ≡ false
-    → parted line (first_at 32 line) ≡ Some c → said_by line ≡ Some c
+    → bytes_eq line (codes "circle") ≡ false → bytes_eq line (codes "arms") ≡ false → bytes_eq line (codes "step") ≡ false
+    → bytes_eq line (codes "back") ≡ false → parted line (first_at 32 line) ≡ Some c → said_by line ≡ Some c
 unfolding said_by
-said_short line c loans next prev help circle step back h =
+said_short line c loans next prev help circle arms step back h =
     let p : parted line (position (λ b. eqb b 32) line) ≡ Some c = ap (parted line) (position_is 32 line) ∙ h in
-    rw (loans, next, prev, help, circle, step, back, p) refl
+    rw (loans, next, prev, help, circle, arms, step, back, p) refl
 
 said_again : (c : Command) → IsProper c → said_by (command_spelling c) ≡ Some c
 unfolding said_by keyed
-said_again (To n) lt = said_short (command_spelling (To n)) (To n) refl refl refl refl refl refl refl (ap (option_map To) (number_again n lt))
-said_again (Step n) lt = said_short (command_spelling (Step n)) (Step n) refl refl refl refl refl refl refl (ap (option_map Step) (number_again n lt))
-said_again (Back n) lt = said_short (command_spelling (Back n)) (Back n) refl refl refl refl refl refl refl (ap (option_map Back) (number_again n lt))
-said_again (Mark n) lt = said_short (command_spelling (Mark n)) (Mark n) refl refl refl refl refl refl refl (ap (option_map Mark) (mark_again n lt))
-said_again (Vars p) word = said_short (command_spelling (Vars p)) (Vars p) refl refl refl refl refl refl refl (ap (option_map Vars) (word_again p word))
+said_again (To n) lt = said_short (command_spelling (To n)) (To n) refl refl refl refl refl refl refl refl (ap (option_map To) (number_again n lt))
+said_again (Step n) lt = said_short (command_spelling (Step n)) (Step n) refl refl refl refl refl refl refl refl (ap (option_map Step) (number_again n lt))
+said_again (Back n) lt = said_short (command_spelling (Back n)) (Back n) refl refl refl refl refl refl refl refl (ap (option_map Back) (number_again n lt))
+said_again (Mark n) lt = said_short (command_spelling (Mark n)) (Mark n) refl refl refl refl refl refl refl refl (ap (option_map Mark) (mark_again n lt))
+said_again (Vars p) word = said_short (command_spelling (Vars p)) (Vars p) refl refl refl refl refl refl refl refl (ap (option_map Vars) (word_again p word))
 said_again (Threads p) word =
-    said_short (command_spelling (Threads p)) (Threads p) refl refl refl refl refl refl refl (ap (option_map Threads) (word_again p word))
+    said_short (command_spelling (Threads p)) (Threads p) refl refl refl refl refl refl refl refl (ap (option_map Threads) (word_again p word))
 said_again (Fault p) word =
-    said_short (command_spelling (Fault p)) (Fault p) refl refl refl refl refl refl refl (ap (option_map Fault) (word_again p word))
+    said_short (command_spelling (Fault p)) (Fault p) refl refl refl refl refl refl refl refl (ap (option_map Fault) (word_again p word))
 said_again (Wrote p x) proper =
-    said_short (command_spelling (Wrote p x)) (Wrote p x) refl refl refl refl refl refl refl
+    said_short (command_spelling (Wrote p x)) (Wrote p x) refl refl refl refl refl refl refl refl
     (ap (option_map (λ (y : IntegerWord). Wrote y.0 y.1)) (integer_again p x proper.0 proper.1))
 said_again (Until p a n) proper =
-    said_short (command_spelling (Until p a n)) (Until p a n) refl refl refl refl refl refl refl (stop_again p a n proper.0 proper.1 proper.2)
+    said_short (command_spelling (Until p a n)) (Until p a n) refl refl refl refl refl refl refl refl (stop_again p a n proper.0 proper.1 proper.2)
 said_again Loans proper = refl
 said_again Circle proper = refl
+said_again Arms proper = refl
 said_again Next proper = refl
 said_again Prev proper = refl
 said_again Help proper = refl
-said_again (Who r) word = said_short (command_spelling (Who r)) (Who r) refl refl refl refl refl refl refl (ap (option_map Who) (word_again r word))
+said_again (Who r) word = said_short (command_spelling (Who r)) (Who r) refl refl refl refl refl refl refl refl (ap (option_map Who) (word_again r word))
 said_again (Line p a) proper =
-    said_short (command_spelling (Line p a)) (Line p a) refl refl refl refl refl refl refl
+    said_short (command_spelling (Line p a)) (Line p a) refl refl refl refl refl refl refl refl
     (ap (option_map (λ (x : ArmWord). Line x.0 x.1)) (arm_again p a proper.0 proper.1))
 said_again (Text p a) proper =
-    said_short (command_spelling (Text p a)) (Text p a) refl refl refl refl refl refl refl
+    said_short (command_spelling (Text p a)) (Text p a) refl refl refl refl refl refl refl refl
     (ap (option_map (λ (x : ArmWord). Text x.0 x.1)) (arm_again p a proper.0 proper.1))
 said_again (Why p a) proper =
-    said_short (command_spelling (Why p a)) (Why p a) refl refl refl refl refl refl refl
+    said_short (command_spelling (Why p a)) (Why p a) refl refl refl refl refl refl refl refl
     (ap (option_map (λ (x : ArmWord). Why x.0 x.1)) (arm_again p a proper.0 proper.1))
 said_again (Stack p a) proper =
-    said_short (command_spelling (Stack p a)) (Stack p a) refl refl refl refl refl refl refl
+    said_short (command_spelling (Stack p a)) (Stack p a) refl refl refl refl refl refl refl refl
     (ap (option_map (λ (x : ArmWord). Stack x.0 x.1)) (arm_again p a proper.0 proper.1))
 said_again (Pick p a) proper =
-    said_short (command_spelling (Pick p a)) (Pick p a) refl refl refl refl refl refl refl
+    said_short (command_spelling (Pick p a)) (Pick p a) refl refl refl refl refl refl refl refl
     (ap (option_map (λ (x : ArmWord). Pick x.0 x.1)) (arm_again p a proper.0 proper.1))
+said_again (Does p a) proper =
+    said_short (command_spelling (Does p a)) (Does p a) refl refl refl refl refl refl refl refl
+    (ap (option_map (λ (x : ArmWord). Does x.0 x.1)) (arm_again p a proper.0 proper.1))
 
 said_once : (line : List ℕ) (c : Command) → IsOneStep line c → said_by line ≡ Some c
 unfolding said_by

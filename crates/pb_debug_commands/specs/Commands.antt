@@ -14,9 +14,9 @@ pub data Command : Type 0 where
   Vars Threads Fault : (process : List ℕ) → Command
   Wrote : (process integer : List ℕ) → Command
   Until : (process : List ℕ) (arm line : ℕ) → Command
-  Loans Circle Next Prev Help : Command
+  Loans Circle Arms Next Prev Help : Command
   Who : (resource : List ℕ) → Command
-  Line Text Why Stack Pick : (process : List ℕ) (arm : ℕ) → Command
+  Line Text Why Stack Pick Does : (process : List ℕ) (arm : ℕ) → Command
 
 -- one to eight digits, with no zero before others
 abbrev pub number_of : List ℕ → Option ℕ
@@ -94,7 +94,8 @@ keyed key word =
     cond (bytes_eq key (codes "why")) (option_map (λ p. Why p.0 p.1) (arm_of word)) (
     cond (bytes_eq key (codes "who")) (option_map Who (word_of word)) (
     cond (bytes_eq key (codes "stack")) (option_map (λ p. Stack p.0 p.1) (arm_of word)) (
-    cond (bytes_eq key (codes "pick")) (option_map (λ p. Pick p.0 p.1) (arm_of word)) None))))))))))))))
+    cond (bytes_eq key (codes "pick")) (option_map (λ p. Pick p.0 p.1) (arm_of word)) (
+    cond (bytes_eq key (codes "does")) (option_map (λ p. Does p.0 p.1) (arm_of word)) None)))))))))))))))
 
 -- the command of a line, by where its first space is
 abbrev pub parted : List ℕ → Option ℕ → Option Command
@@ -119,8 +120,9 @@ said_by line =
     cond (bytes_eq line (codes "prev")) (Some Prev) (
     cond (bytes_eq line (codes "help")) (Some Help) (
     cond (bytes_eq line (codes "circle")) (Some Circle) (
+    cond (bytes_eq line (codes "arms")) (Some Arms) (
     cond (bytes_eq line (codes "step")) (Some (Step 1)) (
-    cond (bytes_eq line (codes "back")) (Some (Back 1)) (parted line (position (λ b. b == 32) line))))))))
+    cond (bytes_eq line (codes "back")) (Some (Back 1)) (parted line (position (λ b. b == 32) line)))))))))
 
 -- the command of a line without its line feed, of at most 256 bytes
 unfoldable pub command_of : List ℕ → Option Command

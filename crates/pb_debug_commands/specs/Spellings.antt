@@ -2,7 +2,7 @@
 use Rattle.std.specs.Prelude.{◌≡◌, ◌↔◌, ◌⊎◌, ℕ, ◌<◌, ◌≤◌, true, List, ◌∷◌, ◌++◌, length, codes, Some, ⊤}
 use Rattle.std.specs.Fmt.{decimal}
 use Rattle.pb_debug_commands.specs.Commands.{Command, To, Step, Back, Mark, Vars, Threads, Fault, Wrote, Until, Loans, Next, Prev}
-use Rattle.pb_debug_commands.specs.Commands.{Help, Circle, Line, Text, Why, Stack, Pick, Who, command_of, looks_like_name, trimmed}
+use Rattle.pb_debug_commands.specs.Commands.{Help, Circle, Arms, Line, Text, Why, Stack, Pick, Does, Who, command_of, looks_like_name, trimmed}
 
 -- the bytes of a command: a word, and behind a space a number, a name, or a process and an arm with a point
 -- between
@@ -18,6 +18,7 @@ command_spelling (Wrote process integer) = codes "wrote " ++ (process ++ 32 ∷ 
 command_spelling (Until process arm n) = codes "until " ++ ((process ++ 46 ∷ decimal arm) ++ 32 ∷ decimal n)
 command_spelling Loans = codes "loans"
 command_spelling Circle = codes "circle"
+command_spelling Arms = codes "arms"
 command_spelling Next = codes "next"
 command_spelling Prev = codes "prev"
 command_spelling Help = codes "help"
@@ -27,6 +28,7 @@ command_spelling (Text process arm) = codes "text " ++ (process ++ 46 ∷ decima
 command_spelling (Why process arm) = codes "why " ++ (process ++ 46 ∷ decimal arm)
 command_spelling (Stack process arm) = codes "stack " ++ (process ++ 46 ∷ decimal arm)
 command_spelling (Pick process arm) = codes "pick " ++ (process ++ 46 ∷ decimal arm)
+command_spelling (Does process arm) = codes "does " ++ (process ++ 46 ∷ decimal arm)
 
 -- its numbers have at most eight digits, but that a mark is up to 4294967295, and its names look like names
 abbrev pub IsProper : Command → Type 0
@@ -41,6 +43,7 @@ IsProper (Wrote process integer) = (looks_like_name process ≡ true) × (looks_
 IsProper (Until process arm n) = (looks_like_name process ≡ true) × (arm < 100000000) × (n < 100000000)
 IsProper Loans = ⊤
 IsProper Circle = ⊤
+IsProper Arms = ⊤
 IsProper Next = ⊤
 IsProper Prev = ⊤
 IsProper Help = ⊤
@@ -50,6 +53,7 @@ IsProper (Text process arm) = (looks_like_name process ≡ true) × (arm < 10000
 IsProper (Why process arm) = (looks_like_name process ≡ true) × (arm < 100000000)
 IsProper (Stack process arm) = (looks_like_name process ≡ true) × (arm < 100000000)
 IsProper (Pick process arm) = (looks_like_name process ≡ true) × (arm < 100000000)
+IsProper (Does process arm) = (looks_like_name process ≡ true) × (arm < 100000000)
 
 -- one step, without its number
 abbrev pub IsOneStep : List ℕ → Command → Type 0

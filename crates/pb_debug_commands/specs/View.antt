@@ -5,7 +5,7 @@ use Rattle.pb_debug_commands.specs.declared.command.Command.TheVariants as given
 use Rattle.pb_debug_commands.specs.declared.words.ArmWord.{ArmWord}
 use Rattle.pb_debug_commands.specs.declared.words.IntegerWord.{IntegerWord}
 use Rattle.pb_debug_commands.specs.Commands.{Command, To, Step, Back, Mark, Vars, Threads, Fault, Wrote, Until, Loans, Next, Prev}
-use Rattle.pb_debug_commands.specs.Commands.{Help, Circle, Line, Text, Why, Stack, Pick, Who}
+use Rattle.pb_debug_commands.specs.Commands.{Help, Circle, Arms, Line, Text, Why, Stack, Pick, Does, Who}
 
 -- an arm of a process
 abbrev pub arm_view : ArmWord → List ℕ × ℕ
@@ -28,6 +28,7 @@ command_view (given.Wrote word) = Wrote word.process.now word.integer.now
 command_view (given.Until word) = Until word.process.now word.arm word.line
 command_view given.Loans = Loans
 command_view given.Circle = Circle
+command_view given.Arms = Arms
 command_view given.Next = Next
 command_view given.Prev = Prev
 command_view given.Help = Help
@@ -37,3 +38,4 @@ command_view (given.Text word) = Text word.process.now word.arm
 command_view (given.Why word) = Why word.process.now word.arm
 command_view (given.Stack word) = Stack word.process.now word.arm
 command_view (given.Pick word) = Pick word.process.now word.arm
+command_view (given.Does word) = Does word.process.now word.arm

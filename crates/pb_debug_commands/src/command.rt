@@ -35,6 +35,8 @@ pub enum Command<'t> {
     Loans,
     /// `circle`
     Circle,
+    /// `arms`
+    Arms,
     /// `next`
     Next,
     /// `prev`
@@ -53,6 +55,8 @@ pub enum Command<'t> {
     Stack(ArmWord<'t>),
     /// `pick P.a`
     Pick(ArmWord<'t>),
+    /// `does P.a`
+    Does(ArmWord<'t>),
 }
 
 /// The most bytes of a command.
@@ -82,7 +86,8 @@ fn keyed_arm<'t>(key: &[u8], word: &'t [u8]) -> Option<Command<'t>>
         cond (bytes_eq key.now (codes "why")) (option_map (λ p. spec.Why p.0 p.1) (spec.arm_of word.entry.now)) (
         cond (bytes_eq key.now (codes "who")) (option_map spec.Who (spec.word_of word.entry.now)) (
         cond (bytes_eq key.now (codes "stack")) (option_map (λ p. spec.Stack p.0 p.1) (spec.arm_of word.entry.now)) (
-        cond (bytes_eq key.now (codes "pick")) (option_map (λ p. spec.Pick p.0 p.1) (spec.arm_of word.entry.now)) None))))) }
+        cond (bytes_eq key.now (codes "pick")) (option_map (λ p. spec.Pick p.0 p.1) (spec.arm_of word.entry.now)) (
+        cond (bytes_eq key.now (codes "does")) (option_map (λ p. spec.Does p.0 p.1) (spec.arm_of word.entry.now)) None)))))) }
 {
     if is(key, "line") {
         Some(Command::Line(arm_word(word)?))
@@ -96,6 +101,8 @@ fn keyed_arm<'t>(key: &[u8], word: &'t [u8]) -> Option<Command<'t>>
         Some(Command::Stack(arm_word(word)?))
     } else if is(key, "pick") {
         Some(Command::Pick(arm_word(word)?))
+    } else if is(key, "does") {
+        Some(Command::Does(arm_word(word)?))
     } else {
         None
     }
@@ -114,7 +121,8 @@ fn keyed_name<'t>(key: &[u8], word: &'t [u8]) -> Option<Command<'t>>
         cond (bytes_eq key.now (codes "why")) (option_map (λ p. spec.Why p.0 p.1) (spec.arm_of word.entry.now)) (
         cond (bytes_eq key.now (codes "who")) (option_map spec.Who (spec.word_of word.entry.now)) (
         cond (bytes_eq key.now (codes "stack")) (option_map (λ p. spec.Stack p.0 p.1) (spec.arm_of word.entry.now)) (
-        cond (bytes_eq key.now (codes "pick")) (option_map (λ p. spec.Pick p.0 p.1) (spec.arm_of word.entry.now)) None)))))))))) }
+        cond (bytes_eq key.now (codes "pick")) (option_map (λ p. spec.Pick p.0 p.1) (spec.arm_of word.entry.now)) (
+        cond (bytes_eq key.now (codes "does")) (option_map (λ p. spec.Does p.0 p.1) (spec.arm_of word.entry.now)) None))))))))))) }
 {
     if is(key, "vars") {
         Some(Command::Vars(name_word(word)?))
@@ -175,6 +183,9 @@ fn said_by(line: &[u8]) -> Option<Command>
     }
     if is(line, "circle") {
         return Some(Command::Circle);
+    }
+    if is(line, "arms") {
+        return Some(Command::Arms);
     }
     if is(line, "step") {
         return Some(Command::Step(1));

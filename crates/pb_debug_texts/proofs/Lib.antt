@@ -1,3 +1,6 @@
 pub mod Asking
+pub mod ComingAbout
 pub mod EachNumber
+pub mod Pieces
 pub mod ResourceTexts
+pub mod Tops

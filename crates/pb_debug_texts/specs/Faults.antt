@@ -33,14 +33,14 @@ binary_text AtLeast = codes ">="
 binary_text And = codes "and"
 binary_text Or = codes "or"
 
--- the operator before an operand, and between two, that an instruction is
-abbrev pub word_before : Instr → Option (List ℕ)
-word_before (Compute1 op) = Some (unary_text op)
-word_before instr = None
+-- the operator on one number, and on two, that an instruction is
+abbrev pub unary_of : Instr → Option UnaryOp
+unary_of (Compute1 op) = Some op
+unary_of instr = None
 
-abbrev pub word_between : Instr → Option (List ℕ)
-word_between (Compute2 op) = Some (binary_text op)
-word_between instr = None
+abbrev pub binary_of : Instr → Option BinaryOp
+binary_of (Compute2 op) = Some op
+binary_of instr = None
 
 -- ` OP V`, with the operand on top of the stack
 abbrev pub before_text : List ℕ → (stack : List ℤ) → List ℕ
@@ -54,15 +54,15 @@ between_text word (w ∷ []) = []
 between_text word (w ∷ v ∷ stack) = codes " " ++ signed_decimal v ++ codes " " ++ word ++ codes " " ++ signed_decimal w
 
 -- an operator with its operands; nothing of any other instruction
-abbrev pub applied_text : (before between : Option (List ℕ)) → (stack : List ℤ) → List ℕ
-applied_text (Some word) between stack = before_text word stack
-applied_text None (Some word) stack = between_text word stack
+abbrev pub applied_text : Option UnaryOp → Option BinaryOp → (stack : List ℤ) → List ℕ
+applied_text (Some op) between stack = before_text (unary_text op) stack
+applied_text None (Some op) stack = between_text (binary_text op) stack
 applied_text None None stack = []
 
 -- that of the instruction, if there is one
 abbrev pub operation_text : Option Instr → (stack : List ℤ) → List ℕ
 operation_text None stack = []
-operation_text (Some instr) stack = applied_text (word_before instr) (word_between instr) stack
+operation_text (Some instr) stack = applied_text (unary_of instr) (binary_of instr) stack
 
 -- the instruction at which an arm is, if it is live
 abbrev pub instr_of : ProcessCode → Thread → Option Instr

@@ -1,4 +1,5 @@
 pub mod Circles
+pub mod Does
 pub mod Faults
 pub mod Reasons
 pub mod Resources

@@ -53,7 +53,7 @@ help_text =
     line (codes "to I") ++ line (codes "step N") ++ line (codes "back N") ++ line (codes "next") ++ line (codes "prev")
     ++ line (codes "vars P") ++ line (codes "wrote P X") ++ line (codes "until P.a N") ++ line (codes "threads P")
     ++ line (codes "fault P") ++ line (codes "loans") ++ line (codes "who R") ++ line (codes "circle")
-    ++ line (codes "line P.a") ++ line (codes "text P.a") ++ line (codes "why P.a")
+    ++ line (codes "arms") ++ line (codes "line P.a") ++ line (codes "text P.a") ++ line (codes "does P.a") ++ line (codes "why P.a")
     ++ line (codes "stack P.a") ++ line (codes "pick P.a") ++ line (codes "mark N") ++ line (codes "help")
 
 -- `NAME V`

@@ -8,46 +8,14 @@ ghost use Rattle.pb_debug_texts.specs.Faults as said;
 ghost use Rattle.pb_debug_texts.specs.Texts.{number_text};
 ghost use Rattle.pb_machine.specs.Views.{operands_of_thread, thread_view};
 
+use crate::operators::{binary_of, binary_word, unary_of, unary_word};
 use pb_base::writing::{put, put_name, put_number, put_pick};
 use pb_base::{Names, NoMemory, Pick};
 use pb_code::{Instr, ProcessCode};
 use pb_machine::Thread;
 
-/// Returns the operator before an operand that an instruction is, as a text writes it.
-fn word_before(instr: Instr) -> Option<&'static str>
-    ensures { (bundles : List Bundle) → option_map (λ word. word.now) result ≡ said.word_before (instr_view bundles instr) }
-{
-    match instr {
-        Instr::Neg => Some("-"),
-        Instr::Not => Some("not"),
-        _ => None,
-    }
-}
-
-/// Returns the operator between two operands that an instruction is, as a text writes it.
-fn word_between(instr: Instr) -> Option<&'static str>
-    ensures { (bundles : List Bundle) → option_map (λ word. word.now) result ≡ said.word_between (instr_view bundles instr) }
-{
-    match instr {
-        Instr::Add => Some("+"),
-        Instr::Sub => Some("-"),
-        Instr::Mul => Some("*"),
-        Instr::Div => Some("div"),
-        Instr::Mod => Some("mod"),
-        Instr::Eq => Some("="),
-        Instr::Ne => Some("<>"),
-        Instr::Lt => Some("<"),
-        Instr::Le => Some("<="),
-        Instr::Gt => Some(">"),
-        Instr::Ge => Some(">="),
-        Instr::And => Some("and"),
-        Instr::Or => Some("or"),
-        _ => None,
-    }
-}
-
 /// Appends an operator and the last of the operands to a text.
-fn put_before(text: &mut Vec<u8>, word: &str, operands: &[i64]) -> Result<(), NoMemory>
+pub(crate) fn put_before(text: &mut Vec<u8>, word: &str, operands: &[i64]) -> Result<(), NoMemory>
     ensures { OnOk result (text.new.items ≡ text.old.items ++ said.before_text word.now (reverse operands.now)) }
 {
     let count = operands.len();
@@ -59,7 +27,7 @@ fn put_before(text: &mut Vec<u8>, word: &str, operands: &[i64]) -> Result<(), No
 }
 
 /// Appends an operator between the last two of the operands to a text.
-fn put_between(text: &mut Vec<u8>, word: &str, operands: &[i64]) -> Result<(), NoMemory>
+pub(crate) fn put_between(text: &mut Vec<u8>, word: &str, operands: &[i64]) -> Result<(), NoMemory>
     ensures { OnOk result (text.new.items ≡ text.old.items ++ said.between_text word.now (reverse operands.now)) }
 {
     let count = operands.len();
@@ -81,11 +49,11 @@ fn put_applied(text: &mut Vec<u8>, instr: Option<Instr>, operands: &[i64]) -> Re
     let Some(instr) = instr else {
         return Ok(());
     };
-    if let Some(word) = word_before(instr) {
-        return put_before(text, word, operands);
+    if let Some(op) = unary_of(instr) {
+        return put_before(text, unary_word(op), operands);
     }
-    match word_between(instr) {
-        Some(word) => put_between(text, word, operands),
+    match binary_of(instr) {
+        Some(op) => put_between(text, binary_word(op), operands),
         None => Ok(()),
     }
 }

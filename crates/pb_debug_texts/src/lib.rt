@@ -2,14 +2,19 @@
 #![tactic(auto)]
 
 mod circle;
+mod does;
 mod fault;
 pub mod laws;
+mod listed;
+mod operators;
 mod source;
 mod text;
+mod values;
 mod who;
 mod why;
 
 pub use circle::put_circle;
+pub use does::{Labelled, put_does};
 pub use fault::{put_fault, put_no_fault};
 pub use source::put_source;
 pub use text::{

@@ -111,7 +111,7 @@ pub fn put_help(text: &mut Vec<u8>) -> Result<(), NoMemory>
 {
     put(
         text,
-        b"to I\nstep N\nback N\nnext\nprev\nvars P\nwrote P X\nuntil P.a N\nthreads P\nfault P\nloans\nwho R\ncircle\nline P.a\ntext P.a\nwhy P.a\nstack P.a\npick P.a\nmark N\nhelp\n",
+        b"to I\nstep N\nback N\nnext\nprev\nvars P\nwrote P X\nuntil P.a N\nthreads P\nfault P\nloans\nwho R\ncircle\narms\nline P.a\ntext P.a\ndoes P.a\nwhy P.a\nstack P.a\npick P.a\nmark N\nhelp\n",
     )
 }
 

@@ -51,6 +51,10 @@ process b begin hold 1 of t do print 2 od end";
 const ARMS: &[u8] =
     b"process p begin integer x, y; x := -7; parbegin print x; y := x div 0 parend end";
 
+/// A loop.
+const LOOP: &[u8] = b"process p begin integer x; while x < 1 do
+x := x + 1 od end";
+
 /// A text, picks, commands and their answers.
 struct Case {
     text: &'static [u8],
@@ -59,7 +63,7 @@ struct Case {
     said: &'static [u8],
 }
 
-const CASES: [Case; 10] = [
+const CASES: [Case; 15] = [
     Case {
         text: DEVICES,
         picks: &[A],
@@ -112,13 +116,43 @@ const CASES: [Case; 10] = [
         text: TWICE,
         picks: &[A, A, A, A, A],
         commands: b"until p.0 2\nuntil p.0 2\nback 2\nprev\nnext\nnext\nnext\nnext\nprev\nprev\nprev\nhelp\n",
-        said: b"at 2\nnot reached\nat 0\nno event\nat 2 p.0 print 1\nat 4 p.0 print 2\nat 5 p end\nno event\nat 4 p.0 print 2\nat 2 p.0 print 1\nno event\nto I\nstep N\nback N\nnext\nprev\nvars P\nwrote P X\nuntil P.a N\nthreads P\nfault P\nloans\nwho R\ncircle\nline P.a\ntext P.a\nwhy P.a\nstack P.a\npick P.a\nmark N\nhelp\n",
+        said: b"at 2\nnot reached\nat 0\nno event\nat 2 p.0 print 1\nat 4 p.0 print 2\nat 5 p end\nno event\nat 4 p.0 print 2\nat 2 p.0 print 1\nno event\nto I\nstep N\nback N\nnext\nprev\nvars P\nwrote P X\nuntil P.a N\nthreads P\nfault P\nloans\nwho R\ncircle\narms\nline P.a\ntext P.a\ndoes P.a\nwhy P.a\nstack P.a\npick P.a\nmark N\nhelp\n",
     },
     Case {
         text: PRINT,
         picks: &[A],
         commands: b"vars q\nline q.0\nvars 1\n\nto 01\nto 123456789\nto 12345678\nwhy p\nstep -1\n to 1\nto 1 \nloans p\nvars p\nstep 0\n",
         said: b"refused G2\nrefused G2\nrefused G4\nrefused G4\nrefused G4\nrefused G4\nrefused G1\nrefused G4\nrefused G4\nrefused G4\nat 1\nrefused G4\nat 1\n",
+    },
+    Case {
+        text: ARMS,
+        picks: &[A, A, A, A, SECOND, SECOND, SECOND],
+        commands: b"does p.0\nstep\ndoes p.0\nstep\ndoes p.0\nstep\ndoes p.0\narms\nstep\ndoes p.0\narms\nstep\ndoes p.2\nstep\ndoes p.2\ndoes p.1\nstep\ndoes p.0\narms\nto 0\ndoes p.1\ndoes q.0\ndoes p.3\ndoes p\ndoes\narms p\n",
+        said: b"p.0 line 1: takes the number 7\nat 1\np.0 line 1: computes - 7: -7\nat 2\np.0 line 1: assigns -7 to x (it was 0)\nat 3\np.0 line 1: starts p.1 and p.2\np.0 line 1: starts p.1 and p.2\nat 4\np.0 line 1: waits for p.1 and p.2\np.1 line 1: reads x (-7)\np.2 line 1: reads x (-7)\np.0 line 1: waits for p.1 and p.2\nat 5\np.2 line 1: takes the number 0\nat 6\np.2 line 1: faults (divide): -7 div 0\np.1 line 1: reads x (-7)\nat 7\np.0: faulted\nat 0\np.1: idle\nrefused G2\nrefused G3\nrefused G4\nrefused G4\nrefused G4\n",
+    },
+    Case {
+        text: DEVICES,
+        picks: &[A],
+        commands: b"arms\nto 1\narms\ndoes b.0\n",
+        said: b"a.0 line 2: asks for 1 tape\nb.0 line 3: asks for 1 disk\nat 1\na.0 line 2: asks for 1 disk\nb.0 line 3: asks for 1 disk, and waits: it is there, but if it were granted none of these could be sure to finish: a b\nb.0 line 3: asks for 1 disk, and waits: it is there, but if it were granted none of these could be sure to finish: a b\n",
+    },
+    Case {
+        text: CASH,
+        picks: &[B],
+        commands: b"to 1\narms\n",
+        said: b"at 1\nb.0 line 3: gives back 1 t\na.0 line 2: asks for 1 t, and waits: only 0 of t is there\n",
+    },
+    Case {
+        text: BOTH,
+        picks: &[A, FIRST, FIRST, SECOND, SECOND, FIRST, SECOND],
+        commands: b"to 1\narms\nto 2\narms\nto 5\narms\nstep\ndoes p.0\nstep\ndoes p.0\n",
+        said: b"at 1\np.1 line 2: asks for 2 t and 1 d\np.2 line 2: asks for 4 d\nq.0 line 3: asks for 1 t\np.0 line 2: waits for p.1 and p.2\nat 2\np.1 line 2: gives back 2 t and 1 d\np.2 line 2: asks for 4 d\nq.0 line 3: asks for 1 t\np.0 line 2: waits for p.1 and p.2\nat 5\np.1: ends\np.2: ends\nq.0 line 3: asks for 1 t\np.0 line 2: waits for p.1 and p.2\nat 6\np.0 line 2: waits for p.2\nat 7\np.0 line 2: goes on after p.1 and p.2\n",
+    },
+    Case {
+        text: LOOP,
+        picks: &[A, A, A, A, A, A, A, A, A, A, A, A],
+        commands: b"to 2\ndoes p.0\nstep\ndoes p.0\nto 7\ndoes p.0\nstep\ndoes p.0\nto 12\ndoes p.0\n",
+        said: b"at 2\np.0 line 1: computes 0 < 1: 1\nat 3\np.0 line 1: tests 1, which is true, and goes on at line 2\nat 7\np.0 line 2: assigns 1 to x (it was 0)\nat 8\np.0 line 1: goes on at line 1\nat 12\np.0 line 1: tests 0, which is false, and goes on to the end\n",
     },
 ];
 

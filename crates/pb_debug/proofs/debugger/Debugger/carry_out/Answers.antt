@@ -59,6 +59,18 @@ returns-in-Who-clause-answer c =
     on_ok c.say_who.result _ _ c.say_who.ensures
     (λ s. (s.0, subst (λ (k : Command). AnswersCommand d k s.0 d) (sym (ap command_view c.in-Who.is)) (s.1, refl), s.2))
 
+pub returns-in-Arms-clause-answer : goal.returns-in-Arms-clause-answer
+returns-in-Arms-clause-answer c =
+    let d = c.args.self.now in
+    on_ok c.say_arms.result _ _ c.say_arms.ensures
+    (λ s. (s.0, subst (λ (k : Command). AnswersCommand d k s.0 d) (sym (ap command_view c.in-Arms.is)) (s.1, refl), s.2))
+
+pub returns-in-Does-clause-answer : goal.returns-in-Does-clause-answer
+returns-in-Does-clause-answer c =
+    let d = c.args.self.now in
+    on_ok c.say_does.result _ _ c.say_does.ensures
+    (λ s. (s.0, subst (λ (k : Command). AnswersCommand d k s.0 d) (sym (ap command_view c.in-Does.is)) (s.1, refl), s.2))
+
 pub returns-in-Circle-clause-answer : goal.returns-in-Circle-clause-answer
 returns-in-Circle-clause-answer c =
     let d = c.args.self.now in
