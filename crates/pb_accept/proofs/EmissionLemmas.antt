@@ -50,7 +50,7 @@ is_second seen code given labels known (Ok v) same same_labels spells =
 is_second seen code given labels known (Err e) same same_labels spells = tt
 
 pub is_beyond : (code given : Code) → given ≡ code → ¬ FitsFirst given → IsBeyond One code
-is_beyond code given same beyond = (refl, subst (λ (c : Code). ¬ FitsFirst c) same beyond)
+is_beyond code given same none = (refl, subst (λ (c : Code). ¬ FitsFirst c) same none)
 
 -- ---- what is told
 

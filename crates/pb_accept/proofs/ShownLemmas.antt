@@ -1,8 +1,9 @@
 -- What is said of an event, piece by piece.
-use Rattle.std.proofs.Common.{◌≡◌, ◌+◌, ◌-◌, ◌<◌, ◌≤◌, ◌++◌, ℕ, zero, suc, List, [], ◌∷◌, length, map, get_or, Some, refl, sym, ap, ◌∙◌, subst, arith}
+use Rattle.std.proofs.Common.{◌≡◌, ◌⊎◌, ◌+◌, ◌<◌, ◌≤◌, ◌++◌, inl, inr, ℕ, zero, suc, List, [], ◌∷◌, length, map, get_or, Some, refl, sym, ap, ◌∙◌, subst, arith}
 use Rattle.std.proofs.Common.{append_assoc, append-nil}
 use Rattle.std.specs.List.{concat}
 use Rattle.std.specs.Prelude.{slice_get}
+use Rattle.std.proofs.lemmas.Bool.{cases_order}
 use Rattle.std.proofs.lemmas.List.{get_or-map, get_or_past, length-map}
 use Rattle.std.proofs.lemmas.Option.{get_or_from_slice_get, slice_get_within}
 use Rattle.pb_accept.specs.EventObjects.{pair_at, pair_json}
@@ -51,12 +52,13 @@ behind_all (x ∷ xs) rest = append_assoc x (concat xs) rest ∙ ap (λ (l : Lis
 
 -- the line of a bundle
 pub bundle_line : (name arm word pairs : List ℕ)
-    → line ((name ++ (46 ∷ arm)) ++ (word ++ pairs)) ≡ concat (name ∷ (46 ∷ []) ∷ arm ∷ word ∷ []) ++ (pairs ++ 10 ∷ [])
+    → line ((((name ++ 46 ∷ []) ++ arm) ++ word) ++ pairs) ≡ concat (name ∷ (46 ∷ []) ∷ arm ∷ word ∷ []) ++ (pairs ++ 10 ∷ [])
 bundle_line name arm word pairs =
-    append_assoc (name ++ (46 ∷ arm)) (word ++ pairs) (10 ∷ [])
-    ∙ (append_assoc name (46 ∷ arm) ((word ++ pairs) ++ 10 ∷ [])
-    ∙ (ap (λ (l : List ℕ). name ++ (46 ∷ (arm ++ l))) (append_assoc word pairs (10 ∷ []))
-    ∙ sym (behind_all (name ∷ (46 ∷ []) ∷ arm ∷ word ∷ []) (pairs ++ 10 ∷ []))))
+    append_assoc (((name ++ 46 ∷ []) ++ arm) ++ word) pairs (10 ∷ [])
+    ∙ (append_assoc ((name ++ 46 ∷ []) ++ arm) word (pairs ++ 10 ∷ [])
+    ∙ (append_assoc (name ++ 46 ∷ []) arm (word ++ (pairs ++ 10 ∷ []))
+    ∙ (append_assoc name (46 ∷ []) (arm ++ (word ++ (pairs ++ 10 ∷ [])))
+    ∙ sym (behind_all (name ∷ (46 ∷ []) ∷ arm ∷ word ∷ []) (pairs ++ 10 ∷ [])))))
 
 -- the brackets round a list
 pub in_brackets : (parts : List (List ℕ)) (inside : List ℕ)
@@ -73,11 +75,18 @@ pub within : (pairs : List Pair) (i : ℕ) (pair : Pair) → slice_get pairs i �
 within pairs i pair there = slice_get_within pairs i pair there
 
 -- what is said of more numbers begins with what is said of the first
-below_more : (f : ℕ → List ℕ) (n k : ℕ) → (rest : List ℕ) × (each_below f (k + n) ≡ each_below f n ++ rest)
-below_more f n zero = ([], sym (append-nil (each_below f n)))
-below_more f n (suc k) =
-    let (rest, so) = below_more f n k in
-    (rest ++ f (k + n), ap (λ (l : List ℕ). l ++ f (k + n)) so ∙ append_assoc (each_below f n) rest (f (k + n)))
+below_more : (f : ℕ → List ℕ) (n m : ℕ) → n ≤ m → (rest : List ℕ) × (each_below f m ≡ each_below f n ++ rest)
+below_more f n zero le =
+    let same : n ≡ 0 = omega (arith, le) in ([], ap (each_below f) (sym same) ∙ sym (append-nil (each_below f n)))
+below_more f n (suc k) le = go (cases_order n (suc k)) (below_more f n k)
+  where
+    go : (n ≡ suc k) ⊎ ((n < suc k) ⊎ (suc k < n)) → (n ≤ k → (rest : List ℕ) × (each_below f k ≡ each_below f n ++ rest))
+        → (rest : List ℕ) × (each_below f (suc k) ≡ each_below f n ++ rest)
+    go (inl same) later = ([], ap (each_below f) (sym same) ∙ sym (append-nil (each_below f n)))
+    go (inr (inl less)) later =
+        let (rest, so) = later (omega (arith, less)) in
+        (rest ++ f k, ap (λ (l : List ℕ). l ++ f k) so ∙ append_assoc (each_below f n) rest (f k))
+    go (inr (inr more)) later = absurd (omega (arith, more, le))
 
 module _ (names : NameTable) (pairs : List Pair) (i : ℕ) (pair : Pair) (there : slice_get pairs i ≡ Some pair) (a b c : At Held)
     (first : Adds a (each_below (λ k. comma k ++ pair_at names pairs k) i) b) where
@@ -97,11 +106,10 @@ module _ (names : NameTable) (pairs : List Pair) (i : ℕ) (pair : Pair) (there 
   pub amount_breaks : Breaks b (comma i ++ pair_json names pair) c → Breaks a (each_below item (length pairs)) c
   amount_breaks fails =
       let less = slice_get_within pairs i pair there in
-      let (rest, so) = below_more item (suc i) (length pairs - suc i) in
-      let all : (length pairs - suc i) + suc i ≡ length pairs = omega (arith, less) in
+      let (rest, so) = below_more item (suc i) (length pairs) (omega (arith, less)) in
       let here_breaks : Breaks a (each_below item (suc i)) c =
       breaks_later a b c (each_below item i) (item i) first (subst (λ (l : List ℕ). Breaks b l c) here fails) in
-      subst (λ (l : List ℕ). Breaks a l c) (sym so ∙ ap (each_below item) all)
+      subst (λ (l : List ℕ). Breaks a l c) (sym so)
       (breaks_sooner a c (each_below item (suc i)) rest here_breaks)
 
 -- all are said
