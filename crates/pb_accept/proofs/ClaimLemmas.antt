@@ -1,17 +1,11 @@
 -- What is told of pairs, one more at a time.
-use Rattle.std.proofs.Common.{◌≡◌, ◌+◌, ◌<◌, ◌≤◌, ◌++◌, ◌≢◌, ◌⊎◌, inl, inr, ℕ, List, [], ◌∷◌, length, take, drop, get_or, map, refl, sym, ap, ◌∙◌, subst, arith}
+use Rattle.std.proofs.Common.{◌≡◌, ◌+◌, ◌<◌, ◌≤◌, ◌++◌, ℕ, List, [], ◌∷◌, length, take, drop, get_or, map, refl, sym, ap, ◌∙◌, subst, arith}
 use Rattle.std.specs.List.{flat_map, zip}
 use Rattle.std.proofs.lemmas.List.{flat_map_more, get_or-map, take_all, take_more, take-append-drop, length-map}
 use Rattle.std.proofs.lemmas.List.Concat.{flat_map-append}
 use Rattle.std.proofs.lemmas.Slice.Zip.{get_or-zip, length-zip}
-use Rattle.pb_base.specs.declared.limits.TheConstants.{MAX_INPUT}
 use Rattle.pb_base.specs.Banker.{row_of}
 use Rattle.pb_base.specs.Steppers.{Table}
-use Rattle.pb_codegen.specs.Compiled.{IsBeforeClaims, IsRefused}
-use Rattle.pb_codegen.specs.declared.fault.CompileFault.{CompileFault}
-use Rattle.pb_codegen.specs.declared.fault.CompileFault.TheVariants as kind
-use Rattle.pb_command_io.specs.declared.status.Status.{Status}
-use Rattle.pb_command_io.specs.declared.status.Status.TheVariants as status
 use Rattle.pb_names.specs.Meaning.{AreClaims}
 use Rattle.pb_names.specs.Program.{Name}
 use Rattle.pb_names.specs.Resolves.{process_names, resource_names}
@@ -19,9 +13,7 @@ use Rattle.pb_names.specs.View.{process_view, resolved_view, resource_view}
 use Rattle.pb_names.specs.declared.resolved.Process.{Process}
 use Rattle.pb_names.specs.declared.resolved.Resource.{Resource}
 use Rattle.pb_names.specs.declared.resolved.Resolved.{Resolved}
-use Rattle.pb_accept.specs.Claims.{SaysOfAny, SaysOfClaims, no_memory, read, refused}
-use Rattle.pb_accept.specs.Sayings.{Saying, NoMemory, Refused}
-use Rattle.pb_voice.specs.Tellings.{Telling, Breaking, Ends, Speaks}
+use Rattle.pb_voice.specs.Tellings.{Telling, Breaking}
 use Rattle.pb_voice.proofs.TellingLemmas.{telling_more, breaking_later, breaking_sooner}
 
 module _ {T S A B : Type 0} (tells breaks : T → S → T → Type 0) (f : A × B → List S) (xs : List A) (ys : List B) (i : ℕ) (x : A) (y : B)
@@ -66,26 +58,6 @@ pairs_told {T} {S} tells f xs ys i s m end told =
 pub view_at : {A B : Type 0} (f : A → B) (xs : List A) (i : ℕ) (x : A) → i < length xs → x ≡ get_or xs i x
     → get_or (map f xs) i (f x) ≡ f x
 view_at f xs i x within at = get_or-map f xs i x (f x) within ∙ ap f (sym at)
-
--- whether a fault is out of memory
-is_memory : (f : CompileFault) → (f ≡ kind.Memory) ⊎ (f ≢ kind.Memory)
-is_memory (kind.Lex f) = inr (λ e. cc)
-is_memory (kind.Parse f) = inr (λ e. cc)
-is_memory (kind.Names f) = inr (λ e. cc)
-is_memory (kind.Claims f) = inr (λ e. cc)
-is_memory kind.Memory = inl refl
-
--- what a fault of a text is told as
-pub told_fault : {T : Type 0} (tells breaks : T → Saying → T → Type 0) (text : List ℕ) (old new : T) (f : CompileFault) (given : Status)
-    → length text ≤ MAX_INPUT → IsRefused text f → IsBeforeClaims f
-    → (f ≡ kind.Memory → Ends tells breaks old (NoMemory ∷ []) status.Memory new given)
-    → (f ≢ kind.Memory → Ends tells breaks old (Refused f ∷ []) status.Refused new given)
-    → Speaks tells breaks (SaysOfAny SaysOfClaims text) old new given
-told_fault tells breaks text old new f given short is early memory other = go (is_memory f)
-  where
-    go : (f ≡ kind.Memory) ⊎ (f ≢ kind.Memory) → Speaks tells breaks (SaysOfAny SaysOfClaims text) old new given
-    go (inl so) = (NoMemory ∷ [], status.Memory, no_memory, memory so)
-    go (inr not) = (Refused f ∷ [], status.Refused, read (Refused f ∷ []) status.Refused short (refused f not is early), other not)
 
 -- the names of a program in memory are those of the program
 pub names_of_resources : {A : Type 0} (program : Resolved A)

@@ -1,5 +1,5 @@
--- From verified code, and labels that fit it, to the texts that it has and what `emit` says of it.
-use Rattle.std.proofs.Common.{◌≡◌, ℕ, List, codes, subst, sym}
+-- From verified code, and labels that fit it, to the texts that it has and what is told of it.
+use Rattle.std.proofs.Common.{◌≡◌, ◌≤◌, ℕ, List, length, Result, Ok, Err, IfOk, refl, subst, sym}
 use Rattle.pb_object.specs.Answers.{HasText, HasTextOne, SpellsCode, SpellsOne}
 use Rattle.pb_code.specs.Limits.{AreLabels}
 use Rattle.pb_object.specs.Formats.{FitsFirst}
@@ -8,9 +8,18 @@ use Rattle.pb_code.specs.declared.format.Format.TheVariants.{One, Two}
 use Rattle.pb_verifier.specs.Verified.{IsVerified, VerifiedCode}
 use Rattle.pb_verifier.specs.declared.fault.VerifyFault.TheVariants.{OutOfLimits}
 use Rattle.pb_object.proofs.SayableCode.{first_text, ranges_text}
-use Rattle.pb_base.specs.Lines.{line}
-use Rattle.pb_accept.specs.Emissions.{SaysOfObject, beyond_first, written}
-use Rattle.pb_command_io.specs.declared.status.Status.TheVariants.{Done, Refused}
+use Rattle.pb_base.specs.declared.limits.TheConstants.{MAX_INPUT}
+use Rattle.pb_base.specs.declared.memory.NoMemory.{NoMemory}
+use Rattle.pb_code.specs.declared.format.Format.{Format}
+use Rattle.pb_codegen.specs.Compiled.{IsCompiled}
+use Rattle.pb_accept.specs.Claims.{SaysOfAny, no_memory, read}
+use Rattle.pb_accept.specs.Emissions.{IsBeyond, IsWrittenIn, SaysOfCode, SaysOfEmission, beyond, emitted, written}
+use Rattle.pb_accept.specs.Emissions.{no_memory as code_memory}
+use Rattle.pb_accept.specs.Loading.{IsLoaded}
+use Rattle.pb_accept.specs.Migrations.{SaysOfMigration, migrated}
+use Rattle.pb_accept.specs.Sayings.{Saying}
+use Rattle.pb_command_io.specs.declared.status.Status.{Status}
+use Rattle.pb_voice.specs.Tellings.{Speaks}
 
 pub has_first_text : (verified : VerifiedCode) (code : Code) → code ≡ verified.code → IsVerified verified
     → FitsFirst code → HasTextOne code
@@ -27,22 +36,43 @@ has_second_text verified code labels given same same_labels is fit =
     (ranges_text verified.code labels
     (record { limits = is.faultless OutOfLimits; pushes = is.pushes; fit = fit })))
 
--- ---- what is said of it
+-- ---- the object that is told
 
-pub says_first : (code given : Code) (labels : List ProcessLabels) (text : List ℕ) → given ≡ code
-    → SpellsOne given text → SaysOfObject code labels One text Done
-says_first code given labels text same spells =
-    written One text (subst (λ (c : Code). SpellsOne c text) same spells)
+pub is_first : (code given : Code) (labels : List ProcessLabels) (text : List ℕ) → given ≡ code → SpellsOne given text
+    → IsWrittenIn One code labels text
+is_first code given labels text same spells = subst (λ (c : Code). SpellsOne c text) same spells
 
-pub says_second : (code given : Code) (labels seen : List ProcessLabels) (text : List ℕ) → given ≡ code
-    → seen ≡ labels → SpellsCode Two given seen text → SaysOfObject code labels Two text Done
-says_second code given labels seen text same same_labels spells =
-    written Two text
-    (subst (λ (c : Code). SpellsCode Two c labels text) same
-    (subst (λ (l : List ProcessLabels). SpellsCode Two given l text) same_labels spells))
+pub is_second : {V : Type 0} (seen : V → List ℕ) (code given : Code) (labels known : List ProcessLabels) (r : Result V NoMemory) → given ≡ code
+    → known ≡ labels → IfOk r (λ v. SpellsCode Two given known (seen v)) → IfOk r (λ v. IsWrittenIn Two code labels (seen v))
+is_second seen code given labels known (Ok v) same same_labels spells =
+    subst (λ (c : Code). SpellsCode Two c labels (seen v)) same
+    (subst (λ (l : List ProcessLabels). SpellsCode Two given l (seen v)) same_labels spells)
+is_second seen code given labels known (Err e) same same_labels spells = tt
 
-pub says_beyond : (code given : Code) (labels : List ProcessLabels) (text : List ℕ) → given ≡ code
-    → text ≡ codes "refused E1" → ¬ FitsFirst given → SaysOfObject code labels One (line text) Refused
-says_beyond code given labels text same same_text beyond =
-    subst (λ (t : List ℕ). SaysOfObject code labels One (line t) Refused) (sym same_text)
-    (beyond_first (subst (λ (c : Code). ¬ FitsFirst c) same beyond))
+pub is_beyond : (code given : Code) → given ≡ code → ¬ FitsFirst given → IsBeyond One code
+is_beyond code given same none = (refl, subst (λ (c : Code). ¬ FitsFirst c) same none)
+
+-- ---- what is told
+
+module _ {T : Type 0} (tells breaks : T → Saying → T → Type 0) (old new : T) (given : Status) where
+  -- what is told of its code is told of an accepted text
+  pub emission_is_told : (format : Format) (bytes : List ℕ) (code : Code) (labels : List ProcessLabels) → length bytes ≤ MAX_INPUT
+      → IsCompiled bytes code labels → Speaks tells breaks (SaysOfCode format code labels) old new given
+      → Speaks tells breaks (SaysOfAny (SaysOfEmission format) bytes) old new given
+  emission_is_told format bytes code labels short compiled (said, status, is, ends) =
+      (said, status, read said status short (emitted code labels compiled said status is), ends)
+
+  -- the second format of the code of an object is what is told of it
+  pub migration_is_told : (bytes : List ℕ) (code known : Code) (labels : List ProcessLabels) → length bytes ≤ MAX_INPUT → IsLoaded bytes code labels
+      → known ≡ code → Speaks tells breaks (SaysOfCode Two known labels) old new given
+      → Speaks tells breaks (SaysOfAny SaysOfMigration bytes) old new given
+  migration_is_told bytes code known labels short loaded same told =
+      go (subst (λ (c : Code). Speaks tells breaks (SaysOfCode Two c labels) old new given) same told)
+    where
+      of : (said : List Saying) (status : Status) → SaysOfCode Two code labels said status → SaysOfAny SaysOfMigration bytes said status
+      of _ _ (written text is) = read _ _ short (migrated code labels loaded text is)
+      of _ _ (beyond (is_first, none)) = absurd cc
+      of _ _ code_memory = no_memory
+
+      go : Speaks tells breaks (SaysOfCode Two code labels) old new given → Speaks tells breaks (SaysOfAny SaysOfMigration bytes) old new given
+      go (said, status, is, ends) = (said, status, of said status is, ends)

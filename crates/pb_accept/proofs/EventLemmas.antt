@@ -1,79 +1,49 @@
--- The lines of events, told one after another.
-use Rattle.std.proofs.Common.{◌≡◌, ℕ, ◌+◌, ◌≤◌, List, [], ◌∷◌, ◌++◌, length, take, drop, Option, Some, refl, sym, ap}
-use Rattle.std.proofs.Common.{◌∙◌, subst, inr, append-nil}
-use Rattle.std.proofs.lemmas.Grind.{flat_map-append}
-use Rattle.std.proofs.lemmas.List.{take_all}
+-- The events of a run, told one after another.
+use Rattle.std.proofs.Common.{◌≡◌, ◌+◌, ◌≤◌, ◌++◌, ℕ, List, [], ◌∷◌, length, take, drop, map, Option, Some, refl, sym, ap, ◌∙◌, subst}
 use Rattle.std.specs.Prelude.{slice_get}
-use Rattle.pb_base.specs.declared.event.Event.{Event}
-use Rattle.pb_base.specs.Device.{AddsPrefix}
-use Rattle.pb_base.specs.Lines.{NameTable, line_of, line}
+use Rattle.std.proofs.lemmas.List.{map-append, take-append-drop, take_all}
 use Rattle.pb_base.proofs.Lists.{take_next}
-use Rattle.pb_history.proofs.SpanEvents.{take_drop}
-use Rattle.pb_command_io.specs.Answers.{memory_line, Leaves, Says, Tells}
-use Rattle.pb_accept.specs.EventLines.{StopsIn, out_of_memory, cut_off}
-use Rattle.pb_accept.specs.ToldEvents.{event_lines}
+use Rattle.pb_accept.specs.Sayings.{Saying}
 use Rattle.pb_command_io.specs.declared.status.Status.{Status}
-use Rattle.pb_command_io.specs.declared.status.Status.TheVariants.{Device, Memory}
-use Rattle.pb_command_io.proofs.PageLemmas.{AddsPrefix-longer, AddsPrefix-more, Leaves-more, Says-more, leaves_all}
+use Rattle.pb_command_io.specs.declared.status.Status.TheVariants.{Device}
+use Rattle.pb_voice.specs.Tellings.{Telling, Breaking, Ends, Speaks, broken}
+use Rattle.pb_voice.proofs.TellingLemmas.{telling_then, breaking_at, breaking_later, breaking_sooner, ends_later}
 
--- the lines of the first events and of one more
-one_more_event : (names : NameTable) (events : List Event) (i : ℕ) (event : Event) → slice_get events i ≡ Some event
-    → event_lines names (take (i + 1) events) ≡ event_lines names (take i events) ++ line (line_of names event)
-one_more_event names events i event there =
-    ap (event_lines names) (take_next events i event there)
-    ∙ (flat_map-append (λ e. line (line_of names e)) (take i events) (event ∷ [])
-    ∙ ap (λ (more : List ℕ). event_lines names (take i events) ++ more) (append-nil (line (line_of names event))))
+module _ {T S A : Type 0} (tells breaks : T → S → T → Type 0) (f : A → S) (xs : List A) (i : ℕ) (x : A) (there : slice_get xs i ≡ Some x) (s m u : T)
+    (first : Telling tells s (map f (take i xs)) m) where
+  next : map f (take i xs) ++ f x ∷ [] ≡ map f (take (i + 1) xs)
+  next = sym (ap (map f) (take_next xs i x there) ∙ map-append f (take i xs) (x ∷ []))
 
--- the lines of all events are those of the first and of the others
-lines_in_two : (names : NameTable) (events : List Event) (n : ℕ)
-    → event_lines names events ≡ event_lines names (take n events) ++ event_lines names (drop n events)
-lines_in_two names events n =
-    ap (event_lines names) (sym (take_drop n events)) ∙ flat_map-append (λ e. line (line_of names e)) (take n events) (drop n events)
+  -- one more is told
+  pub one_told : tells m (f x) u → Telling tells s (map f (take (i + 1) xs)) u
+  one_told step = subst (λ (l : List S). Telling tells s l u) next (telling_then tells s m u (map f (take i xs)) (f x) first step)
 
--- none is told
-pub told_no_events : (names : NameTable) (events : List Event) (w : Option (List ℕ)) (page : List ℕ) → page ≡ []
-    → Leaves w w (event_lines names (take 0 events)) page
-told_no_events names events w page empty = subst (λ (p : List ℕ). Leaves w w [] p) (sym empty) (leaves_all w [])
+  all_of : map f (take (i + 1) xs) ++ map f (drop (i + 1) xs) ≡ map f xs
+  all_of = sym (map-append f (take (i + 1) xs) (drop (i + 1) xs)) ∙ ap (map f) (take-append-drop (i + 1) xs)
 
-pub told_one_event : (names : NameTable) (events : List Event) (i : ℕ) (event : Event) (text : List ℕ) (w a b : Option (List ℕ))
-    (page left : List ℕ) → slice_get events i ≡ Some event → text ≡ line_of names event
-    → Leaves w a (event_lines names (take i events)) page → Leaves a b (page ++ line text) left
-    → Leaves w b (event_lines names (take (i + 1) events)) left
-told_one_event names events i event text w a b page left there is before now =
-    subst (λ (t : List ℕ). Leaves w b t left)
-    (ap (λ (t : List ℕ). event_lines names (take i events) ++ line t) is ∙ sym (one_more_event names events i event there))
-    (Leaves-more w a b [] (event_lines names (take i events)) (line text) page left before now)
-
--- a write failed
-pub told_until_broken : (names : NameTable) (events : List Event) (i : ℕ) (event : Event) (text : List ℕ) (w a b : Option (List ℕ))
-    (page : List ℕ) → slice_get events i ≡ Some event → text ≡ line_of names event
-    → Leaves w a (event_lines names (take i events)) page → AddsPrefix a b (page ++ line text)
-    → Tells (StopsIn names events) w b Device
-told_until_broken names events i event text w a b page there is before part =
-    let first = event_lines names (take (i + 1) events) in
-    let rest = event_lines names (drop (i + 1) events) in
-    let so_far : AddsPrefix w b first =
-    subst (AddsPrefix w b) (ap (λ (t : List ℕ). event_lines names (take i events) ++ line t) is ∙ sym (one_more_event names events i event there))
-    (AddsPrefix-more w a b [] (event_lines names (take i events)) (line text) page before part) in (
-      event_lines names events,
-      Device,
-      cut_off,
-      inr (subst (AddsPrefix w b) (sym (lines_in_two names events (i + 1))) (AddsPrefix-longer w b first rest so_far), refl),
-    )
-
--- out of memory for the next line
-pub told_until_out : (names : NameTable) (events : List Event) (i : ℕ) (w a b : Option (List ℕ)) (page : List ℕ) (given : Status)
-    → Leaves w a (event_lines names (take i events)) page → Says a b (page ++ memory_line) Memory given
-    → Tells (StopsIn names events) w b given
-told_until_out names events i w a b page given before says = (
-  event_lines names (take i events) ++ memory_line,
-  Memory,
-  out_of_memory i,
-  Says-more w a b [] (event_lines names (take i events)) memory_line page Memory given before says,
-)
+  -- a write failed at the next
+  pub one_broken : breaks m (f x) u → Breaking tells breaks s (map f xs) u
+  one_broken fails =
+      let here : Breaking tells breaks s (map f (take (i + 1) xs)) u =
+      subst (λ (l : List S). Breaking tells breaks s l u) next
+      (breaking_later tells breaks s m u (map f (take i xs)) (f x ∷ []) first (breaking_at tells breaks m u (f x) fails)) in
+      subst (λ (l : List S). Breaking tells breaks s l u) all_of
+      (breaking_sooner tells breaks s u (map f (take (i + 1) xs)) (map f (drop (i + 1) xs)) here)
 
 -- all are told
-pub told_all_events : (names : NameTable) (events : List Event) (i : ℕ) (w a : Option (List ℕ)) (page : List ℕ) → length events ≤ i
-    → Leaves w a (event_lines names (take i events)) page → Leaves w a (event_lines names events) page
-told_all_events names events i w a page all before =
-    subst (λ (es : List Event). Leaves w a (event_lines names es) page) (take_all i events all) before
+pub all_are_told : {T S A : Type 0} (tells : T → S → T → Type 0) (f : A → S) (xs : List A) (i : ℕ) (s m : T) → length xs ≤ i
+    → Telling tells s (map f (take i xs)) m → Telling tells s (map f xs) m
+all_are_told {T} {S} tells f xs i s m all told = subst (λ (l : List S). Telling tells s l m) (ap (map f) (take_all i xs all)) told
+
+-- ---- and then the last thing of a call
+
+module _ {T : Type 0} (tells breaks : T → Saying → T → Type 0) (old new : T) (MaySay : List Saying → Status → Type 0) (said : List Saying)
+    (last : Saying) (status : Status) (may : MaySay (said ++ last ∷ []) status) where
+  pub last_is_told : (mid : T) (given : Status) → Telling tells old said mid → Ends tells breaks mid (last ∷ []) status new given
+      → Speaks tells breaks MaySay old new given
+  last_is_told mid given told ends =
+      (said ++ last ∷ [], status, may, ends_later tells breaks old mid new said (last ∷ []) status given told ends)
+
+  -- a write failed before
+  pub stops_before : Breaking tells breaks old said new → Speaks tells breaks MaySay old new Device
+  stops_before fails = (said ++ last ∷ [], status, may, broken (breaking_sooner tells breaks old new said (last ∷ []) fails))

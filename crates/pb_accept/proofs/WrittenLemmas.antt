@@ -2,7 +2,8 @@
 use Rattle.std.proofs.Common.{◌≡◌, ◌≢◌, ℕ, List, [], Option, Some, None, IfSome, refl, subst, sym, ap}
 use Rattle.std.specs.List.{flat_map}
 use Rattle.pb_accept.specs.Claims.{SaysOfAny, too_long, no_memory, nothing, read}
-use Rattle.pb_accept.specs.Sayings.{Saying, line_of, text_of}
+use Rattle.pb_accept.specs.Objects.{text_of}
+use Rattle.pb_accept.specs.Sayings.{Saying, line_of}
 use Rattle.pb_command_io.specs.Answers.{Says, Tells}
 use Rattle.pb_command_io.specs.Faults.{TellsWriteFaults}
 use Rattle.pb_command_io.specs.Inputs as inputs

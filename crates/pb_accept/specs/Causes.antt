@@ -22,6 +22,10 @@ use Rattle.pb_picks.specs.declared.fault.PickFault.TheVariants as picks
 use Rattle.pb_history.specs.declared.fault.ReplayFault.{ReplayFault}
 use Rattle.pb_history.specs.declared.fault.ReplayFault.TheVariants as replay
 use Rattle.pb_accept.specs.declared.cause.Cause.{Cause}
+use Rattle.pb_accept.specs.declared.load.LoadFault.{LoadFault}
+use Rattle.pb_accept.specs.declared.load.LoadFault.TheVariants.{Object, Unsafe}
+use Rattle.pb_accept.specs.declared.replay.LinesFault.{LinesFault}
+use Rattle.pb_accept.specs.declared.replay.LinesFault.TheVariants.{NotRead, NotMade}
 
 -- a cause without an offset
 abbrev pub plain : Code → Option Cause
@@ -86,6 +90,11 @@ verify_cause verify.LeftAtEnd = plain V5
 verify_cause verify.OverClaim = plain V7
 verify_cause verify.NoMemory = None
 
+-- the cause of bytes that give no safe code; there is none if they are out of memory
+abbrev pub load_cause : LoadFault → Option Cause
+load_cause (Object fault) = object_cause fault
+load_cause (Unsafe fault) = verify_cause fault
+
 -- ---- pick lines
 
 -- where the first line that says no picks begins, counted from behind the line `%%`
@@ -98,6 +107,11 @@ picks_cause picks.NoMemory = None
 abbrev pub stop_cause : ReplayFault → Option Cause
 stop_cause (replay.NotEnabled number) = placed H1 number
 stop_cause replay.NoMemory = None
+
+-- the cause of pick lines that are not replayed
+abbrev pub lines_cause : LinesFault → Option Cause
+lines_cause (NotRead fault) = picks_cause fault
+lines_cause (NotMade fault) = stop_cause fault
 
 -- ---- the line of a cause
 

@@ -37,3 +37,7 @@ pub data SaysOfAny (SaysOf : List ℕ → List Saying → Status → Type 0) (by
   no_memory : SaysOfAny SaysOf bytes (NoMemory ∷ []) status.Memory
   nothing : SaysOfAny SaysOf bytes [] status.Device
   read : (said : List Saying) (given : Status) → length bytes ≤ MAX_INPUT → SaysOf bytes said given → SaysOfAny SaysOf bytes said given
+
+-- nothing may be said of bytes that are not read
+abbrev pub SaysOfNothing : List ℕ → List Saying → Status → Type 0
+SaysOfNothing bytes said given = ⊥

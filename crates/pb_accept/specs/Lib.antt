@@ -2,11 +2,13 @@ pub mod Causes
 pub mod Checks
 pub mod Claims
 pub mod Emissions
-pub mod EventLines
+pub mod EventObjects
 pub mod Loading
 pub mod Migrations
+pub mod Objects
 pub mod Refusals
 pub mod ReplayLines
+pub mod Replays
 pub mod RunTexts
 pub mod Sayings
 pub mod Stillness

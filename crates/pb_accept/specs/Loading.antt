@@ -5,8 +5,7 @@ use Rattle.pb_code.specs.Whole.{Code, ProcessLabels}
 use Rattle.pb_code.specs.declared.format.Format.{Format}
 use Rattle.pb_verifier.specs.Verified.{IsFaultless, IsRefusedFor}
 use Rattle.pb_base.specs.Lines.{line}
-use Rattle.pb_accept.specs.Causes.{cause_line, object_cause, verify_cause}
-use Rattle.pb_accept.specs.declared.cause.Cause.{Cause}
+use Rattle.pb_accept.specs.Causes.{cause_line, load_cause}
 use Rattle.pb_accept.specs.declared.load.LoadFault.{LoadFault}
 use Rattle.pb_accept.specs.declared.load.LoadFault.TheVariants.{Object, Unsafe}
 use Rattle.pb_command_io.specs.declared.status.Status.{Status}
@@ -25,12 +24,7 @@ IsLoadFault bytes (Unsafe fault) =
     (format : Format) × (code : Code) × (labels : List ProcessLabels) × SpellsCode format code labels bytes
     × IsRefusedFor code fault
 
--- the cause of a fault; there is none if it is out of memory
-abbrev pub load_cause : LoadFault → Option Cause
-load_cause (Object fault) = object_cause fault
-load_cause (Unsafe fault) = verify_cause fault
-
--- its line
+-- the line of its cause; there is none if it is out of memory
 abbrev pub load_line : LoadFault → Option (List ℕ)
 load_line fault = option_map cause_line (load_cause fault)
 

@@ -1,32 +1,26 @@
--- What `replay` says of an input, and with which status.
-use Rattle.std.specs.Prelude.{◌≡◌, ◌++◌, ℕ, List, Option, Some, codes, length, option_map, take}
-use Rattle.pb_base.specs.declared.event.Event.{Event}
+-- When pick lines are replayed, why they are not, and how a replay ends.
+use Rattle.std.specs.Prelude.{◌≡◌, ℕ, List, Option, Some, option_map}
 use Rattle.pb_base.specs.declared.lending.Lending.{Lending}
 use Rattle.pb_base.specs.declared.lending.Lending.TheVariants.{ByBanker}
 use Rattle.pb_base.specs.Lines.{line}
 use Rattle.pb_base.specs.Steppers.{State, CanGoOn, IsFinished}
 use Rattle.pb_code.specs.Code.{CodeProcess, code_over, code_step}
-use Rattle.pb_code.specs.Whole.{Code, ProcessLabels, bank_by}
-use Rattle.pb_codegen.specs.Compiled.{IsCompiled}
-use Rattle.pb_history.specs.Entries.{Entry, events_of}
+use Rattle.pb_code.specs.Whole.{Code, bank_by}
+use Rattle.pb_history.specs.Entries.{Entry}
 use Rattle.pb_history.specs.Replays.{IsReplayBy, IsStoppedBy, spread}
 use Rattle.pb_history.specs.declared.counted.CountedPick.{CountedPick}
 use Rattle.pb_history.specs.declared.fault.ReplayFault.{ReplayFault}
-use Rattle.pb_names.specs.Meaning.{SourceCanBy}
 use Rattle.pb_picks.specs.PickLines.{IsFaulty, SpellsPicks}
 use Rattle.pb_picks.specs.declared.fault.PickFault.{PickFault}
-use Rattle.pb_command_io.specs.Answers.{memory_line}
-use Rattle.pb_command_io.specs.Parts.{AreTwoParts}
-use Rattle.pb_accept.specs.Causes.{cause_line, picks_cause, stop_cause}
-use Rattle.pb_accept.specs.declared.cause.Cause.{Cause}
-use Rattle.pb_accept.specs.Refusals.{RefusesWith}
-use Rattle.pb_accept.specs.ToldEvents.{HasFault, event_lines}
+use Rattle.pb_accept.specs.Causes.{cause_line, lines_cause}
+pub use Rattle.pb_accept.specs.Sayings.{last_line}
+use Rattle.pb_accept.specs.ToldEvents.{HasFault}
 use Rattle.pb_accept.specs.declared.ending.Ending.{Ending}
 use Rattle.pb_accept.specs.declared.ending.Ending.TheVariants.{Over, Stuck, Open}
 use Rattle.pb_accept.specs.declared.replay.LinesFault.{LinesFault}
 use Rattle.pb_accept.specs.declared.replay.LinesFault.TheVariants.{NotRead, NotMade}
 use Rattle.pb_command_io.specs.declared.status.Status.{Status}
-use Rattle.pb_command_io.specs.declared.status.Status.TheVariants.{Deadlock, Done, Fault, Memory, Refused}
+use Rattle.pb_command_io.specs.declared.status.Status.TheVariants.{Deadlock, Done, Fault, Refused}
 
 -- the lines say picks, and these, each enabled in turn from the start under this lending, make these entries
 -- and lead to this state
@@ -53,12 +47,7 @@ IsLinesFaultBy lending code lines (NotMade fault) =
 abbrev pub IsLinesFault : Code → List ℕ → LinesFault → Type 0
 IsLinesFault code = IsLinesFaultBy ByBanker code
 
--- the cause of a fault; there is none if it is out of memory
-abbrev pub lines_cause : LinesFault → Option Cause
-lines_cause (NotRead fault) = picks_cause fault
-lines_cause (NotMade fault) = stop_cause fault
-
--- its line
+-- the line of its cause; there is none if it is out of memory
 abbrev pub lines_line : LinesFault → Option (List ℕ)
 lines_line fault = option_map cause_line (lines_cause fault)
 
@@ -71,7 +60,7 @@ pub data SaysOfNoPicksBy (lending : Lending) (code : Code) (lines : List ℕ) : 
 abbrev pub SaysOfNoPicks : Code → List ℕ → List ℕ → Status → Type 0
 SaysOfNoPicks code = SaysOfNoPicksBy ByBanker code
 
--- ---- what is written
+-- ---- endings
 
 -- some pick is enabled under this lending
 abbrev pub GoesOn : Lending → Code → State CodeProcess → Type 0
@@ -84,12 +73,6 @@ IsEnding lending code end Over = IsFinished code_over end
 IsEnding lending code end Stuck = (¬ IsFinished code_over end) × (¬ GoesOn lending code end)
 IsEnding lending code end Open = (¬ IsFinished code_over end) × GoesOn lending code end
 
--- the last line
-abbrev pub last_line : Ending → List ℕ
-last_line Over = codes "done"
-last_line Stuck = codes "deadlock"
-last_line Open = codes "open"
-
 -- the status: whether some process has faulted
 pub data IsStatusAt (end : State CodeProcess) : Status → Type 0 where
   some_fault : HasFault end → IsStatusAt end Fault
@@ -100,37 +83,3 @@ abbrev pub IsEndStatus : State CodeProcess → Ending → Status → Type 0
 IsEndStatus end Stuck status = status ≡ Deadlock
 IsEndStatus end Over status = IsStatusAt end status
 IsEndStatus end Open status = IsStatusAt end status
-
--- what is said of picks that made these events and led to this state under this lending: the line of each event
--- and the last line; or, if out of memory, the lines of the first of them, and then `memory`
-pub data SaysOfEvents (lending : Lending) (code : Code) (events : List Event) (end : State CodeProcess) : List ℕ → Status → Type 0 where
-  all_told : (ending : Ending) → IsEnding lending code end ending → (status : Status) → IsEndStatus end ending status
-      → SaysOfEvents lending code events end (event_lines code.names events ++ line (last_line ending)) status
-  out_of_memory : (n : ℕ)
-      → SaysOfEvents lending code events end (event_lines code.names (take n events) ++ memory_line) Memory
-
--- what is said of the lines behind an accepted text, by its code
-pub data SaysOfLines (lending : Lending) (code : Code) (lines : List ℕ) : List ℕ → Status → Type 0 where
-  not_made : (said : List ℕ) (status : Status) → SaysOfNoPicksBy lending code lines said status
-      → SaysOfLines lending code lines said status
-  no_memory : SaysOfLines lending code lines memory_line Memory
-  replayed : (entries : List Entry) (end : State CodeProcess) → AreReplayedBy lending code lines entries end
-      → (said : List ℕ) (status : Status) → SaysOfEvents lending code (events_of entries) end said status
-      → SaysOfLines lending code lines said status
-
--- what is said of an input, which is a text and pick lines behind it: its text is refused; or the text is
--- accepted, and its lines or their picks are refused; or all picks are made, and their events are told, of
--- which the program can make the same under this lending with as many picks
-pub data SaysOfReplay (lending : Lending) (bytes : List ℕ) : List ℕ → Status → Type 0 where
-  no_text : (text lines : List ℕ) → AreTwoParts bytes text lines
-      → (refusal : List ℕ) → RefusesWith text refusal → SaysOfReplay lending bytes (line refusal) Refused
-  no_picks : (text lines : List ℕ) → AreTwoParts bytes text lines
-      → (code : Code) (labels : List ProcessLabels) → IsCompiled text code labels
-      → (said : List ℕ) (status : Status) → SaysOfNoPicksBy lending code lines said status
-      → SaysOfReplay lending bytes said status
-  made_again : (text lines : List ℕ) → AreTwoParts bytes text lines
-      → (code : Code) (labels : List ProcessLabels) (compiled : IsCompiled text code labels)
-      → (entries : List Entry) (end : State CodeProcess) → AreReplayedBy lending code lines entries end
-      → (said : List ℕ) (status : Status) → SaysOfEvents lending code (events_of entries) end said status
-      → SourceCanBy lending compiled.program (events_of entries) (length entries)
-      → SaysOfReplay lending bytes said status

@@ -1,14 +1,14 @@
--- The lines of events, and when a process has faulted.
-use Rattle.std.specs.Prelude.{◌≡◌, ℕ, List, slice_get, Some, true}
-use Rattle.std.specs.List.{flat_map}
+-- The events of a run as they are told, and when a process has faulted.
+use Rattle.std.specs.Prelude.{◌≡◌, ℕ, List, map, slice_get, Some, true}
+use Rattle.pb_accept.specs.Sayings.{Saying, Shows}
 use Rattle.pb_base.specs.declared.event.Event.{Event}
-use Rattle.pb_base.specs.Lines.{NameTable, line_of, line}
+use Rattle.pb_base.specs.Lines.{NameTable}
 use Rattle.pb_base.specs.Steppers.{State}
 use Rattle.pb_code.specs.Code.{CodeProcess}
 
--- the lines of events, in their order
-abbrev pub event_lines : NameTable → List Event → List ℕ
-event_lines names events = flat_map (λ event. line (line_of names event)) events
+-- the events of a run, in their order
+abbrev pub shown : NameTable → List Event → List Saying
+shown names events = map (Shows names) events
 
 -- some process has faulted
 abbrev pub HasFault : State CodeProcess → Type 0

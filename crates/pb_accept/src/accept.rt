@@ -47,13 +47,21 @@ fn refusal_of(alloc: Global, fault: CompileFault) -> Refusal
     }
 }
 
-/// Returns the code of a text, whose trees are in an arena while it is compiled.
+/// Returns the code of a text, whose trees are in an arena while it is compiled, or its fault.
+pub fn code_of_text(alloc: Global, text: &[u8]) -> Result<Compiled, CompileFault>
+    ensures compiled { IfOk result (λ c. IsCompiled text.now c.verified.code c.labels) }
+    ensures refused { IfErr result (IsRefused text.now) }
+{
+    let arena = Bump::new(alloc);
+    compile(alloc, &arena, text)
+}
+
+/// Returns the code of a text, or its refusal.
 pub fn compile_text(alloc: Global, text: &[u8]) -> Result<Compiled, Refusal>
     ensures compiled { IfOk result (λ c. IsCompiled text.now c.verified.code c.labels) }
     ensures refused { IfErr result (IsRefusal text.now) }
 {
-    let arena = Bump::new(alloc);
-    match compile(alloc, &arena, text) {
+    match code_of_text(alloc, text) {
         Ok(compiled) => Ok(compiled),
         Err(fault) => Err(refusal_of(alloc, fault)),
     }

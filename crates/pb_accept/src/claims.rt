@@ -1,22 +1,19 @@
 //! The command `claims`, over any input, teller and output.
 
-ghost use Rattle.std.specs.Prelude.{◌≡◌, ◌≢◌, ℕ, ◌<◌, ◌≤◌, [], ◌∷◌, OnErr, OnOk, length, map};
+ghost use Rattle.std.specs.Prelude.{◌≡◌, ℕ, ◌<◌, ◌≤◌, OnErr, OnOk, length, map};
 ghost use Rattle.pb_accept.specs.Claims.{SaysOfAny, SaysOfClaims, said_of_process, said_of_program};
-ghost use Rattle.pb_accept.specs.Sayings.{NoMemory, Refused};
 ghost use Rattle.pb_base.specs.Banker.{row_of};
-ghost use Rattle.pb_codegen.specs.declared.fault.CompileFault.TheVariants as kind;
-ghost use Rattle.pb_command_io.specs.declared.status.Status.TheVariants as status;
 ghost use Rattle.pb_names.specs.Meaning.{AreClaims};
 ghost use Rattle.pb_names.specs.View.{resolved_view};
 ghost use Rattle.pb_voice.specs.Held.{at};
-ghost use Rattle.pb_voice.specs.Tellings.{Answers, Breaking, Ends, Speaks, Telling};
+ghost use Rattle.pb_voice.specs.Tellings.{Answers, Breaking, Speaks, Telling};
 
 use crate::said::{Claim, Said};
-use crate::teller::{Teller, tell_last};
+use crate::teller::{Teller, tell_fault, tell_last};
 use bumpalo::Bump;
 use pb_base::limits::MAX_INPUT;
 use pb_base::{Claims, DeviceFault, Input, Output, ReadFault, read_whole};
-use pb_codegen::{CompileFault, analyze};
+use pb_codegen::analyze;
 use pb_command_io::Status;
 use pb_names::{Resolved, Resource};
 use std::alloc::{Allocator, Global};
@@ -73,19 +70,6 @@ fn tell_program<O: Output, T: Teller, A: Allocator>(
         )?;
     }
     Ok(())
-}
-
-/// Tells that a text is refused for a fault, or out of memory.
-fn tell_fault<O: Output, T: Teller>(teller: &mut T, output: &mut O, fault: &CompileFault) -> Status
-    ensures memory { fault.now ≡ kind.Memory → Ends T.tells T.breaks (at O.written O.failures teller.old output.old)
-        (NoMemory ∷ []) status.Memory (at O.written O.failures teller.new output.new) result }
-    ensures refused { fault.now ≢ kind.Memory → Ends T.tells T.breaks (at O.written O.failures teller.old output.old)
-        (Refused fault.now ∷ []) status.Refused (at O.written O.failures teller.new output.new) result }
-{
-    match fault {
-        CompileFault::Memory => tell_last(teller, output, Said::NoMemory, Status::Memory),
-        _ => tell_last(teller, output, Said::Refused(fault), Status::Refused),
-    }
 }
 
 /// Tells the claims of a text, or why it has none.

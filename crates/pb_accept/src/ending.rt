@@ -1,7 +1,8 @@
 //! How a replay has ended.
 
 ghost use Rattle.std.specs.Prelude.{◌≡◌, ◌↔◌, ◌<◌, IsTrue, false, length};
-ghost use Rattle.pb_accept.specs.ReplayLines.{GoesOn, IsEnding, last_line as last_line_of};
+ghost use Rattle.pb_accept.specs.ReplayLines.{GoesOn, IsEnding};
+ghost use Rattle.pb_accept.specs.Sayings.{last_line as last_line_of};
 ghost use Rattle.pb_accept.specs.Stillness.{IsStillAt};
 ghost use Rattle.pb_base.specs.declared.lending.Lending.{Lending as LendingValue};
 ghost use Rattle.pb_machine.specs.Views.{machine_view, IsMachine, IsMachineBy};

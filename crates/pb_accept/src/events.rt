@@ -1,42 +1,35 @@
-//! The lines of the events of a trace.
-ghost use Rattle.std.specs.Prelude.{◌≡◌, All, IfErr, IfOk, OnOk};
-ghost use Rattle.pb_base.specs.Lines.{HasNames, names_view};
-ghost use Rattle.pb_command_io.specs.Answers.{Leaves, Tells};
-ghost use Rattle.pb_accept.specs.EventLines.{StopsIn};
-ghost use Rattle.pb_command_io.specs.Faults.{TellsWriteFaults};
-ghost use Rattle.pb_accept.specs.ToldEvents.{event_lines};
+//! The events of a trace.
+ghost use Rattle.std.specs.Prelude.{OnErr, OnOk};
+ghost use Rattle.pb_accept.specs.ToldEvents.{shown};
+ghost use Rattle.pb_base.specs.Lines.{names_view};
 ghost use Rattle.pb_history.specs.Entries.{events_of};
+ghost use Rattle.pb_voice.specs.Held.{at};
+ghost use Rattle.pb_voice.specs.Tellings.{Breaking, Telling};
 
-use pb_base::{Names, Output, event_line};
-use pb_command_io::{Page, Status};
+use crate::said::{Said, Shown};
+use crate::teller::Teller;
+use pb_base::{DeviceFault, Names, Output};
 use pb_history::Trace;
-use std::alloc::Global;
 
-/// Writes the line of each event. Returns the page with what waits to be written; or, if the lines stop
-/// before the last, the status of the command, which has then written all that it says.
-pub fn tell_events<O: Output>(
-    alloc: Global,
+/// Tells each event of a trace, in order.
+pub fn tell_events<O: Output, T: Teller>(
     names: &Names,
     trace: &Trace,
+    teller: &mut T,
     output: &mut O,
-) -> Result<Page, Status>
-    requires { All (HasNames (names_view names.now)) (events_of trace.now.entries) }
-    ensures told { IfOk result (λ page. Leaves (O.written output.old) (O.written output.new)
-        (event_lines (names_view names.now) (events_of trace.now.entries)) page) }
-    ensures counted { OnOk result (O.failures output.new ≡ O.failures output.old) }
-    ensures stopped { IfErr result (Tells (StopsIn (names_view names.now) (events_of trace.now.entries))
-        (O.written output.old) (O.written output.new)) }
-    ensures faults { IfErr result (TellsWriteFaults (O.failures output.old) (O.failures output.new)) }
+) -> Result<(), DeviceFault>
+    ensures told { OnOk result (Telling T.tells (at O.written O.failures teller.old output.old)
+        (shown (names_view names.now) (events_of trace.now.entries)) (at O.written O.failures teller.new output.new)) }
+    ensures broken { OnErr result (Breaking T.tells T.breaks (at O.written O.failures teller.old output.old)
+        (shown (names_view names.now) (events_of trace.now.entries)) (at O.written O.failures teller.new output.new)) }
 {
-    let mut page = Page::new(alloc);
     for i in 0..trace.events_len() {
-        let Ok(text) = event_line(alloc, names, &trace.event(i)) else {
-            return Err(page.finish_with(output, b"memory", Status::Memory));
+        let event = trace.event(i);
+        let shown = Shown {
+            names,
+            event: &event,
         };
-        match page.say_line(output, text.as_slice()) {
-            Ok(()) => {}
-            Err(_) => return Err(Status::Device),
-        }
+        teller.tell(output, Said::Shows(shown))?;
     }
-    Ok(page)
+    Ok(())
 }

@@ -1,5 +1,5 @@
-//! The engines that run no workers, over any input and output: how a text or an object is accepted or refused, and
-//! what `check`, `claims`, `emit`, `migrate` and `replay` do.
+//! The engines that run no workers, over any input, teller and output: how a text or an object is accepted or refused,
+//! and what `check`, `claims`, `emit`, `migrate` and `replay` do.
 #![tactic(auto)]
 
 mod accept;
@@ -8,12 +8,15 @@ mod check;
 mod claims;
 mod emit;
 mod ending;
+mod event_lines;
+mod event_objects;
 mod events;
 mod faults;
 mod lines;
 pub mod load;
 mod migrate;
 mod objects;
+mod reading;
 mod refusal;
 mod replay;
 pub mod run_text;
@@ -21,7 +24,7 @@ mod said;
 mod teller;
 mod written;
 
-pub use accept::{Refusal, compile_text, refuse};
+pub use accept::{Refusal, code_of_text, compile_text, refuse};
 pub use cause::{Cause, object_cause, picks_cause, text_cause, verify_cause};
 pub use check::check_engine;
 pub use claims::claims_engine;
@@ -30,8 +33,9 @@ pub use ending::{Ending, ending_of};
 pub use events::tell_events;
 pub use migrate::migrate_engine;
 pub use pb_options::{CheckOptions, EmitOptions};
+pub use reading::read_or_tell;
 pub use refusal::cause_text;
 pub use replay::{LinesFault, end_status, lines_refusal, make_lines_by, replay_engine, status_at};
-pub use said::{Claim, Said};
-pub use teller::Teller;
-pub use written::{write_checks, write_claims};
+pub use said::{Claim, Said, Shown};
+pub use teller::{Teller, tell_fault, tell_last};
+pub use written::{write_checks, write_claims, write_emission, write_migration, write_replay};

@@ -9,7 +9,10 @@ ghost use Rattle.pb_voice.specs.Held.{at};
 ghost use Rattle.pb_voice.specs.Voices.{Adds, Breaks};
 
 use crate::cause::{Cause, lex_cause, names_cause, parse_cause};
+use crate::event_lines::tell_event_line;
+use crate::load::load_cause;
 use crate::refusal::limit_words;
+use crate::replay::lines_cause;
 use crate::said::Said;
 use itoa::Buffer;
 use pb_base::{DeviceFault, Output};
@@ -132,6 +135,17 @@ pub(crate) fn tell_line<O: Output>(
                 ],
             )
         }
+        Said::NoCode(fault) => tell_cause(voice, output, load_cause(fault), b""),
+        Said::NoPicks(fault) => tell_cause(voice, output, lines_cause(fault), b""),
+        Said::BeyondFirst => voice.say(output, b"refused E1\n"),
+        Said::Text(text) => voice.say(output, text),
+        Said::Shows(shown) => tell_event_line(voice, output, shown),
+        Said::Ended(ending) => voice.say_all(output, &[ending.last_line(), b"\n"]),
+        Said::Limit(steps) => {
+            let mut digits = Buffer::new();
+            voice.say_all(output, &[b"limit ", digits.format(steps).as_bytes(), b"\n"])
+        }
+        Said::Threads => voice.say(output, b"threads\n"),
         Said::TooLong => voice.say(output, b"refused input\n"),
         Said::NoMemory => voice.say(output, b"memory\n"),
     }

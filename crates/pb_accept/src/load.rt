@@ -1,17 +1,23 @@
 //! Objects, read and verified.
-ghost use Rattle.std.specs.Prelude.{◌≡◌, ◌<◌, ℕ, IfErr, IfOk, List, length};
+ghost use Rattle.std.specs.Prelude.{◌≡◌, ◌<◌, ℕ, [], ◌∷◌, IfErr, IfOk, List, MatchOption, length};
 ghost use Rattle.pb_object.specs.Answers.{HasText};
 ghost use Rattle.pb_code.specs.View.{labels_view};
 ghost use Rattle.pb_code.specs.declared.format.Format.TheVariants.{Two};
-ghost use Rattle.pb_accept.specs.Loading as spec;
+ghost use Rattle.pb_accept.specs.Causes as causes;
 ghost use Rattle.pb_accept.specs.Loading.{IsLoaded, IsLoadFault, SaysOfNoCode};
+ghost use Rattle.pb_accept.specs.Sayings.{NoCode, NoMemory as OutOfMemory};
+ghost use Rattle.pb_command_io.specs.declared.status.Status.TheVariants as status;
+ghost use Rattle.pb_voice.specs.Held.{at};
+ghost use Rattle.pb_voice.specs.Tellings.{Ends};
 
 use crate::cause::{Cause, object_cause, verify_cause};
 use crate::refusal::refusal_text;
-use pb_base::NoMemory;
+use crate::said::Said;
+use crate::teller::{Teller, tell_refused};
 use pb_base::limits::MAX_INPUT;
+use pb_base::{NoMemory, Output};
 use pb_code::Labels;
-use pb_command_io::{Reply, refused};
+use pb_command_io::{Reply, Status, refused};
 use pb_object::{ObjectFault, read_any};
 use pb_verifier::{Verified, VerifyFault, verify};
 use std::alloc::Global;
@@ -45,12 +51,27 @@ pub fn load(alloc: Global, bytes: &[u8]) -> Result<(Verified, Labels), LoadFault
 
 /// Returns the cause of a refused object; none if it is out of memory.
 pub(crate) fn load_cause(fault: LoadFault) -> Option<Cause>
-    ensures { result ≡ spec.load_cause fault }
+    ensures { result ≡ causes.load_cause fault }
 {
     match fault {
         LoadFault::Object(fault) => object_cause(fault),
         LoadFault::Unsafe(fault) => verify_cause(fault),
     }
+}
+
+/// Tells that an object is refused for a fault, or out of memory.
+pub fn tell_load_fault<O: Output, T: Teller>(
+    teller: &mut T,
+    output: &mut O,
+    fault: LoadFault,
+) -> Status
+    ensures { MatchOption (causes.load_cause fault)
+        (Ends T.tells T.breaks (at O.written O.failures teller.old output.old) (OutOfMemory ∷ []) status.Memory
+        (at O.written O.failures teller.new output.new) result)
+        (λ c. Ends T.tells T.breaks (at O.written O.failures teller.old output.old) (NoCode fault ∷ []) status.Refused
+        (at O.written O.failures teller.new output.new) result) }
+{
+    tell_refused(teller, output, load_cause(fault), Said::NoCode(fault))
 }
 
 /// Returns the reply to bytes that have this fault, or out of memory if that is the fault or there is too

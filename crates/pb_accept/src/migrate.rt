@@ -1,73 +1,81 @@
-//! The command `migrate`, over any input and output.
-ghost use Rattle.std.specs.Prelude.{◌≡◌, ◌≤◌, IfOk, IfSome, length};
-ghost use Rattle.pb_command_io.specs.Answers.{Tells};
-ghost use Rattle.pb_command_io.specs.Inputs.{SaysOfInput};
+//! The command `migrate`, over any input, teller and output.
+ghost use Rattle.std.specs.Prelude.{◌≤◌, length};
+ghost use Rattle.pb_accept.specs.Claims.{SaysOfAny};
+ghost use Rattle.pb_accept.specs.Emissions.{SaysOfCode};
 ghost use Rattle.pb_accept.specs.Migrations.{SaysOfMigration};
-ghost use Rattle.pb_command_io.specs.Faults.{TellsFaults, TellsWriteFaults};
 ghost use Rattle.pb_code.specs.View.{code_view, labels_view};
-ghost use Rattle.pb_object.specs.Answers.{HasText, SpellsCode};
 ghost use Rattle.pb_code.specs.declared.format.Format.TheVariants.{Two};
+ghost use Rattle.pb_object.specs.Answers.{HasText};
+ghost use Rattle.pb_voice.specs.Held.{at};
+ghost use Rattle.pb_voice.specs.Tellings.{Answers, Speaks};
 
-use crate::load::{load, load_refusal};
+use crate::load::{load, tell_load_fault};
+use crate::reading::read_or_tell;
+use crate::said::Said;
+use crate::teller::{Teller, tell_last};
 use pb_base::limits::MAX_INPUT;
-use pb_base::{Input, NoMemory, Output};
+use pb_base::{Input, Output};
 use pb_code::{Code, Labels};
-use pb_command_io::{Reply, Status, read_input, tell};
+use pb_command_io::Status;
 use pb_object::write_object2;
 use std::alloc::Global;
 
-/// Returns the second format of the object that the bytes spell, or the line of their refusal.
-fn migration(alloc: Global, bytes: &[u8]) -> Result<Reply, NoMemory>
-    ensures { IfOk result (λ reply. SaysOfMigration bytes.now reply.text.items reply.status) }
+/// Tells the second format of this code, with these labels.
+fn tell_second_format<O: Output, T: Teller>(
+    alloc: Global,
+    code: &Code,
+    labels: &Labels,
+    teller: &mut T,
+    output: &mut O,
+) -> Status
+    requires { HasText Two (code_view code.now) (labels_view labels.now) }
+    ensures { Speaks T.tells T.breaks (SaysOfCode Two (code_view code.now) (labels_view labels.now))
+        (at O.written O.failures teller.old output.old) (at O.written O.failures teller.new output.new) result }
 {
-    match load(alloc, bytes) {
-        Ok((verified, labels)) => {
-            let reply = second_format(alloc, verified.code(), &labels);
-            drop(verified);
-            drop(labels);
-            reply
-        }
-        Err(fault) => load_refusal(alloc, fault),
+    match write_object2(alloc, code, labels) {
+        Ok(text) => tell_last(teller, output, Said::Text(&text), Status::Done),
+        Err(_) => tell_last(teller, output, Said::NoMemory, Status::Memory),
     }
 }
 
-/// Returns the second format of this code, with these labels.
-fn second_format(alloc: Global, code: &Code, labels: &Labels) -> Result<Reply, NoMemory>
-    requires { HasText Two (code_view code.now) (labels_view labels.now) }
-    ensures { IfOk result (λ reply. SpellsCode Two (code_view code.now) (labels_view labels.now) reply.text.items × (reply.status ≡ Status.Done)) }
-{
-    let text = write_object2(alloc, code, labels)?;
-    Ok(Reply {
-        text,
-        status: Status::Done,
-    })
-}
-
-/// Writes the reply to the bytes of an object.
-fn tell_migration<O: Output>(alloc: Global, bytes: &[u8], output: &mut O) -> Status
+/// Tells the second format of the object that the bytes spell, or its refusal.
+fn tell_migration<O: Output, T: Teller>(
+    alloc: Global,
+    bytes: &[u8],
+    teller: &mut T,
+    output: &mut O,
+) -> Status
     requires { length bytes.now ≤ MAX_INPUT }
-    ensures text { Tells (SaysOfInput SaysOfMigration bytes.now) (O.written output.old) (O.written output.new) result }
-    ensures faults { TellsWriteFaults (O.failures output.old) (O.failures output.new) result }
+    ensures { Speaks T.tells T.breaks (SaysOfAny SaysOfMigration bytes.now) (at O.written O.failures teller.old output.old)
+        (at O.written O.failures teller.new output.new) result }
 {
-    tell(alloc, migration(alloc, bytes), output)
+    match load(alloc, bytes) {
+        Ok((verified, labels)) => {
+            let status = tell_second_format(alloc, verified.code(), &labels, teller, output);
+            drop(verified);
+            drop(labels);
+            status
+        }
+        Err(fault) => tell_load_fault(teller, output, fault),
+    }
 }
 
-/// Writes the object on the input once more, in the second format, or the line of its refusal: by its text,
+/// Tells the object on the input once more, in the second format, or its refusal: by its text,
 /// or by the first fault of its code. From the first format integers get the names `v0`, `v1` and so on, and
 /// no place a line.
 ///
-/// After a read that failed nothing is written; after a write that failed, a prefix of the
-/// output.
-pub fn migrate_engine<I: Input, O: Output>(alloc: Global, input: &mut I, output: &mut O) -> Status
-    ensures text { IfSome (I.rest input.old) (λ bytes.
-        Tells (SaysOfInput SaysOfMigration bytes) (O.written output.old) (O.written output.new) result) }
-    ensures faults { TellsFaults
-        (record { reads = I.failures input.old; writes = O.failures output.old; written = O.written output.old })
-        (record { reads = I.failures input.new; writes = O.failures output.new; written = O.written output.new })
-        result }
+/// After a read that failed nothing is told; after a write that failed, no more.
+pub fn migrate_engine<I: Input, O: Output, T: Teller>(
+    alloc: Global,
+    input: &mut I,
+    teller: &mut T,
+    output: &mut O,
+) -> Status
+    ensures { Answers T.tells T.breaks (SaysOfAny SaysOfMigration) (I.rest input.old) (I.failures input.old) (I.failures input.new)
+        (at O.written O.failures teller.old output.old) (at O.written O.failures teller.new output.new) result }
 {
-    match read_input(alloc, input, output) {
-        Ok(bytes) => tell_migration(alloc, bytes.as_slice(), output),
+    match read_or_tell(alloc, input, teller, output) {
+        Ok(bytes) => tell_migration(alloc, &bytes, teller, output),
         Err(status) => status,
     }
 }

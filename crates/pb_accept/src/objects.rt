@@ -1,19 +1,24 @@
 //! What is said, as objects of JSON.
 
 ghost use Rattle.std.specs.Prelude.{◌≡◌, OnOk, OnErr};
-ghost use Rattle.pb_accept.specs.Sayings as spec;
-ghost use Rattle.pb_accept.specs.Sayings.{cause_json, fault_json, json_of, over_json};
+ghost use Rattle.pb_accept.specs.Objects as spec;
+ghost use Rattle.pb_accept.specs.Objects.{cause_json, fault_json, json_of, over_json};
+ghost use Rattle.pb_accept.specs.Sayings as sayings;
 ghost use Rattle.pb_accept.specs.View.{said_view};
 ghost use Rattle.pb_voice.specs.Held.{at};
 ghost use Rattle.pb_voice.specs.Voices.{Adds, Breaks};
 
 use crate::cause::{Cause, lex_cause, names_cause, parse_cause};
+use crate::ending::Ending;
+use crate::event_objects::tell_event_object;
+use crate::load::load_cause;
+use crate::replay::lines_cause;
 use crate::said::{Claim, Said};
 use itoa::Buffer;
 use pb_base::{DeviceFault, Output};
 use pb_codegen::{ClaimsFault, CompileFault};
 use pb_names::{Kind, NameFault};
-use pb_voice::{Voice, say_pieces};
+use pb_voice::{Voice, say_lines, say_pieces};
 
 /// Returns the member for what there is too much of.
 fn kind_json(kind: Kind) -> &'static [u8]
@@ -145,9 +150,9 @@ fn tell_claim<O: Output>(
     claim: Claim<'_>,
 ) -> Result<(), DeviceFault>
     ensures ok { OnOk result (Adds (at O.written O.failures voice.old output.old)
-        (json_of (spec.Claim claim.entry.process.now claim.entry.amount claim.entry.resource.now)) (at O.written O.failures voice.new output.new)) }
+        (json_of (sayings.Claim claim.entry.process.now claim.entry.amount claim.entry.resource.now)) (at O.written O.failures voice.new output.new)) }
     ensures err { OnErr result (Breaks (at O.written O.failures voice.old output.old)
-        (json_of (spec.Claim claim.entry.process.now claim.entry.amount claim.entry.resource.now)) (at O.written O.failures voice.new output.new)) }
+        (json_of (sayings.Claim claim.entry.process.now claim.entry.amount claim.entry.resource.now)) (at O.written O.failures voice.new output.new)) }
 {
     let mut digits = Buffer::new();
     say_pieces(
@@ -166,6 +171,17 @@ fn tell_claim<O: Output>(
     )
 }
 
+/// Returns the object of how a replay ended.
+fn ending_json(ending: Ending) -> &'static [u8]
+    ensures { result.now ≡ spec.ending_json ending }
+{
+    match ending {
+        Ending::Over => b"{\"kind\":\"done\"}\n",
+        Ending::Stuck => b"{\"kind\":\"deadlocked\"}\n",
+        Ending::Open => b"{\"kind\":\"open\"}\n",
+    }
+}
+
 /// Tells a thing by its object.
 pub(crate) fn tell_object<O: Output>(
     voice: &mut Voice,
@@ -181,6 +197,24 @@ pub(crate) fn tell_object<O: Output>(
         Said::Accepted => voice.say(output, b"{\"kind\":\"ok\"}\n"),
         Said::Refused(fault) => tell_fault(voice, output, fault),
         Said::Claim(claim) => tell_claim(voice, output, claim),
+        Said::NoCode(fault) => tell_cause(voice, output, load_cause(fault), b""),
+        Said::NoPicks(fault) => tell_cause(voice, output, lines_cause(fault), b""),
+        Said::BeyondFirst => voice.say(output, b"{\"kind\":\"refused\",\"code\":\"E1\"}\n"),
+        Said::Text(text) => say_lines(voice, output, b"line", text),
+        Said::Shows(shown) => tell_event_object(voice, output, shown),
+        Said::Ended(ending) => voice.say(output, ending_json(ending)),
+        Said::Limit(steps) => {
+            let mut digits = Buffer::new();
+            voice.say_all(
+                output,
+                &[
+                    b"{\"kind\":\"limit\",\"limit\":",
+                    digits.format(steps).as_bytes(),
+                    b"}\n",
+                ],
+            )
+        }
+        Said::Threads => voice.say(output, b"{\"kind\":\"threads\"}\n"),
         Said::TooLong => voice.say(output, b"{\"kind\":\"refused\",\"code\":\"input\"}\n"),
         Said::NoMemory => voice.say(output, b"{\"kind\":\"memory\"}\n"),
     }

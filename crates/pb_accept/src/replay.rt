@@ -1,13 +1,11 @@
-//! The command `replay`, over any input and output.
-ghost use Rattle.std.specs.Prelude.{◌≡◌, ◌≢◌, ◌≤◌, ℕ, List, All, IfErr, IfOk, IfSome, length};
-ghost use Rattle.pb_base.specs.Lines.{HasNames};
+//! The command `replay`, over any input, teller and output.
+ghost use Rattle.std.specs.Prelude.{◌≡◌, ◌≢◌, ◌≤◌, ℕ, List, IfErr, IfOk, length};
 ghost use Rattle.pb_base.specs.declared.lending.Lending.{Lending as LendingValue};
-ghost use Rattle.pb_command_io.specs.Answers.{Tells};
-ghost use Rattle.pb_command_io.specs.Faults.{TellsFaults, TellsWriteFaults};
-ghost use Rattle.pb_command_io.specs.Inputs.{SaysOfInput};
+ghost use Rattle.pb_accept.specs.Claims.{SaysOfAny};
 ghost use Rattle.pb_accept.specs.ReplayLines.{AreReplayed, AreReplayedBy, IsEndStatus, IsLinesFault, IsLinesFaultBy};
-ghost use Rattle.pb_accept.specs.ReplayLines.{IsStatusAt, SaysOfEvents, SaysOfLines, SaysOfNoPicksBy, SaysOfReplay};
-ghost use Rattle.pb_accept.specs.ReplayLines as spec;
+ghost use Rattle.pb_accept.specs.ReplayLines.{IsStatusAt, SaysOfNoPicksBy};
+ghost use Rattle.pb_accept.specs.Causes as spec;
+ghost use Rattle.pb_accept.specs.Replays.{SaysOfEvents, SaysOfLines, SaysOfReplay};
 ghost use Rattle.pb_history.specs.Entries.{events_of};
 ghost use Rattle.pb_base.specs.Steppers.{State};
 ghost use Rattle.pb_code.specs.Code.{CodeProcess};
@@ -15,16 +13,21 @@ ghost use Rattle.pb_code.specs.Whole.{Code};
 ghost use Rattle.pb_machine.specs.Views.{machine_view, IsMachine, IsMachineBy};
 ghost use Rattle.pb_options.specs.Lends.{lending_for};
 ghost use Rattle.pb_command_io.specs.declared.status.Status.TheVariants.{Device};
+ghost use Rattle.pb_voice.specs.Held.{at};
+ghost use Rattle.pb_voice.specs.Tellings.{Answers, Speaks};
 
-use crate::accept::{compile_text, refuse};
+use crate::accept::code_of_text;
 use crate::cause::{Cause, picks_cause, stop_cause};
 use crate::ending::{Ending, ending_of};
 use crate::events::tell_events;
 use crate::faults::has_fault;
+use crate::reading::read_or_tell;
 use crate::refusal::refusal_text;
+use crate::said::Said;
+use crate::teller::{Teller, tell_fault, tell_last, tell_refused};
 use pb_base::limits::MAX_INPUT;
 use pb_base::{Input, Lending, NoMemory, Output};
-use pb_command_io::{Reply, Status, read_input, refused, tell, two_parts};
+use pb_command_io::{Reply, Status, refused, two_parts};
 use pb_history::replay::replay_counted_by;
 use pb_history::{ReplayFault, Trace};
 use pb_machine::Machine;
@@ -42,66 +45,70 @@ pub enum LinesFault {
     NotMade(ReplayFault),
 }
 
-/// Makes the picks that the pick lines behind the text of the input say, from the start of the text: writes
-/// the line of each event, and then `done` if every process has ended or faulted, `deadlock` if one has not and
-/// no pick is enabled, else `open`. A line `%%` is between the text and the pick lines. For a text, lines or
-/// picks that are refused it writes their refusal line alone.
+/// Makes the picks that the pick lines behind the text of the input say, from the start of the text: tells
+/// each event, and then how it ended: every process has ended or faulted, or one has not and
+/// no pick is enabled, or it could go on. A line `%%` is between the text and the pick lines. Of a text, lines or
+/// picks that are refused it tells the refusal alone.
 ///
-/// The status is `Deadlock` behind `deadlock`; otherwise `Fault` if a process faulted. After a read that failed
-/// nothing is written; after a write that failed, a prefix of the output.
-pub fn replay_engine<I: Input, O: Output>(
+/// The status is `Deadlock` if it ended in one; otherwise `Fault` if a process faulted. After a read that failed
+/// nothing is told; after a write that failed, no more.
+pub fn replay_engine<I: Input, O: Output, T: Teller>(
     alloc: Global,
     options: ReplayOptions,
     input: &mut I,
+    teller: &mut T,
     output: &mut O,
 ) -> Status
-    ensures text { IfSome (I.rest input.old) (λ bytes.
-        Tells (SaysOfInput (SaysOfReplay (lending_for options.lend)) bytes) (O.written output.old) (O.written output.new) result) }
-    ensures faults { TellsFaults
-        (record { reads = I.failures input.old; writes = O.failures output.old; written = O.written output.old })
-        (record { reads = I.failures input.new; writes = O.failures output.new; written = O.written output.new })
-        result }
+    ensures { Answers T.tells T.breaks (SaysOfAny (SaysOfReplay (lending_for options.lend))) (I.rest input.old) (I.failures input.old)
+        (I.failures input.new) (at O.written O.failures teller.old output.old) (at O.written O.failures teller.new output.new) result }
 {
-    match read_input(alloc, input, output) {
-        Ok(bytes) => replay_text(alloc, options.lend.lending(), bytes.as_slice(), output),
+    match read_or_tell(alloc, input, teller, output) {
+        Ok(bytes) => replay_text(alloc, options.lend.lending(), &bytes, teller, output),
         Err(status) => status,
     }
 }
 
 /// Makes the picks that the lines behind a text say.
-fn replay_text<O: Output>(alloc: Global, lending: Lending, bytes: &[u8], output: &mut O) -> Status
+fn replay_text<O: Output, T: Teller>(
+    alloc: Global,
+    lending: Lending,
+    bytes: &[u8],
+    teller: &mut T,
+    output: &mut O,
+) -> Status
     requires { length bytes.now ≤ MAX_INPUT }
-    ensures text { Tells (SaysOfInput (SaysOfReplay lending) bytes.now) (O.written output.old) (O.written output.new) result }
-    ensures faults { TellsWriteFaults (O.failures output.old) (O.failures output.new) result }
+    ensures { Speaks T.tells T.breaks (SaysOfAny (SaysOfReplay lending) bytes.now) (at O.written O.failures teller.old output.old)
+        (at O.written O.failures teller.new output.new) result }
 {
     let (text, lines) = two_parts(bytes);
-    match compile_text(alloc, text) {
+    match code_of_text(alloc, text) {
         Ok(compiled) => {
-            let status = replay_lines(alloc, lending, compiled.verified(), lines, output);
+            let status = replay_lines(alloc, lending, compiled.verified(), lines, teller, output);
             drop(compiled);
             status
         }
-        Err(refusal) => refuse(alloc, refusal, output),
+        Err(fault) => tell_fault(teller, output, &fault),
     }
 }
 
-/// Makes the picks that lines say, and writes what they show, or why they are not made.
-fn replay_lines<O: Output>(
+/// Makes the picks that lines say, and tells what they show, or why they are not made.
+fn replay_lines<O: Output, T: Teller>(
     alloc: Global,
     lending: Lending,
     verified: &Verified,
     lines: &[u8],
+    teller: &mut T,
     output: &mut O,
 ) -> Status
-    ensures text { Tells (SaysOfLines lending verified.now.code lines.now) (O.written output.old) (O.written output.new) result }
-    ensures faults { TellsWriteFaults (O.failures output.old) (O.failures output.new) result }
+    ensures { Speaks T.tells T.breaks (SaysOfLines lending verified.now.code lines.now) (at O.written O.failures teller.old output.old)
+        (at O.written O.failures teller.new output.new) result }
 {
     match make_lines_by(alloc, lending, verified, lines) {
         Ok((machine, trace)) => {
             let mut machine = machine;
-            tell_replay(alloc, verified, &trace, &mut machine, output)
+            tell_replay(verified, &trace, &mut machine, teller, output)
         }
-        Err(fault) => tell(alloc, lines_refusal(alloc, fault), output),
+        Err(fault) => tell_refused(teller, output, lines_cause(fault), Said::NoPicks(fault)),
     }
 }
 
@@ -186,27 +193,25 @@ pub fn status_at(machine: &Machine) -> Status
     }
 }
 
-/// Writes the line of each event, and the last line of a replay that has come to here. If the machine could go
+/// Tells each event, and how a replay has ended that has come to here. If the machine could go
 /// on, a pick is made that is enabled.
-fn tell_replay<O: Output>(
-    alloc: Global,
+fn tell_replay<O: Output, T: Teller>(
     verified: &Verified,
     trace: &Trace,
     machine: &mut Machine,
+    teller: &mut T,
     output: &mut O,
 ) -> Status
-    requires machine { IsMachine verified.now machine.old }
-    requires names { All (HasNames verified.now.code.names) (events_of trace.now.entries) }
-    ensures text { (lending : LendingValue) → IsMachineBy lending verified.now machine.old
-        → Tells (SaysOfEvents lending verified.now.code (events_of trace.now.entries) (machine_view machine.old))
-        (O.written output.old) (O.written output.new) result }
-    ensures faults { TellsWriteFaults (O.failures output.old) (O.failures output.new) result }
+    requires { IsMachine verified.now machine.old }
+    ensures { (lending : LendingValue) → IsMachineBy lending verified.now machine.old
+        → Speaks T.tells T.breaks (SaysOfEvents lending verified.now.code (events_of trace.now.entries) (machine_view machine.old))
+        (at O.written O.failures teller.old output.old) (at O.written O.failures teller.new output.new) result }
 {
     let faulted = status_at(machine);
     let ending = ending_of(machine, verified);
     let status = end_status(ending, faulted);
-    match tell_events(alloc, &verified.code().names, trace, output) {
-        Ok(page) => page.finish_with(output, ending.last_line(), status),
-        Err(status) => status,
+    match tell_events(&verified.code().names, trace, teller, output) {
+        Ok(()) => tell_last(teller, output, Said::Ended(ending), status),
+        Err(_) => Status::Device,
     }
 }

@@ -1,5 +1,9 @@
-//! What `check` and `claims` say.
+//! What commands say.
 
+use crate::ending::Ending;
+use crate::load::LoadFault;
+use crate::replay::LinesFault;
+use pb_base::{Event, Names};
 use pb_codegen::CompileFault;
 
 /// The most that a process may hold of a resource.
@@ -10,8 +14,15 @@ pub struct Claim<'t> {
     pub resource: &'t [u8],
 }
 
+/// An event, with the names of what it speaks of.
+#[derive(Clone, Copy)]
+pub struct Shown<'t> {
+    pub names: &'t Names,
+    pub event: &'t Event,
+}
+
 /// One thing that is said.
-// To add one: specs/{Sayings,View}, `tell_line` and `tell_object`.
+// To add one: specs/{Sayings,Objects,View}, `tell_line` and `tell_object`.
 #[derive(Clone, Copy)]
 pub enum Said<'t> {
     /// A text is accepted.
@@ -20,6 +31,22 @@ pub enum Said<'t> {
     Refused(&'t CompileFault),
     /// A process has this claim on a resource.
     Claim(Claim<'t>),
+    /// An object is refused, for this fault.
+    NoCode(LoadFault),
+    /// Pick lines are refused, for this fault.
+    NoPicks(LinesFault),
+    /// The first format of objects can't have the code.
+    BeyondFirst,
+    /// A text is written as it is.
+    Text(&'t [u8]),
+    /// A run shows this event.
+    Shows(Shown<'t>),
+    /// A run ended so.
+    Ended(Ending),
+    /// A run made as many picks as it may.
+    Limit(u32),
+    /// A thread could not be started.
+    Threads,
     /// The input is too long.
     TooLong,
     /// Out of memory.

@@ -6,7 +6,7 @@ use Rattle.pb_accept.specs.Checks.{SaysOfChecks}
 use Rattle.pb_accept.specs.Claims.{SaysOfClaims}
 use Rattle.pb_accept.specs.Emissions.{SaysOfEmission}
 use Rattle.pb_accept.specs.Migrations.{SaysOfMigration}
-use Rattle.pb_accept.specs.ReplayLines.{SaysOfReplay}
+use Rattle.pb_accept.specs.Replays.{SaysOfReplay}
 use Rattle.pb_accept.specs.Sayings.{line_of}
 use Rattle.pb_adapter_engine.specs.Adapters.{SaysOfAdapter}
 use Rattle.pb_bank_engine.specs.Sessions.{SaysOfBank}
@@ -44,16 +44,16 @@ CommandSays option.Claims = SaysOfInput (Written line_of SaysOfClaims)
 CommandSays option.Dap = SaysOfAdapter
 CommandSays (option.Debug flags) = says_of_commands flags.live (lending_for flags.lend)
 CommandSays (option.Draw options) = SaysOfInput (SaysOfDraw (lending_for options.lend) (size_of options))
-CommandSays (option.Emit numbers) = SaysOfInput (SaysOfEmission numbers.object)
-CommandSays (option.Exec numbers) = SaysOfInput (SaysOfExecution numbers.steps)
+CommandSays (option.Emit numbers) = SaysOfInput (Written line_of (SaysOfEmission numbers.object))
+CommandSays (option.Exec numbers) = SaysOfInput (Written line_of (SaysOfExecution numbers.steps))
 CommandSays (option.Explain code) = λ bytes. SaysOfExplain code
 CommandSays option.Lsp = SaysOfServer
-CommandSays option.Migrate = SaysOfInput SaysOfMigration
+CommandSays option.Migrate = SaysOfInput (Written line_of SaysOfMigration)
 CommandSays (option.Outcomes numbers) = SaysOfInput (SaysOfSearches numbers)
 CommandSays (option.Plan options) = SaysOfInput (SaysOfPlan (lending_for options.lend))
 CommandSays (option.Record numbers) = SaysOfInput (SaysOfRecord (lending_for numbers.lend) numbers.run.steps numbers.seed)
-CommandSays (option.Replay options) = SaysOfInput (SaysOfReplay (lending_for options.lend))
-CommandSays (option.Run numbers) = SaysOfInput (SaysOfTextRun numbers.steps)
+CommandSays (option.Replay options) = SaysOfInput (Written line_of (SaysOfReplay (lending_for options.lend)))
+CommandSays (option.Run numbers) = SaysOfInput (Written line_of (SaysOfTextRun numbers.steps))
 CommandSays (option.States options) = SaysOfInput (SaysOfStates (lending_for options.lend) (shown_by options))
 
 -- the words say a command, which tells of these bytes what it may

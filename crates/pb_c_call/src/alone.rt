@@ -9,7 +9,7 @@ ghost use Rattle.pb_options.specs.Lends.{lending_for};
 ghost use Rattle.pb_c_call.specs.Replies.{RefusesThreads};
 
 use crate::drawn::record_drawn_engine;
-use pb_accept::{emit_engine, migrate_engine, replay_engine, write_checks, write_claims};
+use pb_accept::{write_checks, write_claims, write_emission, write_migration, write_replay};
 use pb_adapter_engine::adapter_engine;
 use pb_bank_engine::bank_engine;
 use pb_base::{Input, Output};
@@ -45,13 +45,13 @@ pub fn answer_alone<I: Input, O: Output>(
         Ok(Options::Dap) => adapter_engine(alloc, input, output),
         Ok(Options::Debug(flags)) => debug(alloc, flags, input, output),
         Ok(Options::Draw(options)) => draw_engine(alloc, options, input, output),
-        Ok(Options::Emit(numbers)) => emit_engine(alloc, numbers, input, output),
+        Ok(Options::Emit(numbers)) => write_emission(alloc, numbers, input, output),
         Ok(Options::Explain(code)) => explain_engine(alloc, code, output),
         Ok(Options::Lsp) => server_engine(alloc, input, output),
-        Ok(Options::Migrate) => migrate_engine(alloc, input, output),
+        Ok(Options::Migrate) => write_migration(alloc, input, output),
         Ok(Options::Outcomes(numbers)) => outcomes_engine(alloc, numbers, input, output),
         Ok(Options::Plan(options)) => plan(alloc, options, input, output),
-        Ok(Options::Replay(options)) => replay_engine(alloc, options, input, output),
+        Ok(Options::Replay(options)) => write_replay(alloc, options, input, output),
         Ok(Options::Exec(numbers)) => {
             let _ = numbers;
             Status::Threads

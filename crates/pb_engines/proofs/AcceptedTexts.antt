@@ -1,12 +1,13 @@
--- An accepted text is not refused.
-use Rattle.std.proofs.Common.{◌≡◌, ◌≢◌, ℕ, List, inl, inr, sym, subst, arith}
+-- An accepted text has no fault.
+use Rattle.std.proofs.Common.{◌≡◌, ◌≢◌, ℕ, List, inl, inr, refl, sym, subst, arith}
 use Rattle.pb_base.specs.Steppers.{Table}
 use Rattle.pb_claims.specs.Fits.{FitCapital, IsFirstOver}
 use Rattle.pb_claims.specs.declared.over_capital.OverCapital.{OverCapital}
 use Rattle.pb_codegen.proofs.TextOneCode.{one_analysis}
 use Rattle.pb_codegen.specs.Compiled.{IsParseFault, IsRefused}
 use Rattle.pb_codegen.specs.Numbered.{IsReadAs, Spells}
-use Rattle.pb_codegen.specs.declared.fault.CompileFault.TheVariants.{Lex, Names}
+use Rattle.pb_codegen.specs.declared.fault.CompileFault.{CompileFault}
+use Rattle.pb_codegen.specs.declared.fault.CompileFault.TheVariants.{Lex, Parse, Names, Claims, Memory}
 use Rattle.pb_lexer.proofs.Cuttings.{one_cutting}
 use Rattle.pb_lexer.proofs.Faults.{no_fault as no_lex_fault}
 use Rattle.pb_lexer.specs.Tokens.{Token}
@@ -23,8 +24,7 @@ use Rattle.pb_grammar.specs.Programs.{ReadsProgram}
 use Rattle.pb_grammar.specs.declared.fault.ParseFault.{ParseFault}
 use Rattle.pb_grammar.specs.declared.fault.ParseFault.TheVariants as parse
 use Rattle.pb_tree.specs.Syntax.{ProgramSyntax}
-use Rattle.pb_accept.specs.Refusals.{IsAcceptedText, RefusesEarly, RefusesWith, by_claims, by_grammar, by_names}
-use Rattle.pb_accept.specs.Refusals.{by_tokens, early}
+use Rattle.pb_accept.specs.Refusals.{IsAcceptedText}
 
 module _ (text : List ℕ) (accepted : IsAcceptedText text) where
   spelled : Spells text accepted.numbered.tree
@@ -85,12 +85,10 @@ module _ (text : List ℕ) (accepted : IsAcceptedText text) where
       let less = at.over in
       omega (arith, most, less)
 
-  not_early : (refusal : List ℕ) → RefusesEarly text refusal → ⊥
-  not_early refusal (by_tokens fault is _ its_line) = no_token_fault fault is
-  not_early refusal (by_grammar fault (tokens, cut, is) _ its_line) =
+  pub accepted_has_no_fault : (fault : CompileFault) → fault ≢ Memory → IsRefused text fault → ⊥
+  accepted_has_no_fault (Lex fault) not is = no_token_fault fault is
+  accepted_has_no_fault (Parse fault) not (tokens, cut, is) =
       no_parse_fault fault (subst (λ (ts : List Token). IsParseFault ts fault) (one_cutting text tokens spelled.tokens cut.cuts spelled.cut.cuts) is)
-  not_early refusal (by_names fault is _ its_line) = no_names_fault fault is
-
-  pub accepted_is_not_refused : (refusal : List ℕ) → RefusesWith text refusal → ⊥
-  accepted_is_not_refused refusal (early _ is) = not_early refusal is
-  accepted_is_not_refused _ (by_claims fault (program, claims, numbered, is)) = none_over program claims is.over numbered is.first
+  accepted_has_no_fault (Names fault) not is = no_names_fault fault is
+  accepted_has_no_fault (Claims fault) not (program, claims, numbered, is) = none_over program claims is.over numbered is.first
+  accepted_has_no_fault Memory not is = not refl

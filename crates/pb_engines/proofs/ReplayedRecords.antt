@@ -1,7 +1,7 @@
 -- What was recorded can be replayed.
 use Rattle.std.proofs.Common.{◌≡◌, ◌≢◌, ◌↔◌, ℕ, zero, suc, ◌<◌, ◌≤◌, ◌⊎◌, List, [], ◌∷◌, length, length-append, take}
 use Rattle.std.proofs.Common.{Option, Some, None, refl, sym, ap, subst, ◌∙◌, inl, inr, arith}
-use Rattle.std.specs.Prelude.{option_map, slice_get}
+use Rattle.std.specs.Prelude.{slice_get}
 use Rattle.pb_base.specs.declared.event.Event.{Event}
 use Rattle.pb_base.specs.declared.pick.Pick.{Pick}
 use Rattle.pb_base.specs.declared.lending.Lending.{Lending}
@@ -13,7 +13,7 @@ use Rattle.pb_code.specs.Reached.{CodeStaysBy}
 use Rattle.pb_code.specs.Whole.{Code, ProcessLabels, bank_by, code_opening}
 use Rattle.pb_codegen.proofs.TextOutcomes.{sound}
 use Rattle.pb_codegen.proofs.TextOneCode.{one_code}
-use Rattle.pb_codegen.specs.Compiled.{IsCompiled}
+use Rattle.pb_codegen.specs.Compiled.{IsCompiled, IsRefused}
 use Rattle.pb_history.proofs.TraceSteps.{traces_make}
 use Rattle.pb_history.specs.Entries.{Entry, events_of, picks_of}
 use Rattle.pb_history.specs.Leads.{LeadsBy}
@@ -32,19 +32,19 @@ use Rattle.pb_accept.specs.RunTexts.{EndsLine, IsEnded, with_picks}
 use Rattle.pb_engines.specs.Records.{IsRecordedWith, SaysOfRecord, SaysOfRecording, accepted}
 use Rattle.pb_record.specs.Recorded.{IsRecorded}
 use Rattle.pb_engines.specs.Records.{no_threads, recorded_status, refused, too_long, written}
-use Rattle.pb_accept.specs.Refusals.{RefusesWith, refused as by_line}
-use Rattle.pb_accept.specs.ReplayLines.{AreReplayedBy, IsEnding, IsEndStatus, IsLinesFaultBy, IsStatusAt, SaysOfEvents, SaysOfReplay, all_told}
-use Rattle.pb_accept.specs.Causes.{cause_line, picks_cause, stop_cause}
-use Rattle.pb_accept.specs.ReplayLines.{lines_line, made_again, no_fault, no_picks, no_text, out_of_memory}
-use Rattle.pb_accept.specs.ReplayLines.{refused as not_made, some_fault}
+use Rattle.pb_accept.specs.Causes.{lines_cause, picks_cause, stop_cause}
+use Rattle.pb_accept.specs.Refusals.{refused as by_line}
+use Rattle.pb_accept.specs.ReplayLines.{AreReplayedBy, IsEnding, IsEndStatus, IsLinesFaultBy, IsStatusAt, no_fault, some_fault}
+use Rattle.pb_accept.specs.Replays.{SaysOfEvents, SaysOfReplay, all_told, made_again, no_picks, no_text}
+use Rattle.pb_accept.specs.Sayings.{Saying}
 use Rattle.pb_accept.specs.declared.ending.Ending.{Ending}
 use Rattle.pb_accept.specs.declared.ending.Ending.TheVariants.{Over, Stuck, Open}
 use Rattle.pb_accept.specs.declared.replay.LinesFault.{LinesFault}
 use Rattle.pb_accept.specs.declared.replay.LinesFault.TheVariants.{NotMade, NotRead}
 use Rattle.pb_command_io.specs.declared.status.Status.{Status}
-use Rattle.pb_command_io.specs.declared.status.Status.TheVariants.{Deadlock, Done, Memory, Refused, Threads}
+use Rattle.pb_command_io.specs.declared.status.Status.TheVariants.{Deadlock, Done, Refused, Threads}
 use Rattle.pb_accept.proofs.AcceptLemmas.{compiled_is_accepted}
-use Rattle.pb_engines.proofs.AcceptedTexts.{accepted_is_not_refused}
+use Rattle.pb_engines.proofs.AcceptedTexts.{accepted_has_no_fault}
 use Rattle.pb_engines.proofs.CutRecords.{cut_as_written}
 use Rattle.pb_engines.proofs.EndedTexts.{ended_is_compiled}
 use Rattle.pb_record.proofs.RecordedPicks.{recorded_can_be_said}
@@ -96,12 +96,12 @@ module _ (lending : Lending) (code : Code) (faultless : IsFaultless code) (steps
       let few = recorded.few in
       lines_spell code picks limits (recorded_can_be_said lending code faultless steps seed picks end most recorded) (omega (arith, few, most))
 
-  pub no_line_is_refused : (fault : LinesFault) → IsLinesFaultBy lending code lines fault → lines_line fault ≡ None
+  pub no_line_is_refused : (fault : LinesFault) → IsLinesFaultBy lending code lines fault → lines_cause fault ≡ None
   no_line_is_refused (NotRead fault) faulty =
-      ap (λ f. option_map cause_line (picks_cause f)) (spelled_is_not_faulty code lines picks fault limits said_lines faulty)
+      ap picks_cause (spelled_is_not_faulty code lines picks fault limits said_lines faulty)
   no_line_is_refused (NotMade fault) (counted, spelled, stopped) =
       let same : counted ≡ picks = spells_at_most_one code lines counted picks limits spelled said_lines in
-      ap (λ f. option_map cause_line (stop_cause f)) (recorded_never_stops lending code steps seed picks end recorded fault
+      ap stop_cause (recorded_never_stops lending code steps seed picks end recorded fault
       (subst (λ (cs : List CountedPick). IsStoppedBy lending code (spread cs) fault) same stopped))
 
 -- ---- what `record` wrote
@@ -125,10 +125,9 @@ no_refusal_ends end Over status is same = no_refusal_at end status is same
 no_refusal_ends end Open status is same = no_refusal_at end status is same
 no_refusal_ends end Stuck status is same = let both : Deadlock ≡ Refused = sym is ∙ same in absurd cc
 
-no_refusal_told : (lending : Lending) (code : Code) (events : List Event) (end : State CodeProcess) (said : List ℕ) (status : Status)
+no_refusal_told : (lending : Lending) (code : Code) (events : List Event) (end : State CodeProcess) (said : List Saying) (status : Status)
     → SaysOfEvents lending code events end said status → status ≢ Refused
 no_refusal_told lending code events end _ _ (all_told ending is status its_status) same = no_refusal_ends end ending status its_status same
-no_refusal_told lending code events end _ _ (out_of_memory n) same = absurd cc
 
 -- compiled code has no fault
 pub is_annotated : (text : List ℕ) (code : Code) (labels : List ProcessLabels) → IsCompiled text code labels → IsFaultless code
@@ -242,19 +241,19 @@ module _ (lending : Lending) (steps : ℕ) (seed : Option ℕ) (bytes : List ℕ
           (one_code ended other code others labels (subst (λ (t : List ℕ). IsCompiled t other others) same is_other) here).0
 
       -- what `replay` says of it is not a refusal
-      never_refused : (whole said : List ℕ) (answered : Status) → whole ≡ with_picks ended code.names picks
+      never_refused : (whole : List ℕ) (said : List Saying) (answered : Status) → whole ≡ with_picks ended code.names picks
           → SaysOfReplay lending whole said answered → answered ≢ Refused
-      never_refused whole _ _ e (no_text text lines cut refusal is_refused) refuses =
+      never_refused whole _ _ e (no_text text lines cut fault not is_refused) refuses =
           let same = cut_of text lines (subst (λ (w : List ℕ). AreTwoParts w text lines) e cut) in
-          absurd (accepted_is_not_refused ended (compiled_is_accepted ended code labels here) refusal (subst (λ (t :
-          List ℕ). RefusesWith t refusal) same.0 is_refused))
-      never_refused whole _ _ e (no_picks text lines cut other others is_other _ _ (not_made fault faulty refusal its_line)) refuses =
+          absurd (accepted_has_no_fault ended (compiled_is_accepted ended code labels here) fault not (subst (λ (t :
+          List ℕ). IsRefused t fault) same.0 is_refused))
+      never_refused whole _ _ e (no_picks text lines cut other others is_other fault cause faulty its_cause) refuses =
           let same = cut_of text lines (subst (λ (w : List ℕ). AreTwoParts w text lines) e cut) in
           let its_fault : IsLinesFaultBy lending code lines_of fault =
           subst (λ (c : Code). IsLinesFaultBy lending c lines_of fault) (one_of text other others same.0 is_other)
           (subst (λ (ls : List ℕ). IsLinesFaultBy lending other ls fault) same.1 faulty) in
           let none = no_line_is_refused lending code faultless steps most seed picks recorded.end recorded.recorded fault its_fault in
-          let both : Some refusal ≡ None = sym its_line ∙ none in
+          let both : Some cause ≡ None = sym its_cause ∙ none in
           absurd cc
       never_refused whole _ _ e (made_again text lines cut other others is_other entries end are said answered says can) refuses =
           no_refusal_told lending other (events_of entries) end said answered says refuses
@@ -269,12 +268,11 @@ module _ (lending : Lending) (steps : ℕ) (seed : Option ℕ) (bytes : List ℕ
           (subst (λ (ps : List Pick). Makes (bank_by lending code) (code_step code.processes) (code_opening code) ps (events_of entries) end) made makes)
           recorded.recorded.makes
 
-      told_alike : (other : Code) (lines : List ℕ) (entries : List Entry) (end : State CodeProcess) (said : List ℕ) (answered : Status)
+      told_alike : (other : Code) (lines : List ℕ) (entries : List Entry) (end : State CodeProcess) (said : List Saying) (answered : Status)
           → other ≡ code → lines ≡ lines_of → AreReplayedBy lending other lines entries end
-          → SaysOfEvents lending other (events_of entries) end said answered → answered ≢ Memory
+          → SaysOfEvents lending other (events_of entries) end said answered
           → ((answered ≡ Deadlock) ↔ (status ≡ Deadlock))
-      told_alike other lines entries end _ _ same_code same_lines are (out_of_memory n) some = absurd (some refl)
-      told_alike other lines entries end _ _ same_code same_lines are (all_told ending ends answered its_status) some =
+      told_alike other lines entries end _ _ same_code same_lines are (all_told ending ends answered its_status) =
           let here_are : AreReplayedBy lending code lines_of entries end =
           subst (λ (c : Code). AreReplayedBy lending c lines_of entries end) same_code
           (subst (λ (ls : List ℕ). AreReplayedBy lending other ls entries end) same_lines are) in
@@ -285,16 +283,15 @@ module _ (lending : Lending) (steps : ℕ) (seed : Option ℕ) (bytes : List ℕ
           alike end ending answered status its_status (recorded.told ∙ ap recorded_status one)
 
       -- it is told of a deadlock alike
-      deadlock_alike : (whole said : List ℕ) (answered : Status) → whole ≡ with_picks ended code.names picks
-          → SaysOfReplay lending whole said answered → answered ≢ Memory → ((answered ≡ Deadlock) ↔ (status ≡ Deadlock))
-      deadlock_alike whole _ _ e (no_text text lines cut refusal is_refused) some =
-          absurd (never_refused whole _ _ e (no_text text lines cut refusal is_refused) refl)
-      deadlock_alike whole _ _ e (no_picks text lines cut other others is_other _ _ (not_made fault faulty refusal its_line)) some =
-          absurd (never_refused whole _ _ e
-          (no_picks text lines cut other others is_other _ _ (not_made fault faulty refusal its_line)) refl)
-      deadlock_alike whole _ _ e (made_again text lines cut other others is_other entries end are said answered says can) some =
+      deadlock_alike : (whole : List ℕ) (said : List Saying) (answered : Status) → whole ≡ with_picks ended code.names picks
+          → SaysOfReplay lending whole said answered → ((answered ≡ Deadlock) ↔ (status ≡ Deadlock))
+      deadlock_alike whole _ _ e (no_text text lines cut fault not is_refused) =
+          absurd (never_refused whole _ _ e (no_text text lines cut fault not is_refused) refl)
+      deadlock_alike whole _ _ e (no_picks text lines cut other others is_other fault cause faulty its_cause) =
+          absurd (never_refused whole _ _ e (no_picks text lines cut other others is_other fault cause faulty its_cause) refl)
+      deadlock_alike whole _ _ e (made_again text lines cut other others is_other entries end are said answered says can) =
           let same = cut_of text lines (subst (λ (w : List ℕ). AreTwoParts w text lines) e cut) in
-          told_alike other lines entries end said answered (one_of text other others same.0 is_other) same.1 are says some
+          told_alike other lines entries end said answered (one_of text other others same.0 is_other) same.1 are says
 
 pub records_can_be_replayed : RecordsCanBeReplayed
 records_can_be_replayed lending steps seed bytes whole status most says of =
@@ -303,6 +300,6 @@ records_can_be_replayed lending steps seed bytes whole status most says of =
           (subst (λ (w : List ℕ). AreTwoParts w text lines) same cut);
       replayed = λ room said answered replay.
           never_refused lending steps seed bytes most code labels compiled ended picks status is recorded room whole said answered same replay;
-      deadlock = λ room said answered replay some.
-          deadlock_alike lending steps seed bytes most code labels compiled ended picks status is recorded room whole said answered same replay some;
+      deadlock = λ room said answered replay.
+          deadlock_alike lending steps seed bytes most code labels compiled ended picks status is recorded room whole said answered same replay;
     }

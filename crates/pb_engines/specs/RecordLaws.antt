@@ -12,9 +12,10 @@ use Rattle.pb_command_io.specs.Parts.{AreTwoParts}
 use Rattle.pb_accept.specs.RunTexts.{EndsLine, IsEnded}
 use Rattle.pb_engines.specs.Records.{SaysOfRecord}
 use Rattle.pb_record.specs.Recorded.{IsRecorded}
-use Rattle.pb_accept.specs.ReplayLines.{SaysOfReplay}
+use Rattle.pb_accept.specs.Replays.{SaysOfReplay}
+use Rattle.pb_accept.specs.Sayings.{Saying}
 use Rattle.pb_command_io.specs.declared.status.Status.{Status}
-use Rattle.pb_command_io.specs.declared.status.Status.TheVariants.{Deadlock, Done, Memory, Refused}
+use Rattle.pb_command_io.specs.declared.status.Status.TheVariants.{Deadlock, Done, Refused}
 
 -- the text is the recorded one, ended by a line feed; the lines say the picks of a run of its code under this
 -- lending, the drawn one if there is a seed
@@ -34,13 +35,13 @@ IsOfRun status = (status ≡ Done) ⊎ (status ≡ Deadlock)
 
 -- an input is cut by `replay` into the recorded text and the picks of its run, and under the same lending no line
 -- or pick of them is refused; nor is the text, unless the line feed behind it made it longer than a text may be.
--- The replay ends in a deadlock exactly if the run was written as one, if there is memory for it
+-- The replay ends in a deadlock exactly if the run was written as one
 pub record CanBeReplayed (lending : Lending) (steps : ℕ) (seed : Option ℕ) (bytes whole : List ℕ) (status : Status) : Type 0 where
   pub cut : (text lines : List ℕ) → AreTwoParts whole text lines → HoldsRun lending steps seed bytes text lines
   pub replayed : (length bytes < MAX_TEXT) ⊎ EndsLine bytes
-      → (said : List ℕ) (answered : Status) → SaysOfReplay lending whole said answered → answered ≢ Refused
+      → (said : List Saying) (answered : Status) → SaysOfReplay lending whole said answered → answered ≢ Refused
   pub deadlock : (length bytes < MAX_TEXT) ⊎ EndsLine bytes
-      → (said : List ℕ) (answered : Status) → SaysOfReplay lending whole said answered → answered ≢ Memory
+      → (said : List Saying) (answered : Status) → SaysOfReplay lending whole said answered
       → ((answered ≡ Deadlock) ↔ (status ≡ Deadlock))
 
 -- what `record` wrote can be replayed under the same lending

@@ -1,4 +1,4 @@
-//! The engines: what each command does over any input and output. Those that run no workers are of pb_accept.
+//! The engines: what each command does over any input, teller and output. Those that run no workers are of pb_accept.
 #![tactic(auto)]
 
 mod exec;
@@ -8,9 +8,11 @@ mod record_laws;
 mod report;
 mod run;
 mod run_laws;
+mod written;
 
 pub use exec::exec_engine;
-pub use pb_accept::{emit_engine, migrate_engine, replay_engine, write_checks, write_claims};
+pub use pb_accept::{write_checks, write_claims, write_emission, write_migration, write_replay};
 pub use pb_options::{CheckOptions, EmitOptions, Lend, RecordOptions, ReplayOptions, RunOptions};
 pub use record::{drawn_run, record_engine};
 pub use run::run_engine;
+pub use written::{write_execution, write_run};

@@ -1,18 +1,18 @@
-//! A run by workers, written line by line.
-ghost use Rattle.std.specs.Prelude.{◌++◌, codes};
-ghost use Rattle.std.specs.Fmt.{decimal};
-ghost use Rattle.pb_base.specs.Lines.{line};
-ghost use Rattle.pb_command_io.specs.Answers.{Says, Tells};
-ghost use Rattle.pb_command_io.specs.Faults.{TellsWriteFaults};
+//! A run by workers, told event by event.
+ghost use Rattle.std.specs.Prelude.{◌≢◌};
+ghost use Rattle.pb_accept.specs.View.{said_view};
+ghost use Rattle.pb_command_io.specs.declared.status.Status.TheVariants as status;
 ghost use Rattle.pb_engines.specs.Outcomes.{SaysOfOutcome};
 ghost use Rattle.pb_engines.specs.Runs.{SaysOfCodeRun};
 ghost use Rattle.pb_history.specs.Entries.{events_of};
+ghost use Rattle.pb_voice.specs.Held.{at};
+ghost use Rattle.pb_voice.specs.Tellings.{Speaks};
 ghost use Rattle.pb_workers.specs.Reports.{IsReport};
 
 use crate::faults::shows_fault;
-use pb_accept::tell_events;
+use pb_accept::{Ending, Said, Teller, tell_events, tell_last};
 use pb_base::Output;
-use pb_command_io::{Page, Status};
+use pb_command_io::Status;
 use pb_options::RunOptions;
 use pb_record::Open;
 use pb_shared::Outcome;
@@ -22,16 +22,17 @@ use std::alloc::Global;
 use std::sync::Wait;
 use std::thread::Threads;
 
-/// Runs the code by workers, and writes the line of each event and the last line.
-pub fn tell_run<O: Output, R: Threads + Wait + Sync>(
+/// Runs the code by workers, and tells each event and how the run ended.
+pub fn tell_run<O: Output, T: Teller, R: Threads + Wait + Sync>(
     rt: &R,
     alloc: Global,
     verified: &Verified,
     options: RunOptions,
+    teller: &mut T,
     output: &mut O,
 ) -> Status
-    ensures text { Tells (SaysOfCodeRun verified.now.code options.steps) (O.written output.old) (O.written output.new) result }
-    ensures faults { TellsWriteFaults (O.failures output.old) (O.failures output.new) result }
+    ensures { Speaks T.tells T.breaks (SaysOfCodeRun verified.now.code options.steps) (at O.written O.failures teller.old output.old)
+        (at O.written O.failures teller.new output.new) result }
 {
     let run = run_workers(
         rt,
@@ -43,58 +44,43 @@ pub fn tell_run<O: Output, R: Threads + Wait + Sync>(
         &Open,
     );
     match run {
-        Ok(report) => tell_report(alloc, verified, options.steps, &report, output),
-        Err(RunFault::NoMemory) => {
-            Page::new(alloc).finish_with(output, b"memory", Status::Memory)
-        }
-        Err(_) => Page::new(alloc).finish_with(output, b"threads", Status::Threads),
+        Ok(report) => tell_report(verified, options.steps, &report, teller, output),
+        Err(RunFault::NoMemory) => tell_last(teller, output, Said::NoMemory, Status::Memory),
+        Err(_) => tell_last(teller, output, Said::Threads, Status::Threads),
     }
 }
 
-/// Writes the line of each event that workers report, and the last line.
-fn tell_report<O: Output>(
-    alloc: Global,
+/// Tells what workers report of the code.
+fn tell_report<O: Output, T: Teller>(
     verified: &Verified,
     steps: u32,
     report: &Report,
+    teller: &mut T,
     output: &mut O,
 ) -> Status
     requires { IsReport verified.now.code steps report.now }
-    ensures text { Tells (SaysOfCodeRun verified.now.code steps) (O.written output.old) (O.written output.new) result }
-    ensures faults { TellsWriteFaults (O.failures output.old) (O.failures output.new) result }
+    ensures { Speaks T.tells T.breaks (SaysOfCodeRun verified.now.code steps) (at O.written O.failures teller.old output.old)
+        (at O.written O.failures teller.new output.new) result }
 {
-    let code = verified.code();
-    match tell_events(alloc, &code.names, &report.trace, output) {
-        Ok(page) => tell_outcome(page, output, report, steps),
-        Err(status) => status,
+    let (last, status) = last_of(report, steps);
+    match tell_events(&verified.code().names, &report.trace, teller, output) {
+        Ok(()) => tell_last(teller, output, last, status),
+        Err(_) => Status::Device,
     }
 }
 
-/// Writes the last line of a run.
-fn tell_outcome<O: Output>(page: Page, output: &mut O, report: &Report, steps: u32) -> Status
-    ensures text { Tells (SaysOfOutcome (events_of report.now.trace.entries) steps page report.now.outcome)
-        (O.written output.old) (O.written output.new) result }
-    ensures faults { TellsWriteFaults (O.failures output.old) (O.failures output.new) result }
+/// Returns what is said behind the events of a report, and the status.
+fn last_of(report: &Report, steps: u32) -> (Said<'static>, Status)
+    ensures said { SaysOfOutcome (events_of report.now.trace.entries) steps report.now.outcome (said_view result.0) result.1 }
+    ensures no_device { result.1 ≢ status.Device }
 {
     match report.outcome {
-        Outcome::Limit => tell_limit(page, output, steps),
+        Outcome::Limit => (Said::Limit(steps), Status::Limit),
         Outcome::Done => {
             if shows_fault(&report.trace) {
-                return page.finish_with(output, b"done", Status::Fault);
+                return (Said::Ended(Ending::Over), Status::Fault);
             }
-            page.finish_with(output, b"done", Status::Done)
+            (Said::Ended(Ending::Over), Status::Done)
         }
-    }
-}
-
-/// Writes that the steps were used up.
-fn tell_limit<O: Output>(mut page: Page, output: &mut O, steps: u32) -> Status
-    ensures text { Says (O.written output.old) (O.written output.new) (page ++ line (codes "limit " ++ decimal steps)) Status.Limit result }
-    ensures faults { TellsWriteFaults (O.failures output.old) (O.failures output.new) result }
-{
-    let mut digits = itoa::Buffer::new();
-    match page.say(output, b"limit ") {
-        Ok(()) => page.finish_with(output, digits.format(steps).as_bytes(), Status::Limit),
-        Err(_) => Status::Device,
     }
 }

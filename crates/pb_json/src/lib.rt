@@ -6,5 +6,5 @@ pub mod laws;
 mod list;
 mod string;
 
-pub use list::{put_comma, put_integer, put_integers};
+pub use list::{is_exact, put_comma, put_integer, put_integers};
 pub use string::{hex_digit, is_plain, put_string};

@@ -10,7 +10,7 @@ use pb_base::writing::{put, put_digits};
 const MAX_EXACT: i64 = 9_007_199_254_740_991;
 
 /// Returns whether a reader that keeps numbers as floats of 64 bits keeps this one.
-fn is_exact(value: i64) -> bool
+pub fn is_exact(value: i64) -> bool
     ensures { result ≡ is_exact value }
 {
     value <= MAX_EXACT && value >= -MAX_EXACT

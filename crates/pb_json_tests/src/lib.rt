@@ -12,3 +12,7 @@ mod live;
 mod replies;
 #[cfg(test)]
 mod told;
+#[cfg(test)]
+mod told_engines;
+#[cfg(test)]
+mod told_runs;

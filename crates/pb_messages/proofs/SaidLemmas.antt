@@ -7,7 +7,8 @@ use Rattle.pb_base.specs.declared.lending.Lending.{Lending}
 use Rattle.pb_code.specs.Whole.{Code, ProcessLabels}
 use Rattle.pb_codegen.specs.Compiled.{IsCompiled}
 use Rattle.pb_accept.specs.Causes.{picks_cause}
-use Rattle.pb_accept.specs.Loading.{IsLoadFault, load_cause}
+use Rattle.pb_accept.specs.Loading.{IsLoadFault}
+use Rattle.pb_accept.specs.Causes.{load_cause}
 use Rattle.pb_command_io.specs.Parts.{AreTwoParts, IsCutAt, IsMark}
 use Rattle.pb_accept.specs.declared.load.LoadFault.{LoadFault}
 use Rattle.pb_history.specs.Replays.{IsStoppedBy, spread}

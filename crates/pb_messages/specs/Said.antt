@@ -9,7 +9,8 @@ use Rattle.pb_code.specs.Whole.{Code, ProcessLabels}
 use Rattle.pb_codegen.specs.Compiled.{IsCompiled}
 use Rattle.pb_codegen.specs.Numbered.{IsReadAs}
 use Rattle.pb_accept.specs.Causes.{picks_cause, text_cause}
-use Rattle.pb_accept.specs.Loading.{IsLoadFault, IsLoaded, load_cause}
+use Rattle.pb_accept.specs.Loading.{IsLoadFault, IsLoaded}
+use Rattle.pb_accept.specs.Causes.{load_cause}
 use Rattle.pb_codegen.specs.declared.fault.CompileFault.{CompileFault}
 use Rattle.pb_command_io.specs.Parts.{AreTwoParts, IsCutAt, IsMarkAt}
 use Rattle.pb_accept.specs.Refusals.{IsAcceptedText}

@@ -4,7 +4,7 @@ use Rattle.pb_accept.specs.Checks.{SaysOfChecks}
 use Rattle.pb_accept.specs.Claims.{SaysOfClaims}
 use Rattle.pb_accept.specs.Emissions.{SaysOfEmission}
 use Rattle.pb_accept.specs.Migrations.{SaysOfMigration}
-use Rattle.pb_accept.specs.ReplayLines.{SaysOfReplay}
+use Rattle.pb_accept.specs.Replays.{SaysOfReplay}
 use Rattle.pb_accept.specs.Sayings.{line_of}
 use Rattle.pb_code.specs.declared.format.Format.{Format}
 use Rattle.pb_code.specs.declared.format.Format.TheVariants.{One, Two}
@@ -26,13 +26,13 @@ use Rattle.pb_words.specs.declared.words.Options.TheVariants as option
 abbrev pub says : Options → List ℕ → List ℕ → Status → Type 0
 says (option.Check numbers) = SaysOfInput (Written line_of SaysOfChecks)
 says option.Claims = SaysOfInput (Written line_of SaysOfClaims)
-says (option.Emit numbers) = SaysOfInput (SaysOfEmission numbers.object)
-says (option.Exec numbers) = SaysOfInput (SaysOfExecution numbers.steps)
+says (option.Emit numbers) = SaysOfInput (Written line_of (SaysOfEmission numbers.object))
+says (option.Exec numbers) = SaysOfInput (Written line_of (SaysOfExecution numbers.steps))
 says (option.Explain code) = λ bytes. SaysOfExplain code
-says option.Migrate = SaysOfInput SaysOfMigration
+says option.Migrate = SaysOfInput (Written line_of SaysOfMigration)
 says (option.Record numbers) = SaysOfInput (SaysOfRecord (lending_for numbers.lend) numbers.run.steps numbers.seed)
-says (option.Replay options) = SaysOfInput (SaysOfReplay (lending_for options.lend))
-says (option.Run numbers) = SaysOfInput (SaysOfTextRun numbers.steps)
+says (option.Replay options) = SaysOfInput (Written line_of (SaysOfReplay (lending_for options.lend)))
+says (option.Run numbers) = SaysOfInput (Written line_of (SaysOfTextRun numbers.steps))
 says _ = λ bytes text status. ⊥
 
 -- what is written when a read fails: nothing

@@ -9,8 +9,8 @@ use pb_call::Commands;
 use pb_code::Format;
 use pb_command_io::Status;
 use pb_engines::{
-    emit_engine, exec_engine, migrate_engine, record_engine, replay_engine, run_engine,
-    write_checks, write_claims,
+    record_engine, write_checks, write_claims, write_emission, write_execution, write_migration,
+    write_replay, write_run,
 };
 use pb_explain::explain_engine;
 use pb_messages::{Reading, message_of};
@@ -44,13 +44,13 @@ impl Commands for RunTool {
         match options {
             Options::Check(numbers) => Some(write_checks(alloc, numbers, input, output)),
             Options::Claims => Some(write_claims(alloc, input, output)),
-            Options::Emit(numbers) => Some(emit_engine(alloc, numbers, input, output)),
-            Options::Exec(numbers) => Some(exec_engine(rt, alloc, numbers, input, output)),
+            Options::Emit(numbers) => Some(write_emission(alloc, numbers, input, output)),
+            Options::Exec(numbers) => Some(write_execution(rt, alloc, numbers, input, output)),
             Options::Explain(code) => Some(explain_engine(alloc, code, output)),
-            Options::Migrate => Some(migrate_engine(alloc, input, output)),
+            Options::Migrate => Some(write_migration(alloc, input, output)),
             Options::Record(numbers) => Some(record_engine(rt, alloc, numbers, input, output)),
-            Options::Replay(options) => Some(replay_engine(alloc, options, input, output)),
-            Options::Run(numbers) => Some(run_engine(rt, alloc, numbers, input, output)),
+            Options::Replay(options) => Some(write_replay(alloc, options, input, output)),
+            Options::Run(numbers) => Some(write_run(rt, alloc, numbers, input, output)),
             _ => None,
         }
     }

@@ -4,9 +4,9 @@ use pb_base::{Input, MemoryInput, MemoryOutput, Output};
 use pb_code::Format;
 use pb_command_io::Status;
 use pb_engines::{
-    CheckOptions, EmitOptions, Lend, RecordOptions, ReplayOptions, RunOptions, emit_engine,
-    exec_engine, migrate_engine, record_engine, replay_engine, run_engine, write_checks,
-    write_claims,
+    CheckOptions, EmitOptions, Lend, RecordOptions, ReplayOptions, RunOptions, record_engine,
+    write_checks, write_claims, write_emission, write_execution, write_migration, write_replay,
+    write_run,
 };
 use std::alloc::Global;
 use std::sync::Wait;
@@ -70,9 +70,9 @@ pub fn make<I: Input, O: Output>(
     match call {
         Call::Check(options) => write_checks(alloc, options, input, output),
         Call::Claims => write_claims(alloc, input, output),
-        Call::Emit(object) => emit_engine(alloc, EmitOptions { object }, input, output),
-        Call::Exec(options) => exec_engine(rt, alloc, options, input, output),
-        Call::Migrate => migrate_engine(alloc, input, output),
+        Call::Emit(object) => write_emission(alloc, EmitOptions { object }, input, output),
+        Call::Exec(options) => write_execution(rt, alloc, options, input, output),
+        Call::Migrate => write_migration(alloc, input, output),
         Call::Record(run, seed) => {
             let lend = Lend::Banker;
             record_engine(rt, alloc, RecordOptions { run, seed, lend }, input, output)
@@ -87,13 +87,13 @@ pub fn make<I: Input, O: Output>(
         }
         Call::Replay => {
             let options = ReplayOptions { lend: Lend::Banker };
-            replay_engine(alloc, options, input, output)
+            write_replay(alloc, options, input, output)
         }
         Call::ReplayByCash => {
             let options = ReplayOptions { lend: Lend::Cash };
-            replay_engine(alloc, options, input, output)
+            write_replay(alloc, options, input, output)
         }
-        Call::Run(options) => run_engine(rt, alloc, options, input, output),
+        Call::Run(options) => write_run(rt, alloc, options, input, output),
     }
 }
 

@@ -2,4 +2,5 @@ pub mod Held
 pub mod Laws
 pub mod Pieces
 pub mod Tellings
+pub mod Texts
 pub mod Voices

@@ -2,10 +2,14 @@
 #![tactic(auto)]
 
 mod form;
+mod integer;
 pub mod laws;
 mod pieces;
+mod text;
 mod voice;
 
 pub use form::Form;
+pub use integer::say_integer;
 pub use pieces::say_pieces;
+pub use text::say_lines;
 pub use voice::Voice;

@@ -5,9 +5,9 @@ use pb_base::{Lending, MemoryInput, MemoryOutput};
 use pb_code::Format;
 use pb_command_io::Status;
 use pb_engines::{
-    CheckOptions, EmitOptions, Lend, RecordOptions, ReplayOptions, RunOptions, emit_engine,
-    exec_engine, migrate_engine, record_engine, replay_engine, run_engine, write_checks,
-    write_claims,
+    CheckOptions, EmitOptions, Lend, RecordOptions, ReplayOptions, RunOptions, record_engine,
+    write_checks, write_claims, write_emission, write_execution, write_migration, write_replay,
+    write_run,
 };
 use pb_plan_engine::plan_engine;
 use std::sync::Wait;
@@ -85,12 +85,12 @@ fn status_of(
             let options = EmitOptions {
                 object: Format::Two,
             };
-            emit_engine(alloc, options, &mut input, output)
+            write_emission(alloc, options, &mut input, output)
         }
         Command::Exec { quantum, steps } => {
-            exec_engine(rt, alloc, run_options(quantum, steps)?, &mut input, output)
+            write_execution(rt, alloc, run_options(quantum, steps)?, &mut input, output)
         }
-        Command::Migrate => migrate_engine(alloc, &mut input, output),
+        Command::Migrate => write_migration(alloc, &mut input, output),
         Command::Plan => plan_engine(alloc, Lending::ByBanker, &mut input, output),
         Command::PlanByCash => plan_engine(alloc, Lending::ByCash, &mut input, output),
         Command::Record { seed } => {
@@ -109,10 +109,10 @@ fn status_of(
             };
             record_engine(rt, alloc, options, &mut input, output)
         }
-        Command::Replay => replay_engine(alloc, BY_BANKER, &mut input, output),
-        Command::ReplayByCash => replay_engine(alloc, BY_CASH, &mut input, output),
+        Command::Replay => write_replay(alloc, BY_BANKER, &mut input, output),
+        Command::ReplayByCash => write_replay(alloc, BY_CASH, &mut input, output),
         Command::Run { quantum, steps } => {
-            run_engine(rt, alloc, run_options(quantum, steps)?, &mut input, output)
+            write_run(rt, alloc, run_options(quantum, steps)?, &mut input, output)
         }
     })
 }

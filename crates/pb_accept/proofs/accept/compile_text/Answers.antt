@@ -1,4 +1,4 @@
 use Rattle.pb_accept.proofs.accept.compile_text.Goals as goal
 
-pub returns-clause-refused : goal.returns-clause-refused
-returns-clause-refused c = c.refusal_of.ensures c.args.text.now c.in-Err.ensures.refused
+pub returns-in-Err-clause-refused : goal.returns-in-Err-clause-refused
+returns-in-Err-clause-refused c = c.refusal_of.ensures c.args.text.now c.in-Err.ensures.refused

@@ -1,8 +1,8 @@
 use Rattle.pb_names.specs.View.{resolved_view}
-use Rattle.pb_accept.specs.Claims.{claimed, read, said_of_program}
+use Rattle.pb_accept.specs.Claims.{SaysOfClaims, claimed, read, refused, said_of_program}
 use Rattle.pb_voice.specs.Tellings.{whole, broken}
 use Rattle.pb_command_io.specs.declared.status.Status.TheVariants as status
-use Rattle.pb_accept.proofs.ClaimLemmas.{told_fault}
+use Rattle.pb_accept.proofs.InputLemmas.{of_fault}
 use Rattle.pb_voice.specs.Held.{at}
 use Rattle.pb_accept.proofs.claims.tell_claims.Goals as goal
 
@@ -28,5 +28,6 @@ returns-in-Ok-tell_program g c =
 
 pub returns : goal.returns
 returns g c =
-    told_fault g.T.Teller.tells g.T.Teller.breaks c.args.text.now (at g.O.Output.written g.O.Output.failures c.args.teller.now c.args.output.now) (at g.O.Output.written g.O.Output.failures c.tell_fault.new.teller c.tell_fault.new.output) c.in-Err.fault c.tell_fault.result
-    c.requires c.in-Err.ensures.refused c.in-Err.ensures.early c.tell_fault.ensures.memory c.tell_fault.ensures.refused
+    of_fault g.T.Teller.tells g.T.Teller.breaks SaysOfClaims (at g.O.Output.written g.O.Output.failures c.args.teller.now c.args.output.now) (at g.O.Output.written g.O.Output.failures c.tell_fault.new.teller c.tell_fault.new.output) c.tell_fault.result
+    c.args.text.now c.in-Err.fault c.requires (λ not. refused c.in-Err.fault not c.in-Err.ensures.refused c.in-Err.ensures.early)
+    c.tell_fault.ensures.memory c.tell_fault.ensures.refused

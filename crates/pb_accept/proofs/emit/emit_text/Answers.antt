@@ -1,21 +1,20 @@
-use Rattle.pb_accept.specs.Emissions.{SaysOfEmission, SaysOfObject, emitted, refused}
-use Rattle.pb_accept.specs.Refusals.{SaysOfRefusedText}
-use Rattle.pb_command_io.proofs.InputLemmas.{replied_too, said_too, told_reply}
+use Rattle.pb_accept.specs.Emissions.{SaysOfEmission, refused}
+use Rattle.pb_accept.proofs.EmissionLemmas.{emission_is_told}
+use Rattle.pb_accept.proofs.InputLemmas.{of_fault}
+use Rattle.pb_voice.specs.Held.{at}
 use Rattle.pb_accept.proofs.emit.emit_text.Goals as goal
 
-pub object-reply-requires : goal.object-reply-requires
-object-reply-requires g c = c.in-Ok.ensures.compiled.fit
+pub tell_compiled-status-requires : goal.tell_compiled-status-requires
+tell_compiled-status-requires g c = c.in-Ok.ensures.compiled.fit
 
-pub returns-in-Ok-clause-text : goal.returns-in-Ok-clause-text
-returns-in-Ok-clause-text g c =
-    let code = c.in-Ok.compiled.verified.code in
-    let labels = c.in-Ok.compiled.labels in
-    told_reply (SaysOfEmission c.args.format) c.args.text.now c.object-reply.result _ _ c.tell.result c.requires
-    (replied_too (SaysOfObject code labels c.args.format) (SaysOfEmission c.args.format c.args.text.now)
-    c.object-reply.result (emitted code labels c.in-Ok.ensures.compiled) c.object-reply.ensures)
-    c.tell.ensures.said c.tell.ensures.memory
+pub returns-in-Ok : goal.returns-in-Ok
+returns-in-Ok g c =
+    emission_is_told g.T.Teller.tells g.T.Teller.breaks (at g.O.Output.written g.O.Output.failures c.args.teller.now c.args.output.now)
+    (at g.O.Output.written g.O.Output.failures c.tell_compiled-status.new.teller c.tell_compiled-status.new.output) c.tell_compiled-status.result c.args.format c.args.text.now
+    c.in-Ok.compiled.verified.code c.in-Ok.compiled.labels c.requires c.in-Ok.ensures.compiled c.tell_compiled-status.ensures
 
-pub returns-in-Err-clause-text : goal.returns-in-Err-clause-text
-returns-in-Err-clause-text g c =
-    said_too SaysOfRefusedText (SaysOfEmission c.args.format) c.args.text.now _ _ c.refuse.result refused
-    (c.refuse.ensures.text c.args.text.now c.requires c.in-Err.ensures.refused)
+pub returns-in-Err : goal.returns-in-Err
+returns-in-Err g c =
+    of_fault g.T.Teller.tells g.T.Teller.breaks (SaysOfEmission c.args.format) (at g.O.Output.written g.O.Output.failures c.args.teller.now c.args.output.now)
+    (at g.O.Output.written g.O.Output.failures c.tell_fault.new.teller c.tell_fault.new.output) c.tell_fault.result c.args.text.now c.in-Err.fault
+    c.requires (λ not. refused c.in-Err.fault not c.in-Err.ensures.refused) c.tell_fault.ensures.memory c.tell_fault.ensures.refused

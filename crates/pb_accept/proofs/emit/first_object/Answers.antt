@@ -1,16 +1,11 @@
-use Rattle.pb_code.specs.declared.format.Format.TheVariants.{One}
-use Rattle.pb_accept.specs.Emissions.{SaysOfObject}
-use Rattle.pb_accept.proofs.EmissionLemmas.{has_first_text, says_beyond, says_first}
-use Rattle.pb_accept.proofs.LoadLemmas.{of_refusal}
+use Rattle.std.proofs.Common.{refl}
+use Rattle.pb_accept.proofs.EmissionLemmas.{has_first_text, is_beyond, is_first}
 use Rattle.pb_accept.proofs.emit.first_object.Goals as goal
 
 pub returns-then-not-fits_first_format : goal.returns-then-not-fits_first_format
 returns-then-not-fits_first_format c labels =
-    of_refusal c.refused.result c.in_ok-line.line.items (SaysOfObject c.args.verified.now.code labels One)
-    (says_beyond c.args.verified.now.code _ labels c.in_ok-line.line.items c.code-code.ensures.code
-    c.in_ok-line.ensures.items (λ fits.
-    let e = c.fits_first_format.ensures.fits.1 fits in let n = c.if-not-fits_first_format.true in cc))
-    c.refused.ensures
+    is_beyond c.args.verified.now.code _ c.code-code.ensures.code
+    (λ fits. let e = c.fits_first_format.ensures.fits.1 fits in let n = c.if-not-fits_first_format.true in cc)
 
 pub write_object-requires : goal.write_object-requires
 write_object-requires c =
@@ -18,6 +13,4 @@ write_object-requires c =
     (c.fits_first_format.ensures.fits.0 c.if-not-fits_first_format.false)
 
 pub returns : goal.returns
-returns c labels =
-    says_first c.args.verified.now.code _ labels c.in_ok-text.text.items c.code-code.ensures.code
-    c.in_ok-text.ensures
+returns c labels = is_first c.args.verified.now.code _ labels c.in_ok-text.text.items c.code-code.ensures.code c.in_ok-text.ensures

@@ -1,6 +1,6 @@
 use Rattle.std.proofs.Common.{◌∙◌, ap, subst}
 use Rattle.pb_verifier.specs.Verified.{IsVerified, VerifiedCode}
-use Rattle.pb_accept.proofs.EmissionLemmas.{has_second_text, says_second}
+use Rattle.pb_accept.proofs.EmissionLemmas.{has_second_text, is_second}
 use Rattle.pb_accept.proofs.emit.second_object.Goals as goal
 
 pub write_object2-requires : goal.write_object2-requires
@@ -12,5 +12,5 @@ write_object2-requires c =
 pub returns : goal.returns
 returns c =
     let same = c.code-code.ensures.code ∙ ap (λ (v : VerifiedCode). v.code) c.verified.ensures in
-    says_second c.args.compiled.now.verified.code _ c.args.compiled.now.labels _ c.in_ok-text.text.items same
-    c.labels.ensures.labels c.in_ok-text.ensures
+    is_second (λ text. text.items) c.args.compiled.now.verified.code _ c.args.compiled.now.labels _ c.write_object2.result same
+    c.labels.ensures.labels c.write_object2.ensures

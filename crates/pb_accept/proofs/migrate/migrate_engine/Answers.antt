@@ -1,19 +1,16 @@
-use Rattle.std.proofs.Common.{ap}
+use Rattle.pb_accept.proofs.InputLemmas.{answers_read, answers_unread}
 use Rattle.pb_accept.specs.Migrations.{SaysOfMigration}
-use Rattle.pb_command_io.proofs.InputLemmas.{read_faults, says_read, says_unread}
+use Rattle.pb_voice.specs.Held.{at}
 use Rattle.pb_accept.proofs.migrate.migrate_engine.Goals as goal
 
-pub returns-in-Ok-clause-text : goal.returns-in-Ok-clause-text
-returns-in-Ok-clause-text g c =
-    says_read SaysOfMigration (g.I.Input.rest c.args.input.now) _ _ _ _ _ c.tell_migration.result c.in-Ok.ensures.read
-    c.as_slice.ensures.value (ap g.O.Output.written c.in-Ok.ensures.untouched) c.tell_migration.ensures.text
+pub returns-in-Ok : goal.returns-in-Ok
+returns-in-Ok g c =
+    answers_read g.T.Teller.tells g.T.Teller.breaks SaysOfMigration (at g.O.Output.written g.O.Output.failures c.args.teller.now c.args.output.now)
+    (at g.O.Output.written g.O.Output.failures c.tell_migration.new.teller c.tell_migration.new.output) c.tell_migration.result (g.I.Input.rest c.args.input.now) (g.I.Input.failures c.args.input.now) (g.I.Input.failures c.read_or_tell.new.input)
+    c.in-Ok.bytes.items c.deref.result.now (at g.O.Output.written g.O.Output.failures c.read_or_tell.new.teller c.read_or_tell.new.output)
+    c.in-Ok.ensures.read c.deref.ensures.value c.in-Ok.ensures.counted c.in-Ok.ensures.untouched c.tell_migration.ensures
 
-pub returns-in-Ok-clause-faults : goal.returns-in-Ok-clause-faults
-returns-in-Ok-clause-faults g c =
-    read_faults _ _ _ _ _ _ _ c.tell_migration.result c.in-Ok.ensures.counted (ap g.O.Output.failures c.in-Ok.ensures.untouched) c.tell_migration.ensures.faults
-
-pub returns-in-Err-clause-text : goal.returns-in-Err-clause-text
-returns-in-Err-clause-text g c = says_unread SaysOfMigration (g.I.Input.rest c.args.input.now) _ _ c.in-Err.status c.in-Err.ensures.told
-
-pub returns-in-Err-clause-faults : goal.returns-in-Err-clause-faults
-returns-in-Err-clause-faults g c = c.in-Err.ensures.faults
+pub returns-in-Err : goal.returns-in-Err
+returns-in-Err g c =
+    answers_unread g.T.Teller.tells g.T.Teller.breaks SaysOfMigration (at g.O.Output.written g.O.Output.failures c.args.teller.now c.args.output.now)
+    (at g.O.Output.written g.O.Output.failures c.read_or_tell.new.teller c.read_or_tell.new.output) c.in-Err.status (g.I.Input.rest c.args.input.now) (g.I.Input.failures c.args.input.now) (g.I.Input.failures c.read_or_tell.new.input) c.in-Err.ensures.told

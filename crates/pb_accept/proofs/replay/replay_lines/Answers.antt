@@ -1,21 +1,19 @@
 use Rattle.pb_machine.specs.Views.{machine_view}
-use Rattle.pb_accept.proofs.ReplayLemmas.{events_are_named, events_are_told, lines_are_answered}
+use Rattle.pb_accept.proofs.ReplayLemmas.{events_are_told, lines_are_refused}
+use Rattle.pb_voice.specs.Held.{at}
 use Rattle.pb_accept.proofs.replay.replay_lines.Goals as goal
 
-pub tell_replay-requires-clause-machine : goal.tell_replay-requires-clause-machine
-tell_replay-requires-clause-machine g c = (c.args.lending, c.in-Ok.ensures.machine)
+pub tell_replay-requires : goal.tell_replay-requires
+tell_replay-requires g c = (c.args.lending, c.in-Ok.ensures.machine)
 
-pub tell_replay-requires-clause-names : goal.tell_replay-requires-clause-names
-tell_replay-requires-clause-names g c =
-    events_are_named c.args.lending c.args.verified.now c.args.lines.now c.in-Ok.trace.entries (machine_view c.in-Ok.machine)
-    c.in-Ok.ensures.machine.verified c.in-Ok.ensures.made
+pub returns-in-Ok : goal.returns-in-Ok
+returns-in-Ok g c =
+    events_are_told g.T.Teller.tells g.T.Teller.breaks (at g.O.Output.written g.O.Output.failures c.args.teller.now c.args.output.now)
+    (at g.O.Output.written g.O.Output.failures c.tell_replay.new.teller c.tell_replay.new.output) c.tell_replay.result c.args.lending c.args.verified.now.code
+    c.args.lines.now c.in-Ok.trace.entries (machine_view c.in-Ok.machine) c.in-Ok.ensures.made (c.tell_replay.ensures c.args.lending c.in-Ok.ensures.machine)
 
-pub returns-in-Ok-clause-text : goal.returns-in-Ok-clause-text
-returns-in-Ok-clause-text g c =
-    events_are_told c.args.lending c.args.verified.now.code c.args.lines.now c.in-Ok.trace.entries (machine_view c.in-Ok.machine) _ _
-    c.tell_replay.result c.in-Ok.ensures.made (c.tell_replay.ensures.text c.args.lending c.in-Ok.ensures.machine)
-
-pub returns-in-Err-clause-text : goal.returns-in-Err-clause-text
-returns-in-Err-clause-text g c =
-    lines_are_answered c.args.lending c.args.verified.now.code c.args.lines.now c.lines_refusal.result _ _ c.tell.result
-    (c.lines_refusal.ensures c.args.lending c.args.verified.now.code c.args.lines.now c.in-Err.ensures.fault) c.tell.ensures.said c.tell.ensures.memory
+pub returns-in-Err : goal.returns-in-Err
+returns-in-Err g c =
+    lines_are_refused g.T.Teller.tells g.T.Teller.breaks (at g.O.Output.written g.O.Output.failures c.args.teller.now c.args.output.now)
+    (at g.O.Output.written g.O.Output.failures c.tell_refused.new.teller c.tell_refused.new.output) c.tell_refused.result c.args.lending c.args.verified.now.code
+    c.args.lines.now c.in-Err.fault c.lines_cause.result c.lines_cause.ensures c.in-Err.ensures.fault c.tell_refused.ensures

@@ -1,7 +1,7 @@
 use Rattle.std.proofs.Common.{ap}
 use Rattle.pb_accept.specs.Checks.{SaysOfChecks}
 use Rattle.pb_accept.specs.Claims.{SaysOfAny, nothing}
-use Rattle.pb_accept.specs.Sayings.{text_of}
+use Rattle.pb_accept.specs.Objects.{text_of}
 use Rattle.pb_accept.proofs.WrittenLemmas.{lines_written}
 use Rattle.pb_voice.specs.Held.{Held, at}
 use Rattle.pb_voice.proofs.EndLemmas.{faults_as_told}

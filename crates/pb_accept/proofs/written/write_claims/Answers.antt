@@ -1,6 +1,6 @@
 use Rattle.std.proofs.Common.{ap}
 use Rattle.pb_accept.specs.Claims.{SaysOfAny, SaysOfClaims, nothing}
-use Rattle.pb_accept.specs.Sayings.{text_of}
+use Rattle.pb_accept.specs.Objects.{text_of}
 use Rattle.pb_accept.proofs.WrittenLemmas.{lines_written}
 use Rattle.pb_voice.specs.Held.{Held, at}
 use Rattle.pb_voice.proofs.EndLemmas.{faults_as_told}

@@ -1,19 +1,29 @@
 use Rattle.std.proofs.Common.{ap}
+use Rattle.pb_accept.specs.ToldEvents.{shown}
+use Rattle.pb_accept.specs.View.{said_view}
+use Rattle.pb_accept.proofs.EventLemmas.{last_is_told, stops_before}
+use Rattle.pb_code.specs.View.{code_view}
 use Rattle.pb_code.specs.Whole.{Code}
-use Rattle.pb_engines.proofs.ReportLemmas.{report_is_named, told_report, told_stop}
+use Rattle.pb_engines.specs.Runs.{SaysOfCodeRun}
+use Rattle.pb_engines.proofs.ReportLemmas.{says_of_report}
+use Rattle.pb_history.specs.Entries.{events_of}
+use Rattle.pb_voice.specs.Held.{at}
 use Rattle.pb_engines.proofs.report.tell_report.Goals as goal
 
-pub tell_events-requires : goal.tell_events-requires
-tell_events-requires g c =
-    report_is_named c.args.verified.now _ c.args.steps c.args.report.now c.code-code.ensures.verified
-    (ap (λ (code : Code). code.names) c.code-code.ensures.code) c.requires
+pub returns-in-Ok : goal.returns-in-Ok
+returns-in-Ok g c =
+    last_is_told g.T.Teller.tells g.T.Teller.breaks (at g.O.Output.written g.O.Output.failures c.args.teller.now c.args.output.now)
+    (at g.O.Output.written g.O.Output.failures c.tell_last.new.teller c.tell_last.new.output) (SaysOfCodeRun c.args.verified.now.code c.args.steps)
+    (shown _ (events_of c.args.report.now.trace.entries)) (said_view c.last_of.result.0) c.last_of.result.1
+    (says_of_report c.args.verified.now _ c.args.steps c.args.report.now c.code.ensures.verified c.requires
+    (ap (λ (code : Code). code.names) c.code.ensures.code) (said_view c.last_of.result.0) c.last_of.result.1 c.last_of.ensures.said)
+    (at g.O.Output.written g.O.Output.failures c.tell_events.new.teller c.tell_events.new.output) c.tell_last.result c.in-Ok.ensures.told c.tell_last.ensures
 
-pub returns-in-Ok-clause-text : goal.returns-in-Ok-clause-text
-returns-in-Ok-clause-text g c =
-    told_report c.args.verified.now _ c.args.steps c.args.report.now _ _ _ c.in-Ok.page c.tell_outcome.result c.code-code.ensures.verified
-    c.requires (ap (λ (code : Code). code.names) c.code-code.ensures.code) c.in-Ok.ensures.told c.tell_outcome.ensures.text
-
-pub returns-in-Err-clause-text : goal.returns-in-Err-clause-text
-returns-in-Err-clause-text g c =
-    told_stop c.args.verified.now.code _ c.args.steps c.args.report.now _ _ c.in-Err.status
-    c.requires (ap (λ (code : Code). code.names) c.code-code.ensures.code) c.in-Err.ensures.stopped
+pub returns-in-Err : goal.returns-in-Err
+returns-in-Err g c =
+    stops_before g.T.Teller.tells g.T.Teller.breaks (at g.O.Output.written g.O.Output.failures c.args.teller.now c.args.output.now)
+    (at g.O.Output.written g.O.Output.failures c.tell_events.new.teller c.tell_events.new.output) (SaysOfCodeRun c.args.verified.now.code c.args.steps)
+    (shown _ (events_of c.args.report.now.trace.entries)) (said_view c.last_of.result.0) c.last_of.result.1
+    (says_of_report c.args.verified.now _ c.args.steps c.args.report.now c.code.ensures.verified c.requires
+    (ap (λ (code : Code). code.names) c.code.ensures.code) (said_view c.last_of.result.0) c.last_of.result.1 c.last_of.ensures.said)
+    c.in-Err.ensures.broken

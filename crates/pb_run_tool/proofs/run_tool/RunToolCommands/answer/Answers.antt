@@ -16,12 +16,12 @@ returns-in-Claims-clause-text g c =
 pub returns-in-Emit-clause-text : goal.returns-in-Emit-clause-text
 returns-in-Emit-clause-text g c =
     tells_as (g.I.Input.rest c.args.input.now) (g.I.Input.rest c.args.input.now) (g.O.Output.written c.args.output.now)
-    (g.O.Output.written c.emit_engine.new.output) c.emit_engine.result c.args.options (option.Emit c.in-Emit.numbers) c.in-Emit.is says c.emit_engine.ensures.text
+    (g.O.Output.written c.write_emission.new.output) c.write_emission.result c.args.options (option.Emit c.in-Emit.numbers) c.in-Emit.is says c.write_emission.ensures.text
 
 pub returns-in-Exec-clause-text : goal.returns-in-Exec-clause-text
 returns-in-Exec-clause-text g c =
     tells_as (g.I.Input.rest c.args.input.now) (g.I.Input.rest c.args.input.now) (g.O.Output.written c.args.output.now)
-    (g.O.Output.written c.exec_engine.new.output) c.exec_engine.result c.args.options (option.Exec c.in-Exec.numbers) c.in-Exec.is says c.exec_engine.ensures.text
+    (g.O.Output.written c.write_execution.new.output) c.write_execution.result c.args.options (option.Exec c.in-Exec.numbers) c.in-Exec.is says c.write_execution.ensures.text
 
 pub returns-in-Explain-clause-text : goal.returns-in-Explain-clause-text
 returns-in-Explain-clause-text g c =
@@ -31,7 +31,7 @@ returns-in-Explain-clause-text g c =
 pub returns-in-Migrate-clause-text : goal.returns-in-Migrate-clause-text
 returns-in-Migrate-clause-text g c =
     tells_as (g.I.Input.rest c.args.input.now) (g.I.Input.rest c.args.input.now) (g.O.Output.written c.args.output.now)
-    (g.O.Output.written c.migrate_engine.new.output) c.migrate_engine.result c.args.options option.Migrate c.in-Migrate.is says c.migrate_engine.ensures.text
+    (g.O.Output.written c.write_migration.new.output) c.write_migration.result c.args.options option.Migrate c.in-Migrate.is says c.write_migration.ensures.text
 
 pub returns-in-Record-clause-text : goal.returns-in-Record-clause-text
 returns-in-Record-clause-text g c =
@@ -41,9 +41,9 @@ returns-in-Record-clause-text g c =
 pub returns-in-Replay-clause-text : goal.returns-in-Replay-clause-text
 returns-in-Replay-clause-text g c =
     tells_as (g.I.Input.rest c.args.input.now) (g.I.Input.rest c.args.input.now) (g.O.Output.written c.args.output.now)
-    (g.O.Output.written c.replay_engine.new.output) c.replay_engine.result c.args.options (option.Replay c.in-Replay.options) c.in-Replay.is says c.replay_engine.ensures.text
+    (g.O.Output.written c.write_replay.new.output) c.write_replay.result c.args.options (option.Replay c.in-Replay.options) c.in-Replay.is says c.write_replay.ensures.text
 
 pub returns-in-Run-clause-text : goal.returns-in-Run-clause-text
 returns-in-Run-clause-text g c =
     tells_as (g.I.Input.rest c.args.input.now) (g.I.Input.rest c.args.input.now) (g.O.Output.written c.args.output.now)
-    (g.O.Output.written c.run_engine.new.output) c.run_engine.result c.args.options (option.Run c.in-Run.numbers) c.in-Run.is says c.run_engine.ensures.text
+    (g.O.Output.written c.write_run.new.output) c.write_run.result c.args.options (option.Run c.in-Run.numbers) c.in-Run.is says c.write_run.ensures.text
