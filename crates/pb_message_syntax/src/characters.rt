@@ -9,7 +9,8 @@ use pb_lexer::{LexFault, Mark, Token, lex};
 use pb_mistakes::foreign::hint_of;
 use pb_mistakes::open::{Open, open_before};
 use pb_mistakes::tokens::{
-    is_at, is_declaration, is_name, is_number, is_statement_start, text_at, token_at,
+    ends_expression, is_at, is_declaration, is_name, is_number, is_statement_start,
+    statement_before, text_at, token_at,
 };
 use pb_mistakes::{Shown, Told, Wording};
 use std::alloc::{AllocError, Global};
@@ -33,6 +34,9 @@ pub fn bad_byte(alloc: Global, text: &[u8], at: usize) -> Result<Wording, NoMemo
     let meaning = meaning_of(&tokens, open.last(), rest);
     let mut wording = Wording::new(alloc, byte_in_words(alloc, byte));
     match cause {
+        Some(cause) if is_known_by_what_follows(&tokens, rest, &cause) => {
+            wording.hint(alloc, meaning);
+        }
         Some(cause) if is_excused(byte) => cause.put_cause(alloc, &mut wording),
         Some(cause) => {
             wording.hint(alloc, meaning);
@@ -81,6 +85,21 @@ fn faulty_token(tokens: &[Token], at: Option<usize>) -> Option<usize> {
     }
 }
 
+/// Returns whether the type of a lock is behind a `:`, or a mistake is that of a name just before a `.`, and the word behind
+/// that says something else.
+fn is_known_by_what_follows(tokens: &[Token], rest: &[u8], cause: &Told<'_>) -> bool {
+    if rest.starts_with(b":") && is_lock(behind_blanks(rest, 1)) {
+        return true;
+    }
+    let Some(name) = tokens.last() else {
+        return false;
+    };
+    match member_hint(rest) {
+        Some(hint) => cause.place == Some(name.start()) && cause.hint != hint,
+        None => false,
+    }
+}
+
 /// Returns whether a byte is explained by a word of another language before it.
 fn is_excused(byte: u8) -> bool {
     matches!(
@@ -104,7 +123,14 @@ fn meaning_of(tokens: &[Token], open: Option<&Open>, rest: &[u8]) -> &'static st
         b'.' => meaning_of_point(tokens, rest),
         b'{' => meaning_of_brace(tokens, open, rest),
         b'|' | b'&' => meaning_of_bars(open, rest),
+        b'/' if rest.starts_with(b"/=") => meaning_of_slash_equal(open),
         b'/' | b'%' | b'#' | b'$' => meaning_of_pair(rest),
+        b'[' if is_at(tokens, tokens.len().saturating_sub(2), Mark::Resource) =>
+            "there are no arrays of resources: resource tape = 5; has five of one kind",
+        b'[' if is_at(tokens, tokens.len().saturating_sub(2), Mark::Process) =>
+            "there are no arrays of processes: each is written out, under a name of its own",
+        b'_' if is_number(tokens, tokens.len().saturating_sub(1)) =>
+            "the digits of a number stand together: 1000, and not 1_000",
         b'}' =>
             "statements are grouped by begin and end; an if ends with fi, a while or a hold with od",
         byte => usual_meaning(byte),
@@ -123,6 +149,15 @@ fn meaning_of_pair(rest: &[u8]) -> &'static str {
         "there are no constants but numbers: a process declares an integer, integer n; and assigns it, n := 5"
     } else {
         usual_meaning(rest.first().copied().unwrap_or(0))
+    }
+}
+
+/// Returns what is usually meant by `/=`.
+fn meaning_of_slash_equal(open: Option<&Open>) -> &'static str {
+    match open {
+        Some(open) if open.part.is_none() && matches!(open.word, Mark::If | Mark::While) =>
+            "not equal is written a <> b",
+        _ => "an integer is divided by an assignment: x := x div 2; not equal is written a <> b",
     }
 }
 
@@ -180,6 +215,8 @@ fn meaning_of_colon(tokens: &[Token], open: Option<&Open>, rest: &[u8]) -> &'sta
         "a resource is declared with `=`: resource r = 2;"
     } else if is_declaration(tokens, tokens.len()) {
         "integers are declared without a type: integer x, y;"
+    } else if is_lock(behind) {
+        LOCK_HINT
     } else if is_type(behind) {
         "the integers of a process are declared behind its first begin, without a type: integer x, y;"
     } else if behind.starts_with(b"=") {
@@ -188,15 +225,38 @@ fn meaning_of_colon(tokens: &[Token], open: Option<&Open>, rest: &[u8]) -> &'sta
         hint
     } else if is_name(tokens, last) && is_statement_start(tokens, last) {
         "there are no labels: an arm goes on to the end of its statements; an assignment is written x := 1"
+    } else if ends_value(tokens) {
+        "statements are separated by semicolons: print 1; print 2"
     } else {
         "an assignment is written x := 1, with no blank between `:` and `=`"
     }
 }
 
+/// Returns whether a print or an assignment may end behind some tokens.
+fn ends_value(tokens: &[Token]) -> bool {
+    let number = tokens.len();
+    match statement_before(tokens, number) {
+        Some(start) => {
+            ends_expression(tokens, number.saturating_sub(1))
+                && (is_at(tokens, start, Mark::Print)
+                    || is_at(tokens, start.saturating_add(1), Mark::Assign))
+        }
+        None => false,
+    }
+}
+
 /// Returns whether bytes begin with the name of a type of other languages.
 fn is_type(bytes: &[u8]) -> bool {
-    bytes.starts_with(b"int") || bytes.starts_with(b"bool") || bytes.starts_with(b"semaphore")
+    bytes.starts_with(b"int") || bytes.starts_with(b"bool")
 }
+
+/// Returns whether bytes begin with the name of a type of locks of other languages.
+fn is_lock(bytes: &[u8]) -> bool {
+    bytes.starts_with(b"semaphore") || bytes.starts_with(b"mutex") || bytes.starts_with(b"lock")
+}
+
+const LOCK_HINT: &str =
+    "a thing that only some may have at once is a resource, declared before the first process: resource s = 1;";
 
 /// Returns what is meant by a `:` with which other languages end a line that begins a list of statements.
 fn meaning_of_line_end(tokens: &[Token], open: Option<&Open>) -> Option<&'static str> {
@@ -231,7 +291,11 @@ fn meaning_of_point(tokens: &[Token], rest: &[u8]) -> &'static str {
     if is_at(tokens, last, Mark::End) {
         "a process ends with end, and no point is behind it"
     } else if is_number(tokens, last) {
-        "numbers are integers: they have no decimal point"
+        if ends_value(tokens) && !rest.get(1).is_some_and(|byte| byte.is_ascii_digit()) {
+            "statements are separated by semicolons, and no point ends them: print 1; print 2"
+        } else {
+            "numbers are integers: they have no decimal point"
+        }
     } else {
         meaning_of_member(text_at(tokens, last), rest)
     }
@@ -239,23 +303,35 @@ fn meaning_of_point(tokens: &[Token], rest: &[u8]) -> &'static str {
 
 /// Returns what is usually meant by a name with a point behind it.
 fn meaning_of_member(name: &[u8], rest: &[u8]) -> &'static str {
-    if let Some(hint) = hint_of(name) {
+    if let Some(hint) = member_hint(rest) {
         return hint;
     }
-    if let Some(hint) = hint_of(word_at_start(rest)) {
+    if let Some(hint) = hint_of(name) {
         return hint;
     }
     "a name has no point: a process uses only the integers that it declares itself"
 }
 
-/// Returns the letters behind the first byte.
-fn word_at_start(bytes: &[u8]) -> &[u8] {
-    for end in 1..bytes.len() {
-        if !bytes[end].is_ascii_alphanumeric() && bytes[end] != b'_' {
-            return &bytes[1..end];
+/// Returns what is written in the place of the last word of other languages in a name with points, of which the first point
+/// is at the beginning of these bytes.
+fn member_hint(rest: &[u8]) -> Option<&'static str> {
+    let mut found = None;
+    for word in words_with_points(rest).split(|byte| *byte == b'.') {
+        if let Some(hint) = hint_of(word) {
+            found = Some(hint);
         }
     }
-    b""
+    found
+}
+
+/// Returns the letters, digits and points with which bytes begin.
+fn words_with_points(bytes: &[u8]) -> &[u8] {
+    for end in 0..bytes.len() {
+        if !bytes[end].is_ascii_alphanumeric() && bytes[end] != b'_' && bytes[end] != b'.' {
+            return &bytes[..end];
+        }
+    }
+    bytes
 }
 
 /// Returns what is usually meant by `{` behind these tokens.
@@ -278,8 +354,15 @@ fn meaning_of_brace(tokens: &[Token], open: Option<&Open>, rest: &[u8]) -> &'sta
 
 /// Returns whether what is in braces seems to be words of a person: letters and blanks, and more than one word.
 fn is_remark(rest: &[u8]) -> bool {
+    let words = behind_blanks(rest, 1);
+    if STATEMENTS
+        .iter()
+        .any(|word| words.starts_with(word.as_bytes()))
+    {
+        return false;
+    }
     let mut blanks = 0u32;
-    for byte in behind_blanks(rest, 1) {
+    for byte in words {
         if *byte == b'}' {
             return blanks > 1 || rest.ends_with(b"}") && blanks > 0;
         }

@@ -2,6 +2,7 @@
 #![tactic(auto)]
 
 pub mod characters;
+mod comments;
 pub mod misspelt;
 mod mistakes;
 pub mod syntax;

@@ -29,11 +29,9 @@ impl<'t> Misspelt<'t> {
         } else {
             "did you mean `@2 @3`, with a blank between them?"
         };
-        let told = telling(summary, hint).with_words(
-            text_at(tokens, self.number),
-            self.word,
-            self.rest,
-        );
+        let told = telling(summary, hint)
+            .with_words(text_at(tokens, self.number), self.word, self.rest)
+            .replacing_by_two(self.number, self.word, self.rest);
         if self.number == number {
             told
         } else {

@@ -1,9 +1,10 @@
 //! The mistakes that are usually made where a text is not a program.
 
+use crate::comments::comment_mistake;
 use crate::misspelt::misspelt_word;
 use pb_base::NoMemory;
 use pb_lexer::{Mark, Token};
-use pb_mistakes::closing::closing_mistake;
+use pb_mistakes::closing::{closing_mistake, idle_closer};
 use pb_mistakes::foreign::foreign_word;
 use pb_mistakes::open::{Open, open_before};
 use pb_mistakes::parts::part_mistake;
@@ -12,9 +13,10 @@ use pb_mistakes::signs::sign_mistake;
 use pb_mistakes::statements::{head_mistake, named_mistake};
 use pb_mistakes::tokens::{
     begins_list, begins_statement, ends_before, ends_list, is_at, is_declaration, is_name,
-    is_statement_start, mark_at, process_before, statement_before,
+    is_statement_start, mark_at, process_before, statement_before, text_at,
 };
-use pb_mistakes::{Told, usual};
+use pb_mistakes::values::value_mistake;
+use pb_mistakes::{Told, telling, usual};
 use std::alloc::Global;
 
 /// Returns the mistake that was probably made in a text, if the token with a number cannot come where it is (behind the
@@ -27,6 +29,9 @@ pub fn likely_mistake<'t>(
 ) -> Result<Option<Told<'t>>, NoMemory> {
     let open = open_before(alloc, tokens, number)?;
     let open = open.as_slice();
+    if let Some(told) = comment_mistake(alloc, text, tokens, number)? {
+        return Ok(Some(told));
+    }
     if let Some(told) = word_mistake(alloc, text, tokens, number, open)? {
         return Ok(Some(told));
     }
@@ -52,7 +57,13 @@ pub fn word_mistake<'t>(
 
 /// Returns a mistake that no word of its own tells.
 fn other_mistake<'t>(tokens: &[Token<'t>], number: usize, open: &[Open]) -> Option<Told<'t>> {
+    if let Some(told) = idle_closer(tokens, number, open) {
+        return Some(told);
+    }
     if let Some(told) = plain_mistake(tokens, number, open.last()) {
+        return Some(told);
+    }
+    if let Some(told) = value_mistake(tokens, number, open.last()) {
         return Some(told);
     }
     if let Some(told) = resource_mistake(tokens, number) {
@@ -71,12 +82,33 @@ fn other_mistake<'t>(tokens: &[Token<'t>], number: usize, open: &[Open]) -> Opti
         return Some(told);
     }
     if begins_statement(tokens, number) && ends_before(tokens, number) && !open.is_empty() {
-        return usual(
+        return inserted(
             "a semicolon is missing",
             "a semicolon separates this statement from the one before",
+            ";",
         );
     }
     None
+}
+
+/// Returns a mistake in these words, which say what is missing; it is there.
+fn inserted<'t>(summary: &'static str, hint: &'static str, word: &'static str) -> Option<Told<'t>> {
+    Some(telling(summary, hint).inserting(word))
+}
+
+/// Returns a mistake in these words, which say that a token is left out; it is there.
+fn removed<'t>(summary: &'static str, hint: &'static str, number: usize) -> Option<Told<'t>> {
+    Some(telling(summary, hint).removing(number))
+}
+
+/// Returns a mistake in these words, which say what is written in the place of a token; it is there.
+fn replaced<'t>(
+    summary: &'static str,
+    hint: &'static str,
+    number: usize,
+    word: &'static str,
+) -> Option<Told<'t>> {
+    Some(telling(summary, hint).replacing(number, word.as_bytes()))
 }
 
 /// Returns a mistake that is told in the same words wherever it is made.
@@ -103,34 +135,59 @@ fn plain_mistake<'t>(tokens: &[Token<'t>], number: usize, open: Option<&Open>) -
 fn list_mistake<'t>(tokens: &[Token<'t>], number: usize) -> Option<Told<'t>> {
     let before = number.checked_sub(1)?;
     if begins_list(tokens, before) && ends_list(tokens, number) {
-        return usual(
-            "a statement is missing",
-            "there is at least one statement here: write skip if there is nothing to do",
+        return inserted("a statement is missing", SKIP_HINT, "skip");
+    }
+    if begins_list(tokens, before) && is_at(tokens, number, Mark::Semicolon) {
+        return Some(
+            telling(
+                "there is a semicolon behind `@1`",
+                "leave it out: a semicolon separates two statements",
+            )
+            .naming(text_at(tokens, before))
+            .removing(number),
         );
     }
+    if is_at(tokens, number, Mark::Do) && is_statement_start(tokens, number) {
+        return usual(
+            "no statement begins with `do`",
+            "the only loop is while: while i < 10 do i := i + 1 od",
+        );
+    }
+    semicolon_mistake(tokens, number)
+}
+
+/// Returns the mistake of a semicolon just before a token with which no statement begins.
+fn semicolon_mistake<'t>(tokens: &[Token<'t>], number: usize) -> Option<Told<'t>> {
+    let before = number.checked_sub(1)?;
     if !is_at(tokens, before, Mark::Semicolon) {
         return None;
     }
     if ends_list(tokens, number) && is_declaration(tokens, before) {
-        return usual(
+        return inserted(
             "a statement is missing behind the declaration",
-            "there is at least one statement here: write skip if there is nothing to do",
+            SKIP_HINT,
+            "skip",
         );
     }
     if ends_list(tokens, number) {
-        return usual(
+        return removed(
             "a statement is missing behind the semicolon",
             "a semicolon separates statements; the last one has none",
+            before,
         );
     }
     if is_at(tokens, number, Mark::Semicolon) {
-        return usual(
+        return removed(
             "a statement is missing between two semicolons",
             "write one semicolon between two statements",
+            number,
         );
     }
     None
 }
+
+const SKIP_HINT: &str =
+    "there is at least one statement here: write skip if there is nothing to do";
 
 /// Returns a mistake of a declaration of integers.
 fn declaration_mistake<'t>(tokens: &[Token<'t>], number: usize) -> Option<Told<'t>> {
@@ -151,15 +208,17 @@ fn declaration_mistake<'t>(tokens: &[Token<'t>], number: usize) -> Option<Told<'
         );
     }
     if is_name(tokens, number) && !is_at(tokens, number.saturating_add(1), Mark::Assign) {
-        return usual(
+        return inserted(
             "a comma is missing",
             "commas separate the names of integers: integer x, y;",
+            ",",
         );
     }
     if begins_statement(tokens, number) {
-        return usual(
+        return inserted(
             "a semicolon is missing",
             "a semicolon is behind the names of the integers: integer x, y;",
+            ";",
         );
     }
     None
@@ -193,25 +252,29 @@ fn program_mistake<'t>(
         && !begins_statement(tokens, number.saturating_add(1))
         && !ends_list(tokens, number.saturating_add(1))
     {
-        return usual(
+        return removed(
             "there is a semicolon behind the end of a process",
             "a process ends with end, and no semicolon is behind it",
+            number,
         );
     }
     if is_at(tokens, before.saturating_sub(1), Mark::Process)
         && is_at(tokens, number, Mark::Semicolon)
     {
-        return usual(
+        return removed(
             "there is a semicolon behind the name of a process",
             "begin is behind the name: process p begin print 1 end",
+            number,
         );
     }
     if is_at(tokens, before.saturating_sub(1), Mark::Resource)
         && is_at(tokens, number, Mark::Assign)
     {
-        return usual(
+        return replaced(
             "a resource is declared with `=`",
             "write resource r = 2; as `:=` is an assignment",
+            number,
+            "=",
         );
     }
     None
@@ -221,9 +284,11 @@ fn program_mistake<'t>(
 fn joined_mistake<'t>(tokens: &[Token<'t>], number: usize) -> Option<Told<'t>> {
     let before = number.checked_sub(1)?;
     if is_at(tokens, before, Mark::And) && begins_command(tokens, number) {
-        return usual(
+        return replaced(
             "`and` stands between two statements",
             "a semicolon separates statements, and the arms of a parbegin",
+            before,
+            ";",
         );
     }
     if is_at(tokens, before, Mark::Star) && is_at(tokens, number, Mark::Star) {
@@ -236,9 +301,11 @@ fn joined_mistake<'t>(tokens: &[Token<'t>], number: usize) -> Option<Told<'t>> {
         return None;
     }
     if begins_command(tokens, number.saturating_add(1)) {
-        return usual(
+        return replaced(
             "a comma stands between two statements",
             "a semicolon separates statements, and the arms of a parbegin",
+            number,
+            ";",
         );
     }
     if is_at(tokens, statement_before(tokens, number)?, Mark::Print) {
@@ -274,31 +341,54 @@ fn equals_mistake<'t>(
         );
     }
     if is_at(tokens, number, Mark::Equal) && begins && open.is_some() {
-        return usual(
+        return replaced(
             "an assignment is written with `:=`",
             "write x := 1; `=` alone is a comparison",
+            number,
+            ":=",
         );
     }
-    if is_at(tokens, number, Mark::Assign) && open.is_some() && is_assigned_twice(tokens, number) {
+    if is_at(tokens, number, Mark::Assign) && open.is_some() {
+        return assign_mistake(tokens, number);
+    }
+    comparison_mistake(tokens, number)
+}
+
+/// Returns the mistake of a `:=` that cannot be here.
+fn assign_mistake<'t>(tokens: &[Token<'t>], number: usize) -> Option<Told<'t>> {
+    if is_assigned_twice(tokens, number) {
         return usual(
             "one integer is assigned at a time",
             "an assignment has no value: write y := 1; x := y for x := y := 1",
         );
     }
-    if is_at(tokens, number, Mark::Assign) && open.is_some() {
-        return usual(
-            "`:=` is not a comparison",
-            "a comparison is written x = 1; `:=` is an assignment",
-        );
+    usual(
+        "`:=` is not a comparison",
+        "a comparison is written x = 1; `:=` is an assignment",
+    )
+}
+
+/// Returns the mistake of a comparison that cannot be here: one behind another, or one with no left side.
+fn comparison_mistake<'t>(tokens: &[Token<'t>], number: usize) -> Option<Told<'t>> {
+    let before = number.checked_sub(1)?;
+    let begins = is_statement_start(tokens, before) && is_name(tokens, before);
+    let is_declared_here = matches!(
+        mark_at(tokens, before.saturating_sub(1)),
+        Some(Mark::Resource | Mark::Process)
+    );
+    if !is_comparison(tokens, number) || begins || is_declared_here {
+        return None;
     }
-    if is_comparison(tokens, number)
-        && !begins
-        && !is_at(tokens, before.saturating_sub(1), Mark::Resource)
-        && ends_before(tokens, number)
-    {
+    if ends_before(tokens, number) {
         return usual(
             "a comparison has two sides",
             "join two comparisons by and: 0 < x and x < 9",
+        );
+    }
+    if matches!(mark_at(tokens, before), Some(Mark::And | Mark::Or)) {
+        return usual(
+            "a comparison has two sides",
+            "write the left side again: 0 < x and x < 9",
         );
     }
     None

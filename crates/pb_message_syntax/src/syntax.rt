@@ -5,7 +5,7 @@ use crate::mistakes::likely_mistake;
 use pb_base::NoMemory;
 use pb_lexer::{LexFault, Token, lex};
 use pb_mistakes::tokens::{text_at, token_at};
-use pb_mistakes::{Shown, Wording};
+use pb_mistakes::{Shown, Told, Wording};
 use pb_parser::{ParseFault, parse};
 use std::alloc::{AllocError, Global};
 
@@ -164,12 +164,24 @@ fn too_deep(alloc: Global) -> Wording {
     )
 }
 
+/// Returns the mistake that was probably made in a text with these tokens, whose grammar has its fault at an offset;
+/// nothing if none is likely.
+pub fn syntax_mistake<'t>(
+    alloc: Global,
+    text: &'t [u8],
+    tokens: &[Token<'t>],
+    at: usize,
+) -> Result<Option<Told<'t>>, NoMemory> {
+    let number = token_at(tokens, at).unwrap_or(tokens.len());
+    likely_mistake(alloc, text, tokens, number)
+}
+
 fn syntax_wording(alloc: Global, text: &[u8], at: usize) -> Result<Wording, NoMemory> {
     let Ok(tokens) = lex(alloc, text) else {
         return Err(NoMemory);
     };
     let number = token_at(&tokens, at).unwrap_or(tokens.len());
-    match likely_mistake(alloc, text, &tokens, number)? {
+    match syntax_mistake(alloc, text, &tokens, at)? {
         Some(told) => Ok(told.wording(alloc)),
         None => unexpected(alloc, &text[..at.min(text.len())], &tokens, number),
     }

@@ -26,6 +26,9 @@ pub fn closing_mistake<'t>(tokens: &[Token<'t>], number: usize, open: &[Open]) -
     if !closes(tokens, number) || last.is_closed_by(tokens, number) {
         return None;
     }
+    if let Some(told) = end_of_a_kind(tokens, number, last) {
+        return Some(told);
+    }
     if last.is_closed_by(tokens, number.saturating_add(1)) && has_one_too_many(tokens, number) {
         return Some(closed_behind(tokens, number, last));
     }
@@ -33,6 +36,57 @@ pub fn closing_mistake<'t>(tokens: &[Token<'t>], number: usize, open: &[Open]) -
         return Some(not_closed(tokens, last));
     }
     Some(wrong_closer(tokens, number, last))
+}
+
+/// Returns the mistake of a word that closes nothing of its kind, if its process has more words that close a statement than
+/// words that open one.
+pub fn idle_closer<'t>(tokens: &[Token<'t>], number: usize, open: &[Open]) -> Option<Told<'t>> {
+    if open.is_empty()
+        || !closes(tokens, number)
+        || is_closing(tokens, number, open)
+        || !has_one_too_many(tokens, number)
+    {
+        return None;
+    }
+    let opener: &'static [u8] = match mark_at(tokens, number)? {
+        Mark::Fi => b"if",
+        Mark::Od => b"while or hold",
+        Mark::Parend => b"parbegin",
+        _ => b"begin",
+    };
+    Some(
+        telling(
+            "this `@1` closes nothing: no @2 is open here",
+            "leave it out, or look for the @2 that is missing above",
+        )
+        .with_words(spelled_at(tokens, number), opener, b"")
+        .removing(number),
+    )
+}
+
+/// Returns the mistake of an `end` with a word behind it that says what ends.
+fn end_of_a_kind<'t>(tokens: &[Token<'t>], number: usize, last: &Open) -> Option<Told<'t>> {
+    let behind = number.saturating_add(1);
+    let kind = text_at(tokens, behind);
+    let is_kind = matches!(
+        mark_at(tokens, behind),
+        Some(Mark::If | Mark::While | Mark::Hold | Mark::Do | Mark::Parbegin)
+    ) || kind.eq_ignore_ascii_case(b"loop");
+    if !is_at(tokens, number, Mark::End) || !is_kind {
+        return None;
+    }
+    Some(
+        telling(
+            "the `@1` of line @n is closed by `@2`, and not by `end @3`",
+            "write @2 in the place of end @3",
+        )
+        .with_words(
+            spelled(last.word).as_bytes(),
+            spelled(closer(last.word)).as_bytes(),
+            kind,
+        )
+        .on_line(line_at(tokens, last.number)),
+    )
 }
 
 /// Returns whether the token with a number closes something that is open.
@@ -70,6 +124,7 @@ fn closed_behind<'t>(tokens: &[Token<'t>], number: usize, last: &Open) -> Told<'
     )
     .on_line(line_at(tokens, last.number))
     .placed("it is opened at ", tokens.get(last.number))
+    .removing(number)
 }
 
 /// Returns the mistake of an `else` that cannot be here.
@@ -105,6 +160,7 @@ fn not_closed<'t>(tokens: &[Token<'t>], open: &Open) -> Told<'t> {
         )
         .on_line(line_at(tokens, open.number))
         .placed("it is opened at ", tokens.get(open.number))
+        .inserting(spelled(closer(open.word)))
 }
 
 /// Returns whether what is open is an `if` with another one just behind its `else`.
@@ -133,6 +189,7 @@ fn wrong_closer<'t>(tokens: &[Token<'t>], number: usize, last: &Open) -> Told<'t
     )
     .on_line(line_at(tokens, last.number))
     .placed("it is opened at ", tokens.get(last.number))
+    .replacing(number, spelled(closer(last.word)).as_bytes())
 }
 
 /// Returns the word that closes a statement at a token as it is spelled.
@@ -157,12 +214,8 @@ fn outside_mistake<'t>(tokens: &[Token<'t>], number: usize) -> Option<Told<'t>> 
     if number != 0 && !is_at(tokens, number.checked_sub(1)?, Mark::Semicolon) {
         return None;
     }
-    if is_name(tokens, number) && !is_at(tokens, number.saturating_add(1), Mark::Assign) {
-        return Some(telling(
-            "neither a resource nor a process begins with `@1`",
-            "a program is made of these: resource r = 1; process p begin print 1 end",
-        )
-        .naming(text_at(tokens, number)));
+    if let Some(told) = part_mistake(tokens, number) {
+        return Some(told);
     }
     if !begins_statement(tokens, number) {
         return None;
@@ -173,6 +226,36 @@ fn outside_mistake<'t>(tokens: &[Token<'t>], number: usize) -> Option<Told<'t>> 
     )
 }
 
+/// Returns the mistake of a token with which a part of a program is meant to begin.
+fn part_mistake<'t>(tokens: &[Token<'t>], number: usize) -> Option<Told<'t>> {
+    let behind = number.saturating_add(1);
+    if is_name(tokens, number) && is_at(tokens, behind, Mark::Equal) && number != 0 {
+        return Some(
+            telling(
+                "`resource` is missing before @1",
+                "each resource has a declaration of its own: resource @1 = 1;",
+            )
+            .naming(text_at(tokens, number))
+            .inserting("resource"),
+        );
+    }
+    if opens(tokens, number) && is_at(tokens, behind, Mark::Process) {
+        return Some(telling(
+            "a process stands in no statement",
+            "leave it out: all processes run from the beginning, side by side",
+        )
+        .removing(number));
+    }
+    if is_name(tokens, number) && !is_at(tokens, behind, Mark::Assign) {
+        return Some(telling(
+            "neither a resource nor a process begins with `@1`",
+            "a program is made of these: resource r = 1; process p begin print 1 end",
+        )
+        .naming(text_at(tokens, number)));
+    }
+    None
+}
+
 /// Returns the mistake of a token behind the end of a process.
 fn behind_mistake<'t>(tokens: &[Token<'t>], number: usize) -> Option<Told<'t>> {
     if !is_at(tokens, number.checked_sub(1)?, Mark::End) {
@@ -180,11 +263,24 @@ fn behind_mistake<'t>(tokens: &[Token<'t>], number: usize) -> Option<Told<'t>> {
     }
     let name = process_name(tokens, number);
     if closes(tokens, number) {
-        return Some(telling(
-            "this `@1` is one too many: process @2 has ended just before it",
-            "leave it out, or look for a begin that is missing above",
-        )
-        .with_words(spelled_at(tokens, number), name, b""));
+        return Some(
+            telling(
+                "this `@1` is one too many: process @2 has ended just before it",
+                "leave it out, or look for a begin that is missing above",
+            )
+            .with_words(spelled_at(tokens, number), name, b"")
+            .removing(number),
+        );
+    }
+    if text_at(tokens, number) == name {
+        return Some(
+            telling(
+                "the name of process @1 stands behind its end",
+                "a process ends with end alone",
+            )
+            .naming(name)
+            .removing(number),
+        );
     }
     Some(telling(
         "process @1 has ended before this",

@@ -1,194 +1,86 @@
 //! Words of other languages, and reserved words in capital letters.
 
+use crate::meanings::{ASKS_HINT, is_about_a_thing, is_use, meaning_of};
+pub use crate::meanings::{input_hint, value_of};
 use crate::open::Open;
 use crate::tokens::{
-    RESERVED, is_at, is_declared, is_name, is_number, is_reserved, is_statement_start, mark_at,
-    text_at,
+    RESERVED, ends_expression, is_at, is_declared, is_name, is_number, is_process, is_reserved,
+    is_resource, is_statement_start, mark_at, process_before, text_at,
 };
 use crate::wording::{Told, telling};
 use pb_lexer::{Mark, Token};
 
-/// Words of other languages that mean one thing, and how that is written here.
-struct Meaning {
-    words: &'static str,
-    hint: &'static str,
-}
+/// What is wrong with a word of another language.
+pub const NO_WORD: &str = "`@1` is not a word of the language";
 
-/// The words with which other languages read their input, in small letters, with blanks between them.
-const INPUT: &str = "read readln input scanf scan cin readline gets getchar nextint";
-
-/// What is written in the place of these.
-const INPUT_HINT: &str = "a program reads no input: assign a number, as in x := 5";
-
-/// The words of each meaning, in small letters, with blanks between them.
-const MEANINGS: [Meaning; 29] = [
-    Meaning {
-        words: "endif",
-        hint: "an if ends with fi",
-    },
-    Meaning {
-        words: "endwhile enddo done wend endfor endloop endhold",
-        hint: "a while or a hold ends with od",
-    },
-    Meaning {
-        words: "endprocess endproc endprogram",
-        hint: "a process ends with end alone",
-    },
-    Meaning {
-        words: "elif elsif elseif elsf",
-        hint: "write else if, with a fi of its own for the second if",
-    },
-    Meaning {
-        words: "int var let bool boolean float real char string long double short unsigned byte number auto dim local global declare integer32 uint",
-        hint: "the integers of a process are declared behind its first begin: integer x, y;",
-    },
-    Meaning {
-        words: "const constant final static define enum type typedef record struct array object list union",
-        hint: "there are only integers, which a process declares behind its first begin: integer n; and assigns: n := 5",
-    },
-    Meaning {
-        words: INPUT,
-        hint: INPUT_HINT,
-    },
-    Meaning {
-        words: "write writeln printf println echo cout puts output display disp show put fprintf log system console print_int",
-        hint: "a number is printed by print: print x",
-    },
-    Meaning {
-        words: "cobegin coend par fork spawn thread pardo parallel concurrently doall forall async",
-        hint: "arms that run side by side are written parbegin a; b parend",
-    },
-    Meaning {
-        words: "for repeat until loop foreach times downto step",
-        hint: "the only loop is while: while i < 10 do i := i + 1 od",
-    },
-    Meaning {
-        words: "return break continue exit goto stop halt quit label terminate abort jump",
-        hint: "an arm goes on to the end of its statements: use if, and the test of a while",
-    },
-    Meaning {
-        words: "case switch select when unless match choose otherwise default alt",
-        hint: "a choice is written if x = 1 then print 1 else print 2 fi",
-    },
-    Meaning {
-        words: "program procedure function def main void class module task proc func fn method sub subroutine begin_process public private protected interface package lambda algorithm actor",
-        hint: "a program is made of processes: process p begin print 1 end",
-    },
-    Meaning {
-        words: "import include using use uses require from namespace unit with extern export",
-        hint: "nothing is imported: a program is one text, of resources and processes",
-    },
-    Meaning {
-        words: "semaphore mutex lock unlock monitor wait signal acquire release request sem p v synchronized region critical atomic notify notifyall notify_all condition barrier down up enter leave section lockacquire trylock sem_wait sem_post pthread_mutex_lock pthread_mutex_unlock claim grab free take give",
-        hint: "write resource s = 1; before the first process, and hold 1 of s do .. od where it is needed: od gives it back",
-    },
-    Meaning {
-        words: "start run launch create init pthread_create resume execute exec invoke activate",
-        hint: "nothing is started: all processes run from the beginning, side by side, and parbegin a; b parend runs its arms",
-    },
-    Meaning {
-        words: "join waitall wait_all sync pthread_join",
-        hint: "nothing is joined: parend waits for the arms of its parbegin",
-    },
-    Meaning {
-        words: "call perform gosub",
-        hint: "there are no procedures: write the statements where they are to run",
-    },
-    Meaning {
-        words: "send receive recv emit broadcast message channel publish subscribe post reply accept chan",
-        hint: "processes send nothing to each other: they meet in resources alone, and the arms of one process share its integers",
-    },
-    Meaning {
-        words: "await waituntil wait_until waitfor",
-        hint: "to wait for a value of another arm is a loop: while x <> 0 do skip od; to wait for a resource is hold 1 of s do .. od",
-    },
-    Meaning {
-        words: "sleep delay usleep pause yield suspend idle timeout nanosleep timer relax",
-        hint: "there is no time, and nothing to yield: leave it out, as any arm may make the next step",
-    },
-    Meaning {
-        words: "pass nop noop null nothing none nil",
-        hint: "the statement that does nothing is skip",
-    },
-    Meaning {
-        words: "try catch except finally throw raise throws rescue",
-        hint: "there are no exceptions: a fault, as of a division by zero, ends its process",
-    },
-    Meaning {
-        words: "assert assume require ensure requires ensures invariant check",
-        hint: "there is no assertion: print what must hold, print x = 1, which prints 1 if it holds",
-    },
-    Meaning {
-        words: "set assign store move mov",
-        hint: "an assignment is written x := 1",
-    },
-    Meaning {
-        words: "inc dec incr decr increment decrement add subtract",
-        hint: "an integer is changed by an assignment: x := x + 1",
-    },
-    Meaning {
-        words: "random rand randint max min abs sqrt pow len new malloc delete",
-        hint: "there are no functions: an expression has integers, numbers and operators",
-    },
-    Meaning {
-        words: "xor nand nor shl shr eq ne neq lt le gt ge is in",
-        hint: "the operators are + - * div mod = <> < <= > >= and or not",
-    },
-    Meaning {
-        words: "rem comment note todo",
-        hint: "a comment begins with // and goes to the end of its line",
-    },
-];
-
-/// Returns the word of another language, or the reserved word in capital letters, that is at the token with this number
-/// or begins the statement just before it. A statement may be open there.
+/// Returns the word of another language, or the reserved word in capital letters, that begins the statement just before
+/// the token with this number, or is at it. A statement may be open there.
 pub fn foreign_word<'t>(
     tokens: &[Token<'t>],
     number: usize,
     open: Option<&Open>,
 ) -> Option<Told<'t>> {
+    if let Some(found) = head_word(tokens, number) {
+        return Some(found);
+    }
     if is_name(tokens, number) && !is_at(tokens, number.saturating_add(1), Mark::Assign) {
         if let Some(found) = word_at(tokens, number, open) {
             return Some(found);
         }
     }
     let before = number.checked_sub(1)?;
-    if is_head(tokens, before) {
-        return word_at(tokens, before, None);
-    }
-    if is_at(tokens, number, Mark::Open) && is_name(tokens, before) {
-        return Some(called(tokens, before));
+    if is_at(tokens, number, Mark::Open) && is_name(tokens, before) && !is_head(tokens, before) {
+        return called(tokens, before);
     }
     None
 }
 
-/// Returns what is told of a name before `(` in an expression.
-fn called<'t>(tokens: &[Token<'t>], number: usize) -> Told<'t> {
+/// Returns what is told of the word that begins the statement just before a token.
+fn head_word<'t>(tokens: &[Token<'t>], number: usize) -> Option<Told<'t>> {
+    let before = number.checked_sub(1)?;
+    if !is_head(tokens, before) {
+        return None;
+    }
+    let told = word_at(tokens, before, None)?;
+    Some(told.placed("`@1`: ", tokens.get(before)))
+}
+
+/// Returns what is told of a name before `(` where no statement begins.
+fn called<'t>(tokens: &[Token<'t>], number: usize) -> Option<Told<'t>> {
     let word = text_at(tokens, number);
-    match input_hint(word) {
-        Some(hint) => telling(NO_WORD, hint).naming(word),
-        None if is_declared(tokens, number) => telling(
+    let before = number.saturating_sub(1);
+    if is_at(tokens, before, Mark::Resource) {
+        return None;
+    }
+    let told = if is_at(tokens, before, Mark::Process) {
+        telling(
+            "process @1 has no parameters",
+            "a process is written process @1 begin print 1 end",
+        )
+    } else if let Some(hint) = input_hint(word) {
+        telling(NO_WORD, hint)
+    } else if is_process(tokens, word) {
+        telling(
+            "process @1 is not a function",
+            "all processes run from the beginning, side by side, and none of them has a value",
+        )
+    } else if is_resource(tokens, word) {
+        telling(
+            "resource @1 is not a function",
+            "only integers have values; a process gets a resource by hold 1 of @1 do .. od",
+        )
+    } else if is_declared(tokens, number) {
+        telling(
             "an operator is missing behind @1",
             "a product is written @1 * (2): there are no functions",
         )
-        .naming(word),
-        None => telling(
+    } else {
+        telling(
             "`@1` is not a function",
             "there are no functions: an expression has integers, numbers and operators",
         )
-        .naming(word),
-    }
-}
-
-const NO_WORD: &str = "`@1` is not a word of the language";
-
-/// Returns what is written in the place of a word, if other languages read their input with it.
-pub fn input_hint(text: &[u8]) -> Option<&'static str> {
-    if is_among(INPUT, text) {
-        Some(INPUT_HINT)
-    } else {
-        None
-    }
+    };
+    Some(told.naming(word))
 }
 
 /// Returns whether the token with a number is a name at which a statement begins, and behind which no operator is.
@@ -212,7 +104,7 @@ fn word_at<'t>(tokens: &[Token<'t>], number: usize, open: Option<&Open>) -> Opti
     let text = text_at(tokens, number);
     for word in &RESERVED {
         if word.as_bytes().eq_ignore_ascii_case(text) {
-            return Some(in_capitals(text, word.as_bytes()));
+            return Some(in_capitals(text, word.as_bytes(), number));
         }
     }
     if is_declared(tokens, number) || is_in_hold(open) {
@@ -222,10 +114,107 @@ fn word_at<'t>(tokens: &[Token<'t>], number: usize, open: Option<&Open>) -> Opti
     if text.len() == 1 && !is_at(tokens, behind, Mark::Open) {
         return None;
     }
+    if let Some(told) = loop_word(tokens, number, open) {
+        return Some(told);
+    }
+    if is_about_a_thing(text) {
+        if let Some(told) = thing_word(tokens, number) {
+            return Some(told);
+        }
+    }
     if text_at(tokens, behind) == b"main".as_slice() {
         return Some(telling(NO_WORD, hint_of(b"main")?).naming(text));
     }
-    Some(telling(NO_WORD, hint_of(text)?).naming(text))
+    placed_word(tokens, number)
+}
+
+/// Returns what is told of the word `loop` behind the test of a while.
+fn loop_word<'t>(tokens: &[Token<'t>], number: usize, open: Option<&Open>) -> Option<Told<'t>> {
+    let open = open?;
+    let text = text_at(tokens, number);
+    if open.word != Mark::While || open.part.is_some() || !text.eq_ignore_ascii_case(b"loop") {
+        return None;
+    }
+    Some(
+        telling(NO_WORD, "a while is written while x < 9 do x := x + 1 od")
+            .naming(text)
+            .replacing(number, b"do"),
+    )
+}
+
+/// Returns what is told of a word that means different things in different places, or one thing in all.
+fn placed_word<'t>(tokens: &[Token<'t>], number: usize) -> Option<Told<'t>> {
+    let text = text_at(tokens, number);
+    let before = number.saturating_sub(1);
+    if is_use(text) && process_before(tokens, number).is_some() {
+        return Some(telling(NO_WORD, ASKS_HINT).naming(text));
+    }
+    if is_at(tokens, before.saturating_sub(1), Mark::Process) && text.eq_ignore_ascii_case(b"is") {
+        return Some(telling(
+            NO_WORD,
+            "a process is written process @2 begin print 1 end",
+        ).with_words(text, text_at(tokens, before), b""));
+    }
+    if ends_expression(tokens, before) && number > 0 && text.eq_ignore_ascii_case(b"rem") {
+        return Some(
+            telling(NO_WORD, "a remainder is written a mod b")
+                .naming(text)
+                .replacing(number, b"mod"),
+        );
+    }
+    if is_assigning(tokens, number) {
+        return Some(
+            telling(NO_WORD, "an assignment is written @2 := 1")
+                .with_words(text, text_at(tokens, before), b"")
+                .replacing(number, b":="),
+        );
+    }
+    let meaning = meaning_of(text)?;
+    let told = telling(NO_WORD, meaning.hint).naming(text);
+    if meaning.instead.is_empty() {
+        Some(told)
+    } else {
+        Some(told.replacing(number, meaning.instead.as_bytes()))
+    }
+}
+
+/// Returns whether a token is a word that is behind the name with which a statement begins, and that means `:=`.
+fn is_assigning(tokens: &[Token], number: usize) -> bool {
+    let text = text_at(tokens, number);
+    match number.checked_sub(1) {
+        Some(before) => {
+            is_name(tokens, before)
+                && is_statement_start(tokens, before)
+                && (text.eq_ignore_ascii_case(b"is") || text.eq_ignore_ascii_case(b"equals"))
+        }
+        None => false,
+    }
+}
+
+/// Returns what is told of a word that begins a statement and has a resource of the text behind it, maybe with its amount
+/// and in parentheses.
+pub fn thing_word<'t>(tokens: &[Token<'t>], number: usize) -> Option<Told<'t>> {
+    let behind = number.saturating_add(1);
+    let first = if is_at(tokens, behind, Mark::Open) {
+        behind.saturating_add(1)
+    } else {
+        behind
+    };
+    let has_amount = is_number(tokens, first) && is_at(tokens, first.saturating_add(1), Mark::Of);
+    let (amount, resource): (&'t [u8], usize) = if has_amount {
+        (text_at(tokens, first), first.saturating_add(2))
+    } else {
+        (b"1", first)
+    };
+    let name = text_at(tokens, resource);
+    if !is_name(tokens, resource) || !is_resource(tokens, name) {
+        return None;
+    }
+    Some(telling(
+        NO_WORD,
+        "write hold @2 of @3 do .. od: do takes it, and od gives it back",
+    )
+    .with_words(text_at(tokens, number), amount, name))
 }
 
 /// Returns whether a hold is open whose `do` has not come.
@@ -236,27 +225,16 @@ fn is_in_hold(open: Option<&Open>) -> bool {
     }
 }
 
-/// Returns whether a word is one of these, but for capital letters.
-fn is_among(words: &str, text: &[u8]) -> bool {
-    words
-        .split(' ')
-        .any(|word| word.as_bytes().eq_ignore_ascii_case(text))
-}
-
 /// Returns what is written here in the place of a word.
 pub fn hint_of(text: &[u8]) -> Option<&'static str> {
-    for meaning in &MEANINGS {
-        if is_among(meaning.words, text) {
-            return Some(meaning.hint);
-        }
-    }
-    None
+    Some(meaning_of(text)?.hint)
 }
 
-fn in_capitals<'t>(text: &'t [u8], word: &'t [u8]) -> Told<'t> {
+fn in_capitals<'t>(text: &'t [u8], word: &'t [u8], number: usize) -> Told<'t> {
     telling(
         "`@1` is not a reserved word",
         "reserved words are in small letters: @2",
     )
     .with_words(text, word, b"")
+    .replacing(number, word)
 }

@@ -3,12 +3,16 @@
 
 pub mod closing;
 pub mod foreign;
+mod meanings;
 pub mod open;
 pub mod parts;
+mod repair;
 pub mod resources;
 pub mod signs;
 pub mod statements;
 pub mod tokens;
+pub mod values;
 mod wording;
 
+pub use repair::Repair;
 pub use wording::{Shown, Spot, Told, Wording, telling, usual};

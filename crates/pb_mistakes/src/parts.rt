@@ -16,14 +16,22 @@ pub fn part_mistake<'t>(
     if open.part.is_some() || !ends_expression(tokens, before) || !ends_test(tokens, number) {
         return None;
     }
-    match open.word {
-        Mark::If => Some(missing(tokens, open, b"then", "write if x = 1 then print 1 fi")),
-        Mark::While => { Some(missing(tokens, open, b"do", "write while x < 9 do x := x + 1 od")) }
-        Mark::Hold if is_pair(tokens, before) => {
-            Some(missing(tokens, open, b"do", "write hold 1 of tape do print 1 od"))
-        }
-        _ => None,
-    }
+    let (word, hint) = match open.word {
+        Mark::If => ("then", "write if x = 1 then print 1 fi"),
+        Mark::While => ("do", "write while x < 9 do x := x + 1 od"),
+        Mark::Hold if is_pair(tokens, before) => ("do", "write hold 1 of tape do print 1 od"),
+        _ => return None,
+    };
+    let told = missing(tokens, open, word, hint);
+    let is_another = matches!(
+        mark_at(tokens, number),
+        Some(Mark::Then | Mark::Do | Mark::Semicolon)
+    );
+    Some(if is_another {
+        told.replacing(number, word.as_bytes())
+    } else {
+        told
+    })
 }
 
 /// Returns whether a test has ended before the token with a number, also if there are no more.
@@ -48,10 +56,11 @@ fn is_pair(tokens: &[Token], number: usize) -> bool {
 fn missing<'t>(
     tokens: &[Token<'t>],
     open: &Open,
-    word: &'static [u8],
+    word: &'static str,
     hint: &'static str,
 ) -> Told<'t> {
     telling("`@1` is missing: the `@2` of line @n has none", hint)
-        .with_words(word, spelled(open.word).as_bytes(), b"")
+        .with_words(word.as_bytes(), spelled(open.word).as_bytes(), b"")
         .on_line(line_at(tokens, open.number))
+        .inserting(word)
 }

@@ -69,11 +69,16 @@ fn missing_capital<'t>(tokens: &[Token<'t>], number: usize) -> Told<'t> {
     } else {
         b"1"
     };
-    telling(
+    let told = telling(
         "`=` is missing behind resource @1",
         "a resource is declared with its capital, how much there is of it: resource @1 = @2;",
     )
-    .with_words(text_at(tokens, number.saturating_sub(1)), capital, b"")
+    .with_words(text_at(tokens, number.saturating_sub(1)), capital, b"");
+    if is_number(tokens, number) {
+        told.inserting("=")
+    } else {
+        told
+    }
 }
 
 fn two_resources<'t>() -> Told<'t> {
@@ -106,4 +111,5 @@ fn missing_semicolon<'t>(tokens: &[Token<'t>], number: usize) -> Told<'t> {
         text_at(tokens, number.saturating_sub(1)),
         b"",
     )
+    .inserting(";")
 }

@@ -1,8 +1,8 @@
 //! What other languages write with signs: comments, numbers, assignments and comparisons.
 
 use crate::tokens::{
-    begins_list, closes, is_at, is_joined, is_name, is_number, is_reserved, is_statement_start,
-    mark_at, statement_before, text_at,
+    begins_list, closes, ends_expression, is_at, is_joined, is_name, is_number, is_reserved,
+    is_statement_start, mark_at, statement_before, text_at,
 };
 use crate::wording::{Told, telling, usual};
 use pb_lexer::{Mark, Token};
@@ -79,10 +79,22 @@ fn number_mistake<'t>(tokens: &[Token<'t>], number: usize) -> Option<Told<'t>> {
         && matches!(letters.first(), Some(b'x' | b'X' | b'b' | b'B' | b'o'));
     let hint = if is_base {
         "numbers have decimal digits alone: 255 is written 255, and not 0xFF"
+    } else if is_exponent(letters) {
+        "a number is written out: 1000, and not 1e3"
     } else {
         "numbers have decimal digits alone; a name begins with a letter, and a product is written @1 * @2"
     };
     Some(telling(summary, hint).with_words(digits, letters, b""))
+}
+
+/// Returns whether letters behind a number are its exponent in other languages.
+fn is_exponent(letters: &[u8]) -> bool {
+    match letters.split_first() {
+        Some((first, digits)) => {
+            matches!(first, b'e' | b'E') && digits.iter().all(|byte| byte.is_ascii_digit())
+        }
+        None => false,
+    }
 }
 
 /// Returns the mistake of two signs that other languages write as one.
@@ -91,9 +103,34 @@ fn pair_mistake<'t>(tokens: &[Token<'t>], number: usize) -> Option<Told<'t>> {
     if is_at(tokens, number, Mark::Less) && is_arrow(tokens, number) {
         return usual("there is no `<-`", "an assignment is written x := 1");
     }
+    if is_pair(tokens, number, Mark::Less, Mark::Minus) && !ends_expression(tokens, before) {
+        return usual(
+            "there is no `<-`",
+            "processes send nothing to each other, and receive nothing: they meet in resources alone",
+        );
+    }
+    if is_at(tokens, number, Mark::Plus) && !ends_expression(tokens, before) {
+        return plus_mistake(tokens, number);
+    }
     let first = mark_at(tokens, before)?;
     let second = mark_at(tokens, number)?;
     two_signs(first, second)
+}
+
+/// Returns the mistake of a `+` where a value is wanted.
+fn plus_mistake<'t>(tokens: &[Token<'t>], number: usize) -> Option<Told<'t>> {
+    let before = number.checked_sub(1)?;
+    if is_at(tokens, before, Mark::Plus) || is_pair(tokens, number, Mark::Plus, Mark::Plus) {
+        return usual("there is no `++`", "write x := x + 1");
+    }
+    if is_at(tokens, before, Mark::Semicolon) || begins_list(tokens, before) {
+        return None;
+    }
+    Some(telling(
+        "there is no `+` before a value",
+        "leave it out: 5, and not +5",
+    )
+    .removing(number))
 }
 
 /// Returns the mistake of a sign behind another one.

@@ -1,9 +1,10 @@
 //! Mistakes of statements and names that are told with words of the text.
 
-use crate::foreign::is_head;
+use crate::foreign::{is_head, thing_word};
 use crate::open::Open;
 use crate::tokens::{
-    is_at, is_declaration, is_name, is_number, is_reserved, is_statement_start, mark_at, text_at,
+    is_at, is_declaration, is_declared, is_joined, is_name, is_number, is_process, is_reserved,
+    is_resource, is_statement_start, mark_at, text_at,
 };
 use crate::wording::{Told, telling};
 use pb_lexer::{Mark, Token};
@@ -14,42 +15,49 @@ pub fn head_mistake<'t>(tokens: &[Token<'t>], number: usize) -> Option<Told<'t>>
     if !is_head(tokens, before) || !is_in_process(tokens, before) {
         return None;
     }
-    let name = text_at(tokens, before);
-    if is_process(tokens, name) {
-        return Some(telling(
+    let told = match thing_word(tokens, before) {
+        Some(told) => told,
+        None => unknown_head(tokens, before),
+    };
+    Some(told.placed("`@1`: ", tokens.get(before)))
+}
+
+/// Returns what is told of a name that begins a statement and does not assign, and is no word of other languages.
+fn unknown_head<'t>(tokens: &[Token<'t>], number: usize) -> Told<'t> {
+    let name = text_at(tokens, number);
+    let told = if is_process(tokens, name) {
+        telling(
             "process @1 is not started by a statement",
             "all processes run from the beginning, side by side",
         )
-        .naming(name));
-    }
-    if is_at(tokens, number, Mark::Open) {
-        return Some(telling(
+    } else if is_resource(tokens, name) {
+        telling(
+            "no statement begins with the name of a resource",
+            "write hold 1 of @1 do .. od: do takes it, and od gives it back",
+        )
+    } else if is_at(tokens, number.saturating_add(1), Mark::Open) {
+        telling(
             "`@1` is not a statement",
             "there are no procedures: write the statements where they are to run",
         )
-        .naming(name));
-    }
-    Some(telling(
-        "no statement begins with `@1`",
-        "a statement begins with if, while, hold, parbegin, begin, print or skip, or it assigns: @1 := 1",
-    )
-    .naming(name))
+    } else if is_declared(tokens, number) {
+        telling(
+            "no statement begins with `@1`",
+            "a statement begins with if, while, hold, parbegin, begin, print or skip, or it assigns: @1 := 1",
+        )
+    } else {
+        telling(
+            "no statement begins with `@1`",
+            "a statement begins with if, while, hold, parbegin, begin, print or skip, or with an integer to which it assigns",
+        )
+    };
+    told.naming(name)
 }
 
 /// Returns whether the word `begin` is before a token.
 fn is_in_process(tokens: &[Token], number: usize) -> bool {
     for i in 0..number.min(tokens.len()) {
         if is_at(tokens, i, Mark::Begin) {
-            return true;
-        }
-    }
-    false
-}
-
-/// Returns whether a process has this name.
-fn is_process(tokens: &[Token], name: &[u8]) -> bool {
-    for i in 0..tokens.len() {
-        if is_at(tokens, i, Mark::Process) && text_at(tokens, i.saturating_add(1)) == name {
             return true;
         }
     }
@@ -65,6 +73,9 @@ pub fn named_mistake<'t>(
     let before = number.checked_sub(1)?;
     if is_reserved(tokens, number) && wants_name(tokens, before) {
         return Some(reserved_name(tokens, number));
+    }
+    if is_number(tokens, number) && wants_name(tokens, before) {
+        return Some(number_as_name(tokens, number));
     }
     if is_at(tokens, before.saturating_sub(1), Mark::Process) && is_name(tokens, before) {
         return Some(missing_begin(tokens, before));
@@ -94,6 +105,26 @@ fn reserved_name<'t>(tokens: &[Token<'t>], number: usize) -> Told<'t> {
         "write a name here; `@1` cannot be one, as it is a word of the language",
     )
     .naming(text_at(tokens, number))
+}
+
+/// Returns the mistake of a number where a name is wanted.
+fn number_as_name<'t>(tokens: &[Token<'t>], number: usize) -> Told<'t> {
+    let behind = number.saturating_add(1);
+    let is_turned = number
+        .checked_sub(1)
+        .is_some_and(|before| is_at(tokens, before, Mark::Resource));
+    let hint = if is_name(tokens, behind) && is_joined(tokens, behind) {
+        "a name begins with a letter: @2@1"
+    } else if is_turned && is_name(tokens, behind) {
+        "the name comes first: resource @2 = @1;"
+    } else {
+        "a name begins with a letter"
+    };
+    telling("a name is missing before the number @1", hint).with_words(
+        text_at(tokens, number),
+        text_at(tokens, behind),
+        b"",
+    )
 }
 
 fn missing_begin<'t>(tokens: &[Token<'t>], name: usize) -> Told<'t> {
@@ -141,15 +172,23 @@ fn changed_in_place<'t>(tokens: &[Token<'t>], name: usize) -> Told<'t> {
 /// Returns a mistake of the amounts of a hold.
 fn hold_mistake<'t>(tokens: &[Token<'t>], number: usize) -> Option<Told<'t>> {
     let before = number.checked_sub(1)?;
+    if is_at(tokens, before, Mark::Hold) && is_at(tokens, number, Mark::Open) {
+        return Some(hold_in_parentheses(tokens, number.saturating_add(1)));
+    }
     if let Some(next) = next_amount(tokens, number) {
-        return Some(missing_comma(tokens, before, next));
+        let told = missing_comma(tokens, before, next);
+        return Some(if next == number {
+            told.inserting(",")
+        } else {
+            told.replacing(number, b",")
+        });
     }
     if is_number(tokens, before) && is_name(tokens, number) {
-        return Some(telling("`of` is missing", "write hold @1 of @2 do .. od").with_words(
-            text_at(tokens, before),
-            text_at(tokens, number),
-            b"",
-        ));
+        return Some(
+            telling("`of` is missing", "write hold @1 of @2 do .. od")
+                .with_words(text_at(tokens, before), text_at(tokens, number), b"")
+                .inserting("of"),
+        );
     }
     if is_number(tokens, before)
         && !is_at(tokens, number, Mark::Of)
@@ -160,14 +199,46 @@ fn hold_mistake<'t>(tokens: &[Token<'t>], number: usize) -> Option<Told<'t>> {
     if !is_at(tokens, before, Mark::Hold) && !is_at(tokens, before, Mark::Comma) {
         return None;
     }
+    Some(no_amount(tokens, number))
+}
+
+/// Returns the mistake of a part of a hold that begins at a token and has no amount.
+fn no_amount<'t>(tokens: &[Token<'t>], number: usize) -> Told<'t> {
+    let behind = number.saturating_add(1);
     let hint = if is_at(tokens, number, Mark::Minus) {
         "an amount is 1 to 1000000, with no sign: od gives back what a hold has taken"
-    } else if is_name(tokens, number) && !is_at(tokens, number.saturating_add(1), Mark::Of) {
+    } else if is_name(tokens, number) && !is_at(tokens, behind, Mark::Of) {
         "say how much of it is held: hold 1 of @1 do .. od"
     } else {
         AMOUNT_HINT
     };
-    Some(telling("a hold begins with an amount, a number", hint).naming(text_at(tokens, number)))
+    let resource = if is_name(tokens, behind) {
+        behind
+    } else {
+        number
+    };
+    telling("a hold begins with an amount, a number", hint).naming(text_at(tokens, resource))
+}
+
+/// Returns the mistake of a hold whose amount and resource are in parentheses, with the first token behind `(`.
+fn hold_in_parentheses<'t>(tokens: &[Token<'t>], first: usize) -> Told<'t> {
+    let second = first.saturating_add(1);
+    let of = if is_at(tokens, second, Mark::Close) {
+        second.saturating_add(1)
+    } else {
+        second
+    };
+    let name = of.saturating_add(1);
+    let (amount, resource): (&'t [u8], &'t [u8]) = if is_name(tokens, first) {
+        (b"1", text_at(tokens, first))
+    } else if is_number(tokens, first) && is_at(tokens, of, Mark::Of) && is_name(tokens, name) {
+        (text_at(tokens, first), text_at(tokens, name))
+    } else {
+        (b"1", b"tape")
+    };
+    telling("a hold has no parentheses", "write hold @1 of @2 do .. od").with_words(
+        amount, resource, b"",
+    )
 }
 
 const AMOUNT_HINT: &str =

@@ -185,7 +185,16 @@ pub fn is_joined(tokens: &[Token], number: usize) -> bool {
 /// Returns whether the name that the token with this number is stands somewhere in a declaration of an integer, a
 /// resource or a process.
 pub fn is_declared(tokens: &[Token], number: usize) -> bool {
-    let name = text_at(tokens, number);
+    is_declared_but_at(tokens, text_at(tokens, number), number)
+}
+
+/// Returns whether a name stands somewhere in a declaration of an integer, a resource or a process.
+pub fn declares(tokens: &[Token], name: &[u8]) -> bool {
+    is_declared_but_at(tokens, name, tokens.len())
+}
+
+/// Returns whether a name is declared by another token than the one with this number.
+fn is_declared_but_at(tokens: &[Token], name: &[u8], number: usize) -> bool {
     let mut is_in = false;
     for i in 0..tokens.len() {
         let before = i.saturating_sub(1);
@@ -198,6 +207,26 @@ pub fn is_declared(tokens: &[Token], number: usize) -> bool {
             || is_at(tokens, before, Mark::Process)
             || is_at(tokens, before, Mark::Resource);
         if is_declaration && i != number && text_at(tokens, i) == name {
+            return true;
+        }
+    }
+    false
+}
+
+/// Returns whether a process has this name.
+pub fn is_process(tokens: &[Token], name: &[u8]) -> bool {
+    is_named(tokens, Mark::Process, name)
+}
+
+/// Returns whether a resource has this name.
+pub fn is_resource(tokens: &[Token], name: &[u8]) -> bool {
+    is_named(tokens, Mark::Resource, name)
+}
+
+/// Returns whether a name is just behind a reserved word somewhere.
+fn is_named(tokens: &[Token], word: Mark, name: &[u8]) -> bool {
+    for i in 0..tokens.len() {
+        if is_at(tokens, i, word) && text_at(tokens, i.saturating_add(1)) == name {
             return true;
         }
     }

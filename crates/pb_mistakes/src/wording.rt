@@ -3,6 +3,7 @@
 ghost use Rattle.std.specs.Prelude.{◌≡◌, ◌∷◌, ◌++◌, [], MatchResult, codes, false, string_bytes};
 ghost use Rattle.pb_mistakes.specs.Wordings.{AddsNote, AddsSpot, IsWording};
 
+use crate::repair::Repair;
 use pb_lexer::Token;
 use pb_message_excerpts::printable_byte;
 use std::alloc::{AllocError, Global};
@@ -137,6 +138,8 @@ pub struct Told<'t> {
     pub label: &'static str,
     /// The offset of that place, if there is one.
     pub place: Option<usize>,
+    /// The edit that is said.
+    pub repair: Repair<'t>,
 }
 
 /// Returns a mistake in these words.
@@ -149,6 +152,7 @@ pub fn telling<'t>(summary: &'static str, hint: &'static str) -> Told<'t> {
         line: 0,
         label: "",
         place: None,
+        repair: Repair::Unsaid,
     }
 }
 
@@ -199,6 +203,53 @@ impl<'t> Told<'t> {
         Told {
             label,
             place,
+            ..self
+        }
+    }
+
+    /// Returns the same with the place of a word or symbol of the input.
+    pub fn placed_at(self, label: &'static str, at: usize) -> Told<'t> {
+        Told {
+            label,
+            place: Some(at),
+            ..self
+        }
+    }
+
+    /// Returns the same with the edit that writes a word or symbol before the token that cannot be where it is.
+    pub fn inserting(self, word: &'static str) -> Told<'t> {
+        Told {
+            repair: Repair::Insert(word),
+            ..self
+        }
+    }
+
+    /// Returns the same with the edit that leaves the token with a number out.
+    pub fn removing(self, number: usize) -> Told<'t> {
+        Told {
+            repair: Repair::Remove(number),
+            ..self
+        }
+    }
+
+    /// Returns the same with the edit that writes a word in the place of the token with a number.
+    pub fn replacing(self, number: usize, word: &'t [u8]) -> Told<'t> {
+        self.replacing_by_two(number, word, b"")
+    }
+
+    /// Returns the same with the edit that writes a word in the place of the token with a number, and the other one behind
+    /// that and a blank, if it is not empty.
+    pub fn replacing_by_two(self, number: usize, word: &'t [u8], rest: &'t [u8]) -> Told<'t> {
+        Told {
+            repair: Repair::Replace { number, word, rest },
+            ..self
+        }
+    }
+
+    /// Returns the same with the edit that declares the name that is not declared.
+    pub fn declaring(self) -> Told<'t> {
+        Told {
+            repair: Repair::Declare,
             ..self
         }
     }

@@ -1,0 +1,1 @@
+process p begin print 1. print 2 end

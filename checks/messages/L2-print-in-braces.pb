@@ -1,0 +1,1 @@
+process p begin integer x; if x then { print 1 } fi end

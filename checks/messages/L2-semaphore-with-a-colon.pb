@@ -1,0 +1,2 @@
+s: semaphore := 1;
+process p begin print 1 end

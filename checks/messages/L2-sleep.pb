@@ -1,0 +1,1 @@
+process p begin Thread.sleep(1) end

@@ -1,0 +1,1 @@
+process p begin print 1_000 end

@@ -1,0 +1,5 @@
+process p
+begin
+  boolean done = false;
+  print 1
+end

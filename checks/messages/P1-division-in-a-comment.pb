@@ -1,0 +1,6 @@
+process p
+begin
+  integer x;
+  x := 6 // 2;
+  print x
+end

@@ -1,0 +1,5 @@
+process p
+begin
+  integer x;
+  if x = 1 then print 1 end if
+end

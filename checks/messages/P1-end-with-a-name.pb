@@ -1,0 +1,4 @@
+process p
+begin
+  print 1
+end p

@@ -1,0 +1,5 @@
+process p
+begin
+  print 1;
+  fi
+end

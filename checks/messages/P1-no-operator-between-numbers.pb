@@ -1,0 +1,5 @@
+process p
+begin
+  integer x;
+  x := 2 3
+end

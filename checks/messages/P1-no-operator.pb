@@ -1,0 +1,5 @@
+process p
+begin
+  integer x;
+  print x where x = 1
+end

@@ -1,0 +1,6 @@
+process p
+begin
+  print 1
+  od;
+  print 2
+end

@@ -1,0 +1,4 @@
+process p is
+begin
+  print 1
+end

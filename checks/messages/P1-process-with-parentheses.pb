@@ -1,0 +1,4 @@
+process guest()
+begin
+  print 1
+end

@@ -1,0 +1,1 @@
+process p begin print 7 rem 2 end

@@ -1,0 +1,5 @@
+process p
+begin
+  integer x;
+  while x < 3 loop x := x + 1 end loop
+end
