@@ -1,3 +1,4 @@
+pub mod ChangedLemmas
 pub mod LineLemmas
 pub mod OrderLemmas
 pub mod PartLemmas
