@@ -1,13 +1,14 @@
 -- A program with other capitals is the program of a tree that has these, with the same claims.
-use Rattle.std.proofs.Common.{◌≡◌, ◌∙◌, ℕ, ◌<◌, ◌≤◌, pos, List, [], ◌∷◌, Option, Some, None, length, map, option_map, refl, ap, subst, sym, arith}
-use Rattle.std.specs.Prelude.{unwrap_or}
+use Rattle.std.proofs.Common.{◌≡◌, ◌∙◌, ℕ, ◌≤◌, pos, List, [], ◌∷◌, Option, Some, None, map, option_map, refl, ap, subst, sym, arith}
+use Rattle.std.specs.Prelude.{find, unwrap_or}
+use Rattle.std.specs.Str.{bytes_eq}
 use Rattle.std.specs.List.{AllZip}
 use Rattle.std.proofs.lemmas.List.{length-map}
 use Rattle.pb_base.specs.Steppers.{Table}
 use Rattle.pb_capitals.specs.Changes.{capital_under}
 use Rattle.pb_capitals.specs.declared.change.Change.{Change}
 use Rattle.pb_names.specs.Program.{Name, Program, Resource}
-use Rattle.pb_names.specs.Resolves.{AreDistinct, ResolvesProcess, ResolvesResource, resource_names}
+use Rattle.pb_names.specs.Resolves.{AreDistinct, ResolvesProcess, ResolvesResource}
 use Rattle.pb_plan_engine.specs.Changed.{changed_resource, with_changes}
 use Rattle.pb_plan_engine.specs.PlanLines.{IsOfTree}
 use Rattle.pb_tree.specs.Syntax.{ResourceSyntax}
@@ -19,7 +20,7 @@ small_under None own small = small
 small_under (Some change) own small = change.small
 
 -- the resources of a tree, written with the capitals of changes
-rewritten : List Change → List ResourceSyntax → List Resource → List ResourceSyntax
+abbrev rewritten : List Change → List ResourceSyntax → List Resource → List ResourceSyntax
 rewritten changes [] resources = []
 rewritten changes (w ∷ written) [] = []
 rewritten changes (w ∷ written) (r ∷ resources) =
@@ -31,7 +32,7 @@ are_rewritten changes [] [] is = tt
 are_rewritten changes [] (r ∷ resources) is = absurd is
 are_rewritten changes (w ∷ written) [] is = absurd is
 are_rewritten changes (w ∷ written) (r ∷ resources) is = (
-  record { name = is.0.name; capital = refl; small = small_under _ r.capital is.0.small },
+  record { name = is.0.name; capital = refl; small = small_under (find (λ (change : Change). bytes_eq change.resource.bytes r.name) changes) r.capital is.0.small },
   are_rewritten changes written resources is.1,
 )
 

@@ -1,5 +1,5 @@
 -- Programs with capitals that stand in place of those of their texts.
-use Rattle.std.specs.Prelude.{ℕ, Bool, List, Option, find, map, not}
+use Rattle.std.specs.Prelude.{Bool, List, Option, find, map, not}
 use Rattle.std.specs.List.{list_any}
 use Rattle.std.specs.Str.{bytes_eq}
 use Rattle.pb_capitals.specs.Changes.{capital_under}

@@ -1,4 +1,4 @@
-use Rattle.std.proofs.Common.{Vec, Global, ◌≡◌, ◌∙◌, ℕ, List, ap, length, map, subst, sym, arith}
+use Rattle.std.proofs.Common.{Vec, Global, ◌≡◌, ℕ, List, ap, length, map, subst, sym, arith}
 use Rattle.std.specs.Borrow.{Bor}
 use Rattle.std.specs.Prelude.{nat_lt}
 use Rattle.std.proofs.lemmas.List.{length-map}
