@@ -15,6 +15,8 @@ use Rattle.pb_command_line.specs.CommandLine.{migrate_command, outcomes_command,
 use Rattle.pb_command_line.specs.CommandLine.{bank_command, dap_command, lsp_command, states_command, with_bank_commands, with_run_rules}
 use Rattle.clap.specs.declared.parser.matches.Found.{Found}
 use Rattle.clap.proofs.WalkLemmas.{one_text-rows, raw_values-rows}
+use Rattle.pb_capitals.specs.Changes.{AreChanges, changes_in}
+use Rattle.pb_capitals.specs.declared.change.Change.{Change}
 use Rattle.pb_capitals.specs.declared.changes.Changes.{Changes}
 use Rattle.pb_words.specs.Read.{BlamesWords, HasChanges, HasCheckNumbers, HasCode, HasEmitNumber, HasFlag, HasNumber, HasNumberIn}
 use Rattle.pb_words.specs.Read.{HasDebugOptions, HasDrawOptions, HasLend, HasOptionalNumber, HasOptionalNumberIn, HasPlanLend, HasReplayLend}
@@ -668,3 +670,13 @@ pub words_found : (f : Found) (words : Option (Bor (List (Bor Text))))
     → option_map (λ s. map (λ v. v.now) s.now) words ≡ option_map raw_values (matched_of f (codes "capital"))
     → capital_words (rows_of f) ≡ unwrap_or (option_map (λ s. map (λ v. v.now) s.now) words) []
 words_found f words is = ap (λ (o : Option (List Text)). unwrap_or o []) (sym (raw_values-rows f (codes "capital")) ∙ sym is)
+
+-- no words name no changes
+pub no_changes : AreChanges [] []
+no_changes = record { each = tt; few = omega arith; distinct = λ i j d before there. absurd (omega (arith, there)) }
+
+-- if no changes are named, none are had
+pub none_changed : (read : Option Changes) (words : List Text) → IfNone read ((changes : List Change) → AreChanges words changes → ⊥)
+    → IfNone read ((changes : Changes) → AreChanges words (changes_in changes) → ⊥)
+none_changed None words none = λ changes are. none (changes_in changes) are
+none_changed (Some c) words none = tt

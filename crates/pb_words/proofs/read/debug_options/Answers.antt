@@ -1,4 +1,3 @@
-use Rattle.std.proofs.Common.{rules}
 use Rattle.pb_words.proofs.ReadLemmas.{IfNone-of}
 use Rattle.pb_words.proofs.read.debug_options.Goals as goal
 
