@@ -41,7 +41,13 @@ fn is_planned(alloc: Global, changes: &[&str], wanted: &[u8], status: Status) ->
 fn capitals_are_read(rt: HostRuntime) {
     let alloc = rt.alloc();
     assert!(rt; are_read(alloc, &["parbegin", "plan"], &[]));
-    assert!(rt; are_read(alloc, &["parbegin", "plan", "--capital=tape=2"], &["tape=2"]));
+    assert!(rt;
+        are_read(
+            alloc,
+            &["parbegin", "plan", "--capital=tape=2"],
+            &["tape=2"]
+        )
+    );
     let two = [
         "parbegin",
         "plan",
@@ -66,22 +72,29 @@ fn other_capitals_are_refused(rt: HostRuntime) {
         "--capital=tape=two",
         "--capital=tape=1000001",
     ] {
-        assert!(rt; options(rt.alloc(), &["parbegin", "plan", word]).is_err(), "{word}");
+        assert!(rt;
+            options(rt.alloc(), &["parbegin", "plan", word]).is_err(),
+            "{word}"
+        );
     }
-    let twice = [
-        "parbegin",
-        "plan",
-        "--capital=tape=2",
-        "--capital=tape=2",
-    ];
+    let twice = ["parbegin", "plan", "--capital=tape=2", "--capital=tape=2"];
     assert!(rt; options(rt.alloc(), &twice).is_err());
 }
 
 #[test]
 fn plans_with_other_capitals(rt: HostRuntime) {
-    let little = b"p claim 2 tape lines 5\np claim 0 disk\ntape capital 1 least 2 free 2\ndisk capital 1 least 0 free 0\nbottleneck tape\norder tape disk\n";
+    let little =
+        b"p claim 2 tape lines 5\np claim 0 disk\ntape capital 1 least 2 free 2\ndisk capital 1 least 0 free 0\nbottleneck tape\norder tape disk\n";
     assert!(rt; is_planned(rt.alloc(), &[], little, Status::Refused));
-    let enough = b"p claim 2 tape lines 5\np claim 0 disk\ntape capital 2 least 2 free 2\ndisk capital 0 least 0 free 0\nno request waits\norder tape disk\n";
+    let enough =
+        b"p claim 2 tape lines 5\np claim 0 disk\ntape capital 2 least 2 free 2\ndisk capital 0 least 0 free 0\nno request waits\norder tape disk\n";
     assert!(rt; is_planned(rt.alloc(), &["disk=0", "tape=2"], enough, Status::Done));
-    assert!(rt; is_planned(rt.alloc(), &["tape=2", "reel=1"], b"refused N3 reel\n", Status::Refused));
+    assert!(rt;
+        is_planned(
+            rt.alloc(),
+            &["tape=2", "reel=1"],
+            b"refused N3 reel\n",
+            Status::Refused
+        )
+    );
 }

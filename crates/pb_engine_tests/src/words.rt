@@ -84,7 +84,10 @@ fn commands_have_their_defaults(rt: HostRuntime) {
                 lend: Lend::Banker,
             }),
         ),
-        ("plan", Options::Plan(PlanOptions { lend: Lend::Banker }, Changes::none())),
+        (
+            "plan",
+            Options::Plan(PlanOptions { lend: Lend::Banker }, Changes::none()),
+        ),
         (
             "replay",
             Options::Replay(ReplayOptions { lend: Lend::Banker }),

@@ -15,8 +15,8 @@ use pb_capitals::Change;
 use pb_codegen::{CompileFault, analyze};
 use pb_joint::{TextFault, read_texts};
 use pb_message_wording::text_wording;
-use pb_messages::worded::worded;
 use pb_messages::long_message;
+use pb_messages::worded::worded;
 use pb_mistakes::Wording;
 use pb_names::{Kind, NameFault};
 use pb_plan_engine::texts_of;
@@ -39,11 +39,7 @@ pub fn together_message(
 }
 
 /// Returns the message of the texts of an input that is not too long.
-fn parts_message(
-    alloc: Global,
-    changes: &[Change],
-    bytes: &[u8],
-) -> Result<Vec<u8>, NoMemory>
+fn parts_message(alloc: Global, changes: &[Change], bytes: &[u8]) -> Result<Vec<u8>, NoMemory>
     requires { length bytes.now ≤ most }
     ensures { IfOk result (λ message. SaysOfTogether changes.now bytes.now message.items) }
 {

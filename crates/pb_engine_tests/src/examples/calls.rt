@@ -2,8 +2,8 @@
 
 use pb_bank_engine::bank_engine;
 use pb_base::{Lending, MemoryInput, MemoryOutput};
-use pb_code::Format;
 use pb_capitals::Changes;
+use pb_code::Format;
 use pb_command_io::Status;
 use pb_engines::{
     CheckOptions, EmitOptions, Lend, RecordOptions, ReplayOptions, RunOptions, emit_engine,
