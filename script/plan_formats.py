@@ -13,11 +13,11 @@ from script import files
 from script.findings import HEAD, PLACE, Finding, Place, Text, Unread, finding, texts_of
 from script.helping import are_refused
 from script.options import Given, WrongWords, read_options, tell_wrong
-from script.places import DEADLOCK, DEVICE, WORDS
+from script.places import DEADLOCK, DEVICE, WORDS, write_message
 from script.reports import gcc_lines, json_line, message_object, sarif_document
 from script.standard import write
 
-USE = "parbegin plan --format FORMAT [--lend WHO] [FILE ..]"
+USE = "parbegin plan --format FORMAT [--lend WHO] [--capital R=K ..] [FILE ..]"
 FORMATS = ("text", "gcc", "json", "sarif")
 STANDARD_INPUT = "<stdin>"
 # Members of an object that are a line of its text, or several.
@@ -81,13 +81,24 @@ def text_number(message: str) -> int | None:
     return int(found[0]["text"]) if found and found[0]["text"] else None
 
 
+def messages_of(planned: Planned) -> list[str]:
+    """Returns each message of the program."""
+    return [it for it in re.split(r"^(?=error )", planned.messages, flags=re.M) if it]
+
+
+def of_options(planned: Planned) -> list[str]:
+    """Returns the messages about `--capital`, which are of no file."""
+    return [it for it in messages_of(planned) if "--capital" in it.partition("\n")[0]]
+
+
 def refusals(planned: Planned) -> Iterator[Finding]:
-    """Yields what the messages say: of a text that is refused, or of each whose capital is too little for a claim."""
+    """Yields what the messages say of texts: of one that is refused, or of each whose capital is too little for a claim."""
     line = next((it for it in planned.objects if it["kind"] == "refused"), {})
     at = f" at {line['at']}" if "at" in line else ""
-    for message in re.split(r"^(?=error )", planned.messages, flags=re.M):
+    others = of_options(planned)
+    for message in messages_of(planned):
         head = HEAD.match(message)
-        if head:
+        if head and message not in others:
             text = planned.text(line.get("of_text") or text_number(message))
             yield finding(text, f"refused {head[1]}{at}", message)
 
@@ -150,7 +161,7 @@ def report(given: Given, start: list[str], said: list[Finding | Unread], objects
 
 def read_words(start: list[str], words: list[str]) -> Given:
     """Reads the words of a call."""
-    given = read_options(words, ("--lend", "--format"))
+    given = read_options(words, ("--lend", "--format"), (), ("--capital",))
     if given.options["--format"] not in FORMATS:
         raise WrongWords(f"--format wants one of {', '.join(FORMATS)}")
     if "--json" in start:
@@ -164,7 +175,7 @@ def plan_in_format(start: list[str], words: list[str]) -> int:
         given = read_words(start, words)
     except WrongWords as wrong:
         return tell_wrong(wrong, USE)
-    call = ["plan", *(["--lend", given.options["--lend"]] if "--lend" in given.options else [])]
+    call = ["plan", *given.for_program("--lend", "--capital")]
     if are_refused(start[:1], call):
         return WORDS
     if not given.others:
@@ -179,5 +190,7 @@ def plan_in_format(start: list[str], words: list[str]) -> int:
     if given.options["--format"] == "text":
         return plan_as_text(start, call, inputs)
     planned = plan([*start[:1], "--json", *call], inputs)
+    if "--capital" in given.several and "--quiet" not in start:
+        write_message("".join(of_options(planned)))
     found = [*refusals(planned), *circle(planned)]
     return write(report(given, start, found, json_objects(planned))) or planned.status

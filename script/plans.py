@@ -16,7 +16,7 @@ from script.places import DEADLOCK, DEVICE, REFUSED, WORDS, say, shown
 from script.side_by_side import workers
 from script.standard import write
 
-USE = "parbegin plan --table [--csv] [--lend WHO] [--jobs N] FILE .."
+USE = "parbegin plan --table [--csv] [--lend WHO] [--capital R=K ..] [--jobs N] FILE .."
 NEED = re.compile(r"(\w+) capital (\d+) least (\d+) free (\d+)")
 BOTTLENECK = re.compile(r"bottleneck ([A-Za-z]\w*)")
 ORDER = re.compile(r"order((?: [A-Za-z]\w*)*)")
@@ -118,7 +118,7 @@ def sums(plans: list[Plan], count: int) -> str:
 
 def read_words(start: list[str], words: list[str]) -> Given:
     """Reads the words of a call."""
-    given = read_options(words, ("--lend", "--jobs"), ("--table", "--csv"))
+    given = read_options(words, ("--lend", "--jobs"), ("--table", "--csv"), ("--capital",))
     if "--json" in start:
         raise WrongWords("plan --table has no '--json': --csv is for programs")
     if not given.others:
@@ -133,7 +133,7 @@ def plan_table(start: list[str], words: list[str]) -> int:
         jobs = given.number("--jobs", len(os.sched_getaffinity(0)))
     except WrongWords as wrong:
         return tell_wrong(wrong, USE)
-    call = ["plan", *(["--lend", given.options["--lend"]] if "--lend" in given.options else [])]
+    call = ["plan", *given.for_program("--lend", "--capital")]
     if are_refused(start[:1], call):
         return WORDS
     planner = Planner([*start[:1], "--quiet", *call])

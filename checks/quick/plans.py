@@ -4,8 +4,8 @@
     checks/quick/plans.py [PROGRAM]     PROGRAM is the one that ./parbegin has built if none is given
 
 The table of plans, its CSV, which text of which file a number is when files are planned together, the places of a
-circle and of a refusal in each format, and that another capital changes nothing but what docs/formats/plans.md,
-"Plans", says. What is written as JSON and as SARIF must fit docs/schema/, if Python has the module jsonschema. Its
+circle and of a refusal in each format, and that another capital, in the text or by `--capital`, changes nothing but what
+docs/formats/plans.md, "Plans", says. What is written as JSON and as SARIF must fit docs/schema/, if Python has the module jsonschema. Its
 status is 0 if all is as wanted, and 1 if not.
 """
 from __future__ import annotations
@@ -121,12 +121,29 @@ def try_capitals(tally: Tally) -> None:
     least, free, said = 3, 5, set()
     for capital in range(1, 8):
         status, told = call(["plan"], text.replace(b"tape = 4", b"tape = %d" % capital))
+        tally.expect(call(["plan", f"--capital=tape={capital}"], text) == (status, told), "--capital with", capital, "tapes says another thing")
         lines = told.decode().splitlines()
         tally.expect(status == (REFUSED if capital < least else DONE), "the status with", capital, "tapes is", status)
         wanted = {f"tape capital {capital} least {least} free {free}", "bottleneck tape" if capital < free else "no request waits"}
         tally.expect(wanted <= set(lines), "a plan with", capital, "tapes", lines)
         said.add(tuple(line for line in lines if line not in wanted))
     tally.expect(len(said) == 1, "another capital changes other lines", said)
+
+
+def try_capital_of_files(tally: Tally, it: Folder) -> None:
+    """Tries the option in the table and in the formats, and that its refusals are of no file."""
+    status, told, said = it.run("plan", "--table", "--capital=tape=1", "--capital", "disk=0", "devices.pb", "week.pb", "hello.pb")
+    rows = [row for row in told.splitlines() if row.startswith(("devices.pb", "week.pb"))]
+    is_told = len(rows) == 2 and all("tape 1 (" in row and "disk 0 (" in row for row in rows)
+    tally.expect(status == REFUSED and is_told and "refused N3 tape" in told, "a table with other capitals", told, said)
+    for words, part in ((["--capital=tape=1"], "error C1: with the capitals of --capital "), (["--capital=reel=1"], "error N3: --capital names a resource ")):
+        for form in ("gcc", "sarif", "json"):
+            status, told, said = it.run("plan", "--format", form, *words, "two.pb", "week.pb")
+            is_of_none = status == REFUSED and said.startswith(part) and "error" not in told
+            tally.expect(is_of_none, words, "is told of a file by", form, told, said)
+        status, told, said = it.run("plan", *words, "week.pb")
+        tally.expect(status == REFUSED and said.startswith(part), words, "is told so", said)
+    tally.expect(it.run("plan", "--capital=tape=5", "--format=gcc", "week.pb") == (DONE, "", ""), "a plan with enough tapes")
 
 
 def nests(it: Folder) -> list[tuple[str, str, str, int, str, int]]:
@@ -196,6 +213,7 @@ def try_words(tally: Tally, it: Folder) -> None:
         (["plan", "--table", "--lend", "till", "hello.pb"], "banker or cash"), (["plan", "--format", "xml", "hello.pb"], "--format wants"),
         (["plan", "--format", "gcc", "--lend", "till", "hello.pb"], "banker or cash"), (["plan", "--table", "--format", "gcc", "hello.pb"], "'--format'"),
         (["--json", "plan", "--format", "json", "hello.pb"], "--json"), (["plan", "--table=x", "hello.pb"], "unexpected argument"),
+        (["plan", "--table", "--capital=tape", "hello.pb"], "'--capital'"), (["plan", "--format=gcc", "--capital", "tape=1", "--capital=tape=1", "hello.pb"], "'--capital'"),
     ]:
         status, told, said = it.run(*words)
         tally.expect(status == WORDS and not told and part in said, words, status, told, said)
@@ -206,7 +224,7 @@ def main() -> None:
     tally = Tally()
     with tempfile.TemporaryDirectory(prefix="parbegin-plans-") as name:
         it = Folder(pathlib.Path(name))
-        for attempt in (try_table, try_csv, try_numbers, try_gcc, try_json, try_sarif, try_words):
+        for attempt in (try_table, try_csv, try_numbers, try_capital_of_files, try_gcc, try_json, try_sarif, try_words):
             attempt(tally, it)
     try_capitals(tally)
     tell_if_missing()

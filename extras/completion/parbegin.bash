@@ -38,7 +38,7 @@ _parbegin() {
         mapfile -t COMPREPLY < <(compgen -f -- "$word")
         return
         ;;
-    --jobs | --heap | --workers | --quantum | --steps | --seed | --states | --rows | --runs | --from | --width | --scale)
+    --capital | --jobs | --heap | --workers | --quantum | --steps | --seed | --states | --rows | --runs | --from | --width | --scale)
         return
         ;;
     esac
@@ -61,7 +61,7 @@ _parbegin() {
     migrate) options="" ;;
     outcomes) options="--states --lend --first-deadlock --prints --fair --expect --any-order --endless --graph --run --deadlock" ;;
     page) options="--seed --lend --from --rows --states" ;;
-    plan) options="--lend --format --table --csv --jobs" ;;
+    plan) options="--lend --capital --format --table --csv --jobs" ;;
     record) options="--workers --quantum --steps --seed --lend" ;;
     replay) options="--lend" ;;
     run) options="--workers --quantum --steps --seed --lend" ;;

@@ -58,6 +58,7 @@ complete -c parbegin -n "__fish_seen_subcommand_from draw" -l scale -x -d "Size 
 complete -c parbegin -n "__fish_seen_subcommand_from page states" -l rows -x -d "Most rows, 1 to 1000000"
 complete -c parbegin -n "__fish_seen_subcommand_from page states" -l from -x -d "Begin at this position"
 complete -c parbegin -n "__fish_seen_subcommand_from page record run sample" -l seed -x -d "Draw the run by this seed"
+complete -c parbegin -n "__fish_seen_subcommand_from plan" -l capital -x -d "Plan as if there were so much, as tape=2"
 complete -c parbegin -n "__fish_seen_subcommand_from plan" -l format -x -a "text gcc json sarif" -d "How circles are told"
 complete -c parbegin -n "__fish_seen_subcommand_from plan" -l table -d "A row for each of several plans"
 complete -c parbegin -n "__fish_seen_subcommand_from grade plan" -l csv -d "Write lines of CSV"

@@ -43,7 +43,7 @@ module _ (rest left old new : Option (List ℕ)) (status : Status) where
   bank_tells option.Lsp is says = absurd cc
   bank_tells option.Migrate is says = absurd cc
   bank_tells (option.Outcomes x) is says = absurd cc
-  bank_tells (option.Plan x) is says = absurd cc
+  bank_tells (option.Plan x changes) is says = absurd cc
   bank_tells (option.Record x) is says = absurd cc
   bank_tells (option.Replay x) is says = absurd cc
   bank_tells (option.Run x) is says = absurd cc
@@ -62,7 +62,7 @@ module _ (rest left old new : Option (List ℕ)) (status : Status) where
   bank_leaves option.Lsp is leaves = absurd cc
   bank_leaves option.Migrate is leaves = absurd cc
   bank_leaves (option.Outcomes x) is leaves = absurd cc
-  bank_leaves (option.Plan x) is leaves = absurd cc
+  bank_leaves (option.Plan x changes) is leaves = absurd cc
   bank_leaves (option.Record x) is leaves = absurd cc
   bank_leaves (option.Replay x) is leaves = absurd cc
   bank_leaves (option.Run x) is leaves = absurd cc
@@ -83,7 +83,7 @@ module _ (rest left old new : Option (List ℕ)) (status : Status) where
   debug_tells option.Lsp is says = absurd cc
   debug_tells option.Migrate is says = absurd cc
   debug_tells (option.Outcomes x) is says = absurd cc
-  debug_tells (option.Plan x) is says = absurd cc
+  debug_tells (option.Plan x changes) is says = absurd cc
   debug_tells (option.Record x) is says = absurd cc
   debug_tells (option.Replay x) is says = absurd cc
   debug_tells (option.Run x) is says = absurd cc
@@ -102,7 +102,7 @@ module _ (rest left old new : Option (List ℕ)) (status : Status) where
   debug_leaves option.Lsp is leaves = absurd cc
   debug_leaves option.Migrate is leaves = absurd cc
   debug_leaves (option.Outcomes x) is leaves = absurd cc
-  debug_leaves (option.Plan x) is leaves = absurd cc
+  debug_leaves (option.Plan x changes) is leaves = absurd cc
   debug_leaves (option.Record x) is leaves = absurd cc
   debug_leaves (option.Replay x) is leaves = absurd cc
   debug_leaves (option.Run x) is leaves = absurd cc
@@ -123,7 +123,7 @@ module _ (rest left old new : Option (List ℕ)) (status : Status) where
   edit_tells option.Lsp is says = says
   edit_tells option.Migrate is says = absurd cc
   edit_tells (option.Outcomes x) is says = absurd cc
-  edit_tells (option.Plan x) is says = absurd cc
+  edit_tells (option.Plan x changes) is says = absurd cc
   edit_tells (option.Record x) is says = absurd cc
   edit_tells (option.Replay x) is says = absurd cc
   edit_tells (option.Run x) is says = absurd cc
@@ -142,7 +142,7 @@ module _ (rest left old new : Option (List ℕ)) (status : Status) where
   edit_leaves option.Lsp is leaves = leaves
   edit_leaves option.Migrate is leaves = absurd cc
   edit_leaves (option.Outcomes x) is leaves = absurd cc
-  edit_leaves (option.Plan x) is leaves = absurd cc
+  edit_leaves (option.Plan x changes) is leaves = absurd cc
   edit_leaves (option.Record x) is leaves = absurd cc
   edit_leaves (option.Replay x) is leaves = absurd cc
   edit_leaves (option.Run x) is leaves = absurd cc
@@ -163,7 +163,7 @@ module _ (rest left old new : Option (List ℕ)) (status : Status) where
   run_tells option.Lsp is says = absurd cc
   run_tells option.Migrate is says = says
   run_tells (option.Outcomes x) is says = absurd cc
-  run_tells (option.Plan x) is says = absurd cc
+  run_tells (option.Plan x changes) is says = absurd cc
   run_tells (option.Record x) is says = says
   run_tells (option.Replay x) is says = says
   run_tells (option.Run x) is says = says
@@ -182,7 +182,7 @@ module _ (rest left old new : Option (List ℕ)) (status : Status) where
   run_leaves option.Lsp is leaves = absurd cc
   run_leaves option.Migrate is leaves = leaves
   run_leaves (option.Outcomes x) is leaves = absurd cc
-  run_leaves (option.Plan x) is leaves = absurd cc
+  run_leaves (option.Plan x changes) is leaves = absurd cc
   run_leaves (option.Record x) is leaves = leaves
   run_leaves (option.Replay x) is leaves = leaves
   run_leaves (option.Run x) is leaves = leaves
@@ -203,7 +203,7 @@ module _ (rest left old new : Option (List ℕ)) (status : Status) where
   search_tells option.Lsp is says = absurd cc
   search_tells option.Migrate is says = absurd cc
   search_tells (option.Outcomes x) is says = says
-  search_tells (option.Plan x) is says = says
+  search_tells (option.Plan x changes) is says = says
   search_tells (option.Record x) is says = absurd cc
   search_tells (option.Replay x) is says = absurd cc
   search_tells (option.Run x) is says = absurd cc
@@ -222,7 +222,7 @@ module _ (rest left old new : Option (List ℕ)) (status : Status) where
   search_leaves option.Lsp is leaves = absurd cc
   search_leaves option.Migrate is leaves = absurd cc
   search_leaves (option.Outcomes x) is leaves = leaves
-  search_leaves (option.Plan x) is leaves = leaves
+  search_leaves (option.Plan x changes) is leaves = leaves
   search_leaves (option.Record x) is leaves = absurd cc
   search_leaves (option.Replay x) is leaves = absurd cc
   search_leaves (option.Run x) is leaves = absurd cc

@@ -12,6 +12,7 @@ use Rattle.pb_adapter_engine.specs.Adapters.{SaysOfAdapter}
 use Rattle.pb_bank_engine.specs.Sessions.{SaysOfBank}
 use Rattle.pb_bank_tool.specs.Bank as bank
 use Rattle.pb_call.specs.Calls.{RefusesWords, bytes_for}
+use Rattle.pb_capitals.specs.Changes.{changes_in}
 use Rattle.pb_command_io.specs.Answers.{Says, Tells, memory_line}
 use Rattle.pb_command_io.specs.Faults.{Devices, TellsAnyFault, TellsFaults}
 use Rattle.pb_command_io.specs.Inputs.{SaysOfInput}
@@ -50,7 +51,7 @@ CommandSays (option.Explain code) = λ bytes. SaysOfExplain code
 CommandSays option.Lsp = SaysOfServer
 CommandSays option.Migrate = SaysOfInput (Written line_of SaysOfMigration)
 CommandSays (option.Outcomes numbers) = SaysOfInput (SaysOfSearches numbers)
-CommandSays (option.Plan options) = SaysOfInput (SaysOfPlan (lending_for options.lend))
+CommandSays (option.Plan options changes) = SaysOfInput (SaysOfPlan (lending_for options.lend) (changes_in changes))
 CommandSays (option.Record numbers) = SaysOfInput (SaysOfRecord (lending_for numbers.lend) numbers.run.steps numbers.seed)
 CommandSays (option.Replay options) = SaysOfInput (Written line_of (SaysOfReplay (lending_for options.lend)))
 CommandSays (option.Run numbers) = SaysOfInput (Written line_of (SaysOfTextRun numbers.steps))

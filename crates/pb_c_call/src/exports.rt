@@ -1,7 +1,7 @@
 //! The C functions. What C owes for each of them: pointers to memory of the types that are named, which nothing
 //! else uses during the call.
 
-ghost use Rattle.std.specs.Prelude.{◌≢◌, ◌⊎◌, map};
+ghost use Rattle.std.specs.Prelude.{◌≢◌, ◌⊎◌, [], map};
 ghost use Rattle.pb_accept.specs.Checks.{SaysOfChecks};
 ghost use Rattle.pb_accept.specs.Claims.{SaysOfClaims};
 ghost use Rattle.pb_accept.specs.Sayings.{line_of};
@@ -14,6 +14,7 @@ use crate::reply::{Kept, number_of, put_front};
 use crate::word::{NoWords, Word, texts_of};
 use pb_accept::{write_checks, write_claims};
 use pb_base::{Lending, MemoryInput};
+use pb_capitals::Changes;
 use pb_command_io::Status;
 use pb_options::CheckOptions;
 use pb_plan_engine::plan_engine;
@@ -86,12 +87,13 @@ pub extern "C" fn pb_claims(alloc: Global, text: &[u8], output: &mut [u8], neede
 /// banker, and gives the reply as `pb_call` does.
 #[unsafe(no_mangle)]
 pub extern "C" fn pb_plan(alloc: Global, texts: &[u8], output: &mut [u8], needed: &mut usize) -> u8
-    ensures given { IsGiven (Tellings (SaysOfPlan Lending.ByBanker) texts.now) output.new result needed.new }
+    ensures given { IsGiven (Tellings (SaysOfPlan Lending.ByBanker []) texts.now) output.new result needed.new }
     ensures no_device { result ≢ 6 }
 {
     let mut source = MemoryInput::new(texts);
     let mut reply = Kept::new(alloc);
-    let status = plan_engine(alloc, Lending::ByBanker, &mut source, &mut reply);
+    let none = Changes::none();
+    let status = plan_engine(alloc, Lending::ByBanker, &none, &mut source, &mut reply);
     let bytes = reply.as_slice();
     put_front(output, bytes);
     *needed = bytes.len();

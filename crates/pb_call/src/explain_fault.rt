@@ -54,7 +54,7 @@ fn fault_message(options: &Options) -> &[u8]
         | Options::Lsp
         | Options::Migrate
         | Options::Outcomes(_)
-        | Options::Plan(_)
+        | Options::Plan(_, _)
         | Options::Record(_)
         | Options::States(_) => &[],
     }

@@ -52,7 +52,7 @@ fn limit_message(options: &Options) -> &[u8]
         | Options::Explain(_)
         | Options::Lsp
         | Options::Migrate
-        | Options::Plan(_)
+        | Options::Plan(_, _)
         | Options::Record(_)
         | Options::Replay(_)
         | Options::States(_) => &[],

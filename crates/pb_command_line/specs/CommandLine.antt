@@ -1,7 +1,7 @@
 -- The command line, as clap's rules: the subcommands with their options, ranges and defaults.
 use Rattle.std.specs.Prelude.{◌≡◌, ℕ, false, [], ◌∷◌, Some, codes, true}
 use Rattle.clap.specs.Words.{App, Rule, Text, app_of, new_app, new_rule, with_rule, with_subcommand}
-use Rattle.clap.specs.declared.builder.ArgAction.TheVariants.{SetTrue}
+use Rattle.clap.specs.declared.builder.ArgAction.TheVariants.{Append, SetTrue}
 use Rattle.clap.specs.declared.builder.command.Command.{Command}
 use Rattle.clap.specs.declared.builder.command.Command.TheViews.{out-Command}
 use Rattle.clap.specs.declared.builder.value_parser.ValueParser.TheVariants as vp
@@ -21,6 +21,10 @@ number_rule_or name least most default =
 -- `--NAME WORD`, and the word if the option is not given
 abbrev pub word_rule_or : Text → Text → Rule
 word_rule_or name default = record (new_rule name) { long = Some name; defaults = default ∷ [] }
+
+-- `--NAME WORD`, which may be given several times
+abbrev pub words_rule : Text → Rule
+words_rule name = record (new_rule name) { long = Some name; action = Some Append }
 
 -- `--NAME` alone
 abbrev pub flag_rule : Text → Rule
@@ -96,9 +100,10 @@ outcomes_command =
     (number_rule (codes "run") 1 4000000))
     (number_rule (codes "deadlock") 1 4000000)
 
--- `plan`: who lends
+-- `plan`: who lends, and capitals that stand in place of those of the texts
 unfoldable pub plan_command : App
-plan_command = with_rule (new_app (codes "plan")) (word_rule_or (codes "lend") (codes "banker"))
+plan_command =
+    with_rule (with_rule (new_app (codes "plan")) (word_rule_or (codes "lend") (codes "banker"))) (words_rule (codes "capital"))
 
 -- `record`, with the options of a run, a seed, and who lends
 unfoldable pub record_command : App

@@ -5,7 +5,7 @@ ghost use Rattle.clap.specs.declared.builder.command.Command.TheViews.{out-Comma
 ghost use Rattle.pb_command_line.specs.CommandLine.{IsCommand, check_command, debug_command, draw_command, emit_command};
 ghost use Rattle.pb_command_line.specs.CommandLine.{exec_command, explain_command, flag_rule, number_rule, number_rule_or};
 ghost use Rattle.pb_command_line.specs.CommandLine.{outcomes_command, plan_command, record_command, replay_command, run_command, states_command};
-ghost use Rattle.pb_command_line.specs.CommandLine.{that_wants_command, word_rule_or, command_line as whole, with_bank_commands, with_code_commands, with_command};
+ghost use Rattle.pb_command_line.specs.CommandLine.{that_wants_command, word_rule_or, words_rule, command_line as whole, with_bank_commands, with_code_commands, with_command};
 ghost use Rattle.pb_command_line.specs.CommandLine.{with_object_commands, with_other_commands, with_pick_commands};
 ghost use Rattle.pb_command_line.specs.CommandLine.{with_run_rules, with_text_commands};
 
@@ -26,6 +26,10 @@ const LEND: &str = "Who decides on a request: banker or cash";
 /// The same of `plan`, which makes no run.
 const LEND_OF_PLAN: &str =
     "Who decides on a request when the texts run: banker or cash; with cash the status is 9 after the lines bottleneck and no order";
+
+/// The help of the option with a capital that stands in place of that of a text.
+const CAPITAL: &str =
+    "Plan as if there were so much of a resource, 0 to 1000000, such as tape=2; may be given for several resources";
 
 /// The same of `record`, whose workers ask the banker.
 const LEND_OF_SEED: &str = "Who decides on a request: banker, or with --seed also cash";
@@ -57,6 +61,13 @@ fn word_option_or<'a>(alloc: Global, name: &'a str, default: &'a str) -> Arg<'a>
     ensures own { result.global ≡ false }
 {
     Arg::new(alloc, name).long(name).default_value(default)
+}
+
+fn words_option<'a>(alloc: Global, name: &'a str) -> Arg<'a>
+    ensures rule { rule_of result ≡ words_rule name.entry.now }
+    ensures own { result.global ≡ false }
+{
+    Arg::new(alloc, name).long(name).action(ArgAction::Append)
 }
 
 fn flag<'a>(alloc: Global, name: &'a str) -> Arg<'a>
@@ -127,6 +138,19 @@ fn with_given_number<'a>(
     let command = command?;
     let option = number_option(alloc, name, least, most);
     with_option(command, option.help(help))
+}
+
+/// Adds the option with capitals that stand in place of those of texts, if the command was made.
+fn with_capitals<'a>(
+    alloc: Global,
+    command: Result<Command<'a>, AllocError>,
+) -> Result<Command<'a>, AllocError>
+    ensures { (app : App) → IfOk command.entry (IsCommand app) → IfOk result
+        (IsCommand (with_rule app (words_rule (codes "capital")))) }
+{
+    let command = command?;
+    let capital = words_option(alloc, "capital");
+    with_option(command, capital.help(CAPITAL))
 }
 
 /// Adds a flag, if the command was made.
@@ -304,7 +328,8 @@ fn plan_of_texts<'a>(alloc: Global) -> Result<Command<'a>, AllocError>
 {
     let about =
         "Print where the claims of the program read from standard input come from, and how much of each resource they need";
-    with_lend(alloc, plain(alloc, "plan", about), LEND_OF_PLAN)
+    let plan = with_lend(alloc, plain(alloc, "plan", about), LEND_OF_PLAN);
+    with_capitals(alloc, plan)
 }
 
 fn record_text<'a>(alloc: Global) -> Result<Command<'a>, AllocError>

@@ -6,6 +6,8 @@
 #[cfg(test)]
 mod calls;
 #[cfg(test)]
+mod capitals;
+#[cfg(test)]
 mod codes;
 #[cfg(test)]
 mod debug;

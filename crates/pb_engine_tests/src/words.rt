@@ -1,5 +1,6 @@
 //! The words of a call, and the command and the options that they name.
 
+use pb_capitals::Changes;
 use pb_code::Format;
 use pb_options::{
     CheckOptions, Code, DebugOptions, DrawOptions, EmitOptions, Lend, OutcomesOptions, PlanOptions,
@@ -83,7 +84,10 @@ fn commands_have_their_defaults(rt: HostRuntime) {
                 lend: Lend::Banker,
             }),
         ),
-        ("plan", Options::Plan(PlanOptions { lend: Lend::Banker })),
+        (
+            "plan",
+            Options::Plan(PlanOptions { lend: Lend::Banker }, Changes::none()),
+        ),
         (
             "replay",
             Options::Replay(ReplayOptions { lend: Lend::Banker }),
@@ -277,12 +281,12 @@ fn options_with_one_word_are_read(rt: HostRuntime) {
         (
             "plan",
             "--lend=banker",
-            Options::Plan(PlanOptions { lend: Lend::Banker }),
+            Options::Plan(PlanOptions { lend: Lend::Banker }, Changes::none()),
         ),
         (
             "plan",
             "--lend=cash",
-            Options::Plan(PlanOptions { lend: Lend::Cash }),
+            Options::Plan(PlanOptions { lend: Lend::Cash }, Changes::none()),
         ),
         (
             "replay",

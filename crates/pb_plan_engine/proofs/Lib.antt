@@ -1,3 +1,5 @@
+pub mod ChangedLemmas
+pub mod ChangingLemmas
 pub mod LineLemmas
 pub mod OrderLemmas
 pub mod PartLemmas

@@ -6,6 +6,9 @@ use Rattle.std.specs.List.{AllZip}
 use Rattle.std.proofs.lemmas.List.{append_assoc, length-map}
 use Rattle.std.proofs.lemmas.List.Elements.{All-cons, All-map, All-nil}
 use Rattle.pb_accept.proofs.ClaimLemmas.{names_of_resources}
+use Rattle.std.specs.Prelude.{codes}
+use Rattle.pb_capitals.specs.declared.change.Change.{Change}
+use Rattle.pb_plan_engine.specs.Changed.{undeclared, with_changes}
 use Rattle.pb_base.specs.declared.memory.NoMemory.{NoMemory}
 use Rattle.pb_base.specs.Steppers.{Table}
 use Rattle.pb_base.specs.declared.lending.Lending.{Lending}
@@ -22,8 +25,8 @@ use Rattle.pb_names.specs.declared.resolved.Resource.{Resource}
 use Rattle.pb_plan.specs.Circles.{IsCircleAmong}
 use Rattle.pb_plan.specs.Needs.{AllFree, IsBottleneck}
 use Rattle.pb_plan.specs.declared.edge.Edge.{Edge}
-use Rattle.pb_plan_engine.specs.PlanLines.{HasStatus, IsOfTree, IsOrderIfAny, IsPlan, SaysOfPlan, bodies_of, circle_lines, claims_lines, fault_line, last_line, order_line}
-use Rattle.pb_plan_engine.specs.PlanLines.{planned, refused, text_words}
+use Rattle.pb_plan_engine.specs.PlanLines.{HasStatus, IsOfTree, IsOrderIfAny, IsPlan, SaysOfPlan, TellsPlan, bodies_of, circle_lines, claims_lines, fault_line, last_line, order_line}
+use Rattle.pb_plan_engine.specs.PlanLines.{planned, read, refused, text_words, unknown}
 use Rattle.pb_plan_engine.specs.PlanLines.{resources_lines, scarce_of}
 use Rattle.pb_joint.specs.Texts.{AreReadAs, AreRefused, are_several, names_of}
 use Rattle.pb_joint.specs.declared.texts.TextFault.{TextFault}
@@ -111,26 +114,46 @@ capitals_are_small tree program is =
     All-map (λ n. n ≤ 1000000) (λ (r : PlainResource). r.capital) program.resources
     (small_capitals tree.resources program.resources is.resources)
 
--- what is said of texts whose program was planned
-pub says_plan : (reply : Result Reply NoMemory) (lending : Lending) (bytes : List ℕ) (texts : List (List ℕ)) (trees : List ProgramSyntax)
-    (names : List Name) (program : Program) (claims : Table) → AreParts bytes texts → AreReadAs texts trees program claims
-    → names ≡ names_of trees → IfOk reply (λ r. IsPlan names program claims r.text.items × HasStatus lending program claims r.status)
-    → IfOk reply (λ r. SaysOfPlan lending bytes r.text.items r.status)
-says_plan (Ok r) lending bytes texts trees names program claims cut is same made =
-    planned texts trees program claims r.text.items r.status cut is
-    (subst (λ (ns : List Name). IsPlan ns program claims r.text.items) same made.0) made.1
-says_plan (Err e) lending bytes texts trees names program claims cut is same made = tt
+-- what is told of a program whose plan was made with changes
+pub tells_plan : (reply : Result Reply NoMemory) (lending : Lending) (changes : List Change) (names : List Name) (program changed : Program)
+    (claims : Table) → undeclared changes program ≡ None → changed ≡ with_changes changes program
+    → IfOk reply (λ r. IsPlan names changed claims r.text.items × HasStatus lending changed claims r.status)
+    → IfOk reply (λ r. TellsPlan lending changes names program claims r.text.items r.status)
+tells_plan (Ok r) lending changes names program changed claims known is made =
+    planned r.text.items r.status known (subst (λ (p : Program). IsPlan names p claims r.text.items) is made.0)
+    (subst (λ (p : Program). HasStatus lending p claims r.status) is made.1)
+tells_plan (Err e) lending changes names program changed claims known is made = tt
+
+-- what is told of a program if a change is refused
+pub tells_unknown : (reply : Result Reply NoMemory) (lending : Lending) (changes : List Change) (names : List Name) (program : Program)
+    (claims : Table) (change : Change) (text : List ℕ) → undeclared changes program ≡ Some change
+    → text ≡ codes "refused N3 " ++ change.resource.bytes → IfOk reply (λ r. (r.text.items ≡ line text) × (r.status ≡ Refused))
+    → IfOk reply (λ r. TellsPlan lending changes names program claims r.text.items r.status)
+tells_unknown reply lending changes names program claims change text first is said =
+    of_refusal reply text (TellsPlan lending changes names program claims)
+    (subst (λ (t : List ℕ). TellsPlan lending changes names program claims (line t) Refused) (sym is) (unknown change first)) said
+
+-- what is said of texts that are read as a program
+pub says_plan : (reply : Result Reply NoMemory) (lending : Lending) (changes : List Change) (bytes : List ℕ) (texts : List (List ℕ))
+    (trees : List ProgramSyntax) (names : List Name) (program : Program) (claims : Table) → AreParts bytes texts
+    → AreReadAs texts trees program claims → names ≡ names_of trees
+    → IfOk reply (λ r. TellsPlan lending changes names program claims r.text.items r.status)
+    → IfOk reply (λ r. SaysOfPlan lending changes bytes r.text.items r.status)
+says_plan (Ok r) lending changes bytes texts trees names program claims cut is same made =
+    read texts trees program claims r.text.items r.status cut is
+    (subst (λ (ns : List Name). TellsPlan lending changes ns program claims r.text.items r.status) same made)
+says_plan (Err e) lending changes bytes texts trees names program claims cut is same made = tt
 
 -- what is said of texts that are refused
-pub says_refused : (reply : Result Reply NoMemory) (lending : Lending) (bytes : List ℕ) (texts : List (List ℕ)) (it : TextFault) (text refusal : List ℕ)
+pub says_refused : (reply : Result Reply NoMemory) (lending : Lending) (changes : List Change) (bytes : List ℕ) (texts : List (List ℕ)) (it : TextFault) (text refusal : List ℕ)
     (several : Bool) → AreParts bytes texts → AreRefused texts it → fault_line it.fault ≡ Some refusal → several ≡ are_several texts
     → text ≡ text_words several (it.index + 1) ++ refusal → IfOk reply (λ r. (r.text.items ≡ line text) × (r.status ≡ Refused))
-    → IfOk reply (λ r. SaysOfPlan lending bytes r.text.items r.status)
-says_refused reply lending bytes texts it text refusal several cut (inl memory) has same is said =
+    → IfOk reply (λ r. SaysOfPlan lending changes bytes r.text.items r.status)
+says_refused reply lending changes bytes texts it text refusal several cut (inl memory) has same is said =
     let e : None ≡ Some refusal = ap fault_line (sym memory) ∙ has in absurd cc
-says_refused reply lending bytes texts it text refusal several cut (inr first) has same is said =
-    of_refusal reply text (SaysOfPlan lending bytes)
-    (subst (λ (t : List ℕ). SaysOfPlan lending bytes (line t) Refused)
+says_refused reply lending changes bytes texts it text refusal several cut (inr first) has same is said =
+    of_refusal reply text (SaysOfPlan lending changes bytes)
+    (subst (λ (t : List ℕ). SaysOfPlan lending changes bytes (line t) Refused)
     (sym (is ∙ ap (λ (b : Bool). text_words b (it.index + 1) ++ refusal) same))
     (refused texts it.index it.fault refusal cut first has)) said
 

@@ -9,6 +9,7 @@ use Rattle.pb_base.specs.Lines.{each_below, line}
 use Rattle.pb_base.specs.declared.lending.Lending.{Lending}
 use Rattle.pb_base.specs.declared.lending.Lending.TheVariants.{ByBanker, ByCash}
 use Rattle.pb_base.specs.Steppers.{Table}
+use Rattle.pb_capitals.specs.declared.change.Change.{Change}
 use Rattle.pb_claims.specs.Fits.{FitCapital, IsFirstOver}
 use Rattle.pb_claims.specs.declared.over_capital.OverCapital.{OverCapital}
 use Rattle.pb_names.specs.Meaning.{AreClaims}
@@ -16,6 +17,7 @@ use Rattle.pb_names.specs.Program.{Block, Skip, Name, Program, capital_of}
 use Rattle.pb_names.specs.Resolves.{Resolves, resource_names}
 use Rattle.pb_tree.specs.Syntax.{ProgramSyntax}
 use Rattle.pb_plan.specs.Circles.{IsCircleAmong}
+use Rattle.pb_plan_engine.specs.Changed.{undeclared, with_changes}
 use Rattle.pb_plan.specs.Needs.{AllFree, IsBottleneck, free_capital, least_capital, scarce}
 use Rattle.pb_plan.specs.Nests.{IsOrder}
 use Rattle.pb_plan.specs.Orders.{IsFollowed}
@@ -188,12 +190,23 @@ fault_line Memory = None
 abbrev pub text_words : (several : Bool) → (number : ℕ) → List ℕ
 text_words several number = cond several (codes "text " ++ decimal number ++ codes " ") []
 
--- what is said of an input, whose parts are texts: one of them is refused, by itself or together with those before it;
--- or they are one program, and that is planned, whatever its capital. Who lends changes the status alone
-pub data SaysOfPlan (lending : Lending) (bytes : List ℕ) : List ℕ → Status → Type 0 where
+-- what is told of a program whose processes are called so: a change that names no resource of it is refused, the first of
+-- them; if there is none, the program is planned as it would be with the changes, whatever its capital. Who lends changes
+-- the status alone
+pub data TellsPlan (lending : Lending) (changes : List Change) (processes : List Name) (program : Program) (claims : Table)
+    : List ℕ → Status → Type 0 where
+  unknown : (change : Change) → undeclared changes program ≡ Some change
+      → TellsPlan lending changes processes program claims (line (codes "refused N3 " ++ change.resource.bytes)) Refused
+  planned : (said : List ℕ) (status : Status) → undeclared changes program ≡ None
+      → IsPlan processes (with_changes changes program) claims said → HasStatus lending (with_changes changes program) claims status
+      → TellsPlan lending changes processes program claims said status
+
+-- what is said of an input, whose parts are texts, with changes of the capital: one of the texts is refused, by itself or
+-- together with those before it; or they are one program, and that is told of
+pub data SaysOfPlan (lending : Lending) (changes : List Change) (bytes : List ℕ) : List ℕ → Status → Type 0 where
   refused : (texts : List (List ℕ)) (index : ℕ) (fault : CompileFault) (refusal : List ℕ) → AreParts bytes texts
       → IsFirstFault texts index fault → fault_line fault ≡ Some refusal
-      → SaysOfPlan lending bytes (line (text_words (are_several texts) (index + 1) ++ refusal)) Refused
-  planned : (texts : List (List ℕ)) (trees : List ProgramSyntax) (program : Program) (claims : Table) (said : List ℕ)
+      → SaysOfPlan lending changes bytes (line (text_words (are_several texts) (index + 1) ++ refusal)) Refused
+  read : (texts : List (List ℕ)) (trees : List ProgramSyntax) (program : Program) (claims : Table) (said : List ℕ)
       (status : Status) → AreParts bytes texts → AreReadAs texts trees program claims
-      → IsPlan (names_of trees) program claims said → HasStatus lending program claims status → SaysOfPlan lending bytes said status
+      → TellsPlan lending changes (names_of trees) program claims said status → SaysOfPlan lending changes bytes said status

@@ -2,10 +2,12 @@
 //! need.
 #![tactic(auto)]
 
+mod changing;
 mod lines;
 mod plan;
 mod refusal;
 mod texts;
 
+pub use changing::undeclared;
 pub use plan::plan_engine;
 pub use texts::texts_of;

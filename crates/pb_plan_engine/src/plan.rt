@@ -1,6 +1,7 @@
 //! The command `plan`, over any input and output.
 
 ghost use Rattle.std.specs.Prelude.{◌≡◌, ◌≢◌, ◌≤◌, ◌++◌, IfOk, IfSome, List, OnOk, length, map, option_map};
+ghost use Rattle.pb_capitals.specs.Changes.{changes_in};
 ghost use Rattle.pb_command_io.specs.Answers.{Tells};
 ghost use Rattle.pb_command_io.specs.Faults.{TellsFaults, TellsWriteFaults};
 ghost use Rattle.pb_command_io.specs.Inputs.{SaysOfInput};
@@ -10,18 +11,20 @@ ghost use Rattle.pb_names.specs.Resolves.{resource_names};
 ghost use Rattle.pb_plan.specs.Circles.{IsCircleAmong};
 ghost use Rattle.pb_plan.specs.Nests.{AskBelow};
 ghost use Rattle.pb_plan.specs.declared.edge.Edge.{Edge as EdgeValue};
-ghost use Rattle.pb_plan_engine.specs.PlanLines.{HasNoOrderAmong, HasStatus, IsOfTree, IsOrderIfAny, IsPlan, SaysOfPlan};
+ghost use Rattle.pb_plan_engine.specs.PlanLines.{HasNoOrderAmong, HasStatus, IsOfTree, IsOrderIfAny, IsPlan, SaysOfPlan, TellsPlan};
 ghost use Rattle.pb_plan_engine.specs.PlanLines.{circle_lines, claims_lines, scarce_of};
 ghost use Rattle.pb_base.specs.Tables.{width_of};
 
+use crate::changing::{change_capitals, undeclared};
 use crate::lines::{process_name, put_circle, put_last, put_order, put_process, put_resources};
-use crate::refusal::refusal_text;
+use crate::refusal::{refusal_text, unknown_text};
 use crate::texts::texts_of;
 use pb_base::limits::MAX_INPUT;
 use pb_base::{Capital, Claims, Input, Lending, NoMemory, Output};
+use pb_capitals::Changes;
 use pb_claims::fits;
 use pb_command_io::{Reply, Status, read_input, refused, tell};
-use pb_joint::read_texts;
+use pb_joint::{Joint, read_texts};
 use pb_names::Resolved;
 use pb_plan::{bottleneck, find_circle, find_order, find_order_among, scarce};
 use std::alloc::{Allocator, Global};
@@ -180,24 +183,57 @@ fn plan<A: Allocator>(
     Ok(Reply { text, status })
 }
 
-/// Returns the plan of the program of texts, or the line of the first refusal of them.
-fn plan_reply(alloc: Global, lending: Lending, bytes: &[u8]) -> Result<Reply, NoMemory>
-    ensures { IfOk result (λ reply. SaysOfPlan lending bytes.now reply.text.items reply.status) }
+/// Returns the plan of the program of texts as it would be with these changes of its capital, or the line of the first of
+/// them that names no resource of it.
+fn changed_plan(
+    alloc: Global,
+    lending: Lending,
+    changes: &Changes,
+    joint: Joint,
+) -> Result<Reply, NoMemory>
+    requires numbered { IsOfTree (resolved_view joint.program) joint.claims }
+    requires names { length joint.names.items ≡ length joint.program.processes.items }
+    ensures { IfOk result (λ r. TellsPlan lending (changes_in changes.now) (map (λ name. name.items) joint.names.items)
+        (resolved_view joint.program) joint.claims r.text.items r.status) }
+{
+    if let Some(change) = undeclared(&joint.program, changes.as_slice()) {
+        return refused(unknown_text(alloc, change)?);
+    }
+    let mut program = joint.program;
+    change_capitals(&mut program, changes);
+    plan(alloc, lending, &joint.names, &program, &joint.claims)
+}
+
+/// Returns the plan of the program of texts with these changes of its capital, or the line of the first refusal.
+fn plan_reply(
+    alloc: Global,
+    lending: Lending,
+    changes: &Changes,
+    bytes: &[u8],
+) -> Result<Reply, NoMemory>
+    ensures { IfOk result (λ reply. SaysOfPlan lending (changes_in changes.now) bytes.now reply.text.items reply.status) }
 {
     let texts = texts_of(alloc, bytes)?;
     match read_texts(alloc, &texts) {
-        Ok(joint) => plan(alloc, lending, &joint.names, &joint.program, &joint.claims),
+        Ok(joint) => changed_plan(alloc, lending, changes, joint),
         Err(fault) => refused(refusal_text(alloc, texts.len() > 1, &fault)?),
     }
 }
 
 /// Writes the reply to an input.
-fn tell_plan<O: Output>(alloc: Global, lending: Lending, bytes: &[u8], output: &mut O) -> Status
+fn tell_plan<O: Output>(
+    alloc: Global,
+    lending: Lending,
+    changes: &Changes,
+    bytes: &[u8],
+    output: &mut O,
+) -> Status
     requires { length bytes.now ≤ MAX_INPUT }
-    ensures text { Tells (SaysOfInput (SaysOfPlan lending) bytes.now) (O.written output.old) (O.written output.new) result }
+    ensures text { Tells (SaysOfInput (SaysOfPlan lending (changes_in changes.now)) bytes.now)
+        (O.written output.old) (O.written output.new) result }
     ensures faults { TellsWriteFaults (O.failures output.old) (O.failures output.new) result }
 {
-    tell(alloc, plan_reply(alloc, lending, bytes), output)
+    tell(alloc, plan_reply(alloc, lending, changes, bytes), output)
 }
 
 /// Writes the plan of the text on the input: for each process and each resource, in the order in which they are
@@ -212,22 +248,26 @@ fn tell_plan<O: Output>(alloc: Global, lending: Lending, bytes: &[u8], output: &
 /// If lines `%%` part the input, its texts are planned as one program: a process is told with the number of its text,
 /// and so is the refusal of a text that is none by itself, or not together with those before it.
 ///
+/// With changes the plan, with its status, is that of the program as it would be if its resources had the capitals which
+/// the changes name. A change that names no resource of the program is refused, the first of them.
+///
 /// Writes nothing after a failed read; after a failed write, a prefix of the reply has been written.
 pub fn plan_engine<I: Input, O: Output>(
     alloc: Global,
     lending: Lending,
+    changes: &Changes,
     input: &mut I,
     output: &mut O,
 ) -> Status
     ensures text { IfSome (I.rest input.old) (λ bytes.
-        Tells (SaysOfInput (SaysOfPlan lending) bytes) (O.written output.old) (O.written output.new) result) }
+        Tells (SaysOfInput (SaysOfPlan lending (changes_in changes.now)) bytes) (O.written output.old) (O.written output.new) result) }
     ensures faults { TellsFaults
         (record { reads = I.failures input.old; writes = O.failures output.old; written = O.written output.old })
         (record { reads = I.failures input.new; writes = O.failures output.new; written = O.written output.new })
         result }
 {
     match read_input(alloc, input, output) {
-        Ok(bytes) => tell_plan(alloc, lending, bytes.as_slice(), output),
+        Ok(bytes) => tell_plan(alloc, lending, changes, bytes.as_slice(), output),
         Err(status) => status,
     }
 }

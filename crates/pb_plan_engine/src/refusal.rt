@@ -1,6 +1,6 @@
 //! The line of a refused text, without a line feed.
 
-ghost use Rattle.std.specs.Prelude.{◌≡◌, ◌+◌, ◌++◌, ℕ, IfOk, List, OnOk, Some, option_map};
+ghost use Rattle.std.specs.Prelude.{◌≡◌, ◌+◌, ◌++◌, ℕ, IfOk, List, OnOk, Some, codes, option_map};
 ghost use Rattle.pb_accept.specs.Causes.{cause_line};
 ghost use Rattle.pb_accept.specs.Causes as causes;
 ghost use Rattle.pb_accept.specs.Refusals.{kind_words as words_of_kind, limit_words as words_of_limit};
@@ -8,7 +8,8 @@ ghost use Rattle.pb_plan_engine.specs.PlanLines.{fault_line, text_words};
 
 use pb_accept::{cause_text, text_cause};
 use pb_base::NoMemory;
-use pb_base::writing::{put, put_number};
+use pb_base::writing::{put, put_name, put_number};
+use pb_capitals::Change;
 use pb_codegen::CompileFault;
 use pb_joint::TextFault;
 use pb_names::{Kind, NameFault};
@@ -27,6 +28,19 @@ pub(crate) fn refusal_text(
     let mut line = Vec::new(alloc);
     put_text_words(&mut line, several, refused.index)?;
     put(&mut line, &refusal)?;
+    Ok(line)
+}
+
+/// Returns the line of a change that names no resource of the program.
+pub(crate) fn unknown_text(alloc: Global, change: &Change) -> Result<Vec<u8>, NoMemory>
+    ensures { IfOk result (λ line. line.items ≡ codes "refused N3 " ++ change.now.resource.bytes) }
+{
+    let mut line = Vec::new(alloc);
+    put_name(
+        &mut line,
+        b"refused N3 ",
+        change.resource.as_str().as_bytes(),
+    )?;
     Ok(line)
 }
 

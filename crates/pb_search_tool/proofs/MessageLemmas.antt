@@ -1,7 +1,8 @@
 -- What is said of an input, from the message that was made.
-use Rattle.std.proofs.Common.{◌≡◌, ◌<◌, ◌≤◌, ℕ, List, codes, Result, Ok, Err, IfOk, IsTrue, OnOk, arith, length, min, inl, inr, subst}
+use Rattle.std.proofs.Common.{◌≡◌, ◌<◌, ◌≤◌, ℕ, List, [], ◌∷◌, codes, Result, Ok, Err, IfOk, IsTrue, OnOk, arith, length, min, inl, inr, subst}
 use Rattle.pb_base.specs.Steppers.{Table}
 use Rattle.pb_base.specs.declared.limits.TheConstants.{MAX_INPUT}
+use Rattle.pb_capitals.specs.declared.change.Change.{Change}
 use Rattle.pb_code.specs.Whole.{Code}
 use Rattle.pb_command_io.specs.Parts.{AreParts, AreTwoParts}
 use Rattle.pb_joint.specs.Texts.{AreReadAs}
@@ -14,9 +15,10 @@ use Rattle.pb_messages.specs.Messages.{IsMessage}
 use Rattle.pb_mistakes.specs.declared.wording.Wording.{Wording}
 use Rattle.pb_messages.specs.Said.{SaysOfTexts, SaysWithin}
 use Rattle.pb_names.specs.Program.{Program}
+use Rattle.pb_plan_engine.specs.Changed.{undeclared}
 use Rattle.pb_search_engine.specs.Requirements.{IsBadAsked}
 use Rattle.pb_search_engine.specs.declared.print_lines.PrintFault.TheVariants.{NotPrint}
-use Rattle.pb_search_tool.specs.Messages.{SaysOfExpected, SaysOfExpectedText, SaysOfPrintLines, SaysOfTogether, TellsFirstFault, unsaid, unsaid_at}
+use Rattle.pb_search_tool.specs.Messages.{SaysOfExpected, SaysOfExpectedText, SaysOfPrintLines, SaysOfTogether, TellsFirstFault, TellsOfRead, change_message, unsaid, unsaid_at}
 use Rattle.pb_search_tool.specs.Messages.SaysOfTogether.{refused, read}
 use Rattle.pb_tree.specs.Syntax.{ProgramSyntax}
 
@@ -46,15 +48,30 @@ module _ {W E : Type 0} (seen : W → List ℕ) where
   text_expected before bytes text lines (Err e) parts are says = says
 
   -- what is said of texts that are read as one program, and of the first of them that cannot be
-  pub texts_together : (bytes : List ℕ) (texts : List (List ℕ)) (trees : List ProgramSyntax) (program : Program) (claims : Table)
-      (made : Result W E) → AreParts bytes texts → AreReadAs texts trees program claims
-      → length bytes ≤ MAX_INPUT → IfOk made (λ told. SaysWithin SaysOfTexts bytes (seen told))
-      → IfOk made (λ told. SaysOfTogether bytes (seen told))
-  texts_together bytes texts trees program claims (Ok told) parts joint short says =
-      read texts trees program claims (seen told) parts joint (within SaysOfTexts bytes (seen told) short says)
-  texts_together bytes texts trees program claims (Err e) parts joint short says = says
+  pub texts_together : (changes : List Change) (bytes : List ℕ) (texts : List (List ℕ)) (trees : List ProgramSyntax) (program : Program)
+      (claims : Table) (made : Result W E) → AreParts bytes texts → AreReadAs texts trees program claims
+      → IfOk made (λ told. TellsOfRead changes program bytes (seen told))
+      → IfOk made (λ told. SaysOfTogether changes bytes (seen told))
+  texts_together changes bytes texts trees program claims (Ok told) parts joint says =
+      read texts trees program claims (seen told) parts joint says
+  texts_together changes bytes texts trees program claims (Err e) parts joint says = says
 
-  pub fault_together : (bytes : List ℕ) (texts : List (List ℕ)) (made : Result W E) → AreParts bytes texts
-      → IfOk made (λ told. TellsFirstFault texts (seen told)) → IfOk made (λ told. SaysOfTogether bytes (seen told))
-  fault_together bytes texts (Ok told) parts tells = refused texts (seen told) parts tells
-  fault_together bytes texts (Err e) parts tells = tells
+  pub fault_together : (changes : List Change) (bytes : List ℕ) (texts : List (List ℕ)) (made : Result W E) → AreParts bytes texts
+      → IfOk made (λ told. TellsFirstFault texts (seen told)) → IfOk made (λ told. SaysOfTogether changes bytes (seen told))
+  fault_together changes bytes texts (Ok told) parts tells = refused texts (seen told) parts tells
+  fault_together changes bytes texts (Err e) parts tells = tells
+
+  -- what is said of texts one by one, if there are no changes
+  pub texts_unchanged : (changes : List Change) (program : Program) (bytes : List ℕ) (made : Result W E) → changes ≡ []
+      → length bytes ≤ MAX_INPUT → IfOk made (λ told. SaysWithin SaysOfTexts bytes (seen told))
+      → IfOk made (λ told. TellsOfRead changes program bytes (seen told))
+  texts_unchanged [] program bytes (Ok told) none short says = within SaysOfTexts bytes (seen told) short says
+  texts_unchanged [] program bytes (Err e) none short says = says
+  texts_unchanged (change ∷ changes) program bytes made none short says = absurd cc
+
+  -- what is said of changes
+  pub changes_told : (changes : List Change) (program : Program) (bytes : List ℕ) (made : Result W E) → 0 < length changes
+      → IfOk made (λ told. seen told ≡ change_message (undeclared changes program))
+      → IfOk made (λ told. TellsOfRead changes program bytes (seen told))
+  changes_told [] program bytes made some says = absurd (omega (arith, some))
+  changes_told (change ∷ changes) program bytes made some says = says

@@ -1,8 +1,9 @@
 -- What is said to a person of print lines, and of texts that are read as one program, that were refused.
-use Rattle.std.specs.Prelude.{◌≡◌, ◌⊎◌, ◌+◌, ℕ, Bool, List, [], Some, codes, cond, slice_get}
+use Rattle.std.specs.Prelude.{◌≡◌, ◌⊎◌, ◌+◌, ◌++◌, ◌∷◌, ℕ, Bool, List, [], Option, None, Some, codes, cond, slice_get}
 use Rattle.pb_accept.specs.Causes.{text_cause}
 use Rattle.pb_accept.specs.declared.cause.Cause.{Cause}
 use Rattle.pb_base.specs.Steppers.{Table}
+use Rattle.pb_capitals.specs.declared.change.Change.{Change}
 use Rattle.pb_code.specs.Whole.{Code, ProcessLabels}
 use Rattle.pb_codegen.specs.Compiled.{IsCompiled}
 use Rattle.pb_codegen.specs.declared.fault.CompileFault.{CompileFault}
@@ -16,6 +17,7 @@ use Rattle.pb_messages.specs.Said.{SaysOfTexts, lines_before, text_label}
 use Rattle.pb_mistakes.specs.declared.wording.Wording.{Wording}
 use Rattle.pb_names.specs.Program.{Program}
 use Rattle.pb_options.specs.declared.code.Code.TheVariants.{K1}
+use Rattle.pb_plan_engine.specs.Changed.{undeclared}
 use Rattle.pb_search_engine.specs.Requirements.{IsBadAsked, SpellsAsked}
 use Rattle.pb_search_engine.specs.declared.print_lines.PrintFault.TheVariants.{NotPrint}
 use Rattle.pb_search_engine.specs.declared.requirements.Requirement.{Requirement}
@@ -64,9 +66,25 @@ pub record TellsFirstFault (texts : List (List ℕ)) (told : List ℕ) : Type 0 
   pub at : slice_get texts index ≡ Some text
   pub message : IsMessage label text cause told
 
--- of texts that are read as one program: the message of the first fault; or there is none, and what is said of the
--- texts one by one, whose capital may be too little
-pub data SaysOfTogether (bytes : List ℕ) : List ℕ → Type 0 where
-  refused : (texts : List (List ℕ)) (told : List ℕ) → AreParts bytes texts → TellsFirstFault texts told → SaysOfTogether bytes told
+-- what is said of changes of the capital: which of them names no resource; or, if each names one, that a claim is over the
+-- capital that there is with them
+abbrev pub change_message : (unknown : Option Change) → List ℕ
+change_message (Some change) =
+    codes "error N3: --capital names a resource that is not declared: " ++ (change.resource.bytes ++ codes "\n")
+change_message None =
+    codes "error C1: with the capitals of --capital there is too little for a claim\n  = hint: in the line `R capital C least L free F` of the plan C has to be at least L\n"
+
+-- what is said of texts that are this program: of the texts one by one, whose capital may be too little; or if there are
+-- changes of the capital, of these
+abbrev pub TellsOfRead : List Change → Program → (bytes told : List ℕ) → Type 0
+TellsOfRead [] program bytes told = SaysOfTexts bytes told
+TellsOfRead (change ∷ changes) program bytes told = told ≡ change_message (undeclared (change ∷ changes) program)
+
+-- of texts that are read as one program, with changes of its capital: the message of the first fault; or there is none, and
+-- what is said of this program
+pub data SaysOfTogether (changes : List Change) (bytes : List ℕ) : List ℕ → Type 0 where
+  refused : (texts : List (List ℕ)) (told : List ℕ) → AreParts bytes texts → TellsFirstFault texts told
+      → SaysOfTogether changes bytes told
   read : (texts : List (List ℕ)) (trees : List ProgramSyntax) (program : Program) (claims : Table) (told : List ℕ)
-      → AreParts bytes texts → AreReadAs texts trees program claims → SaysOfTexts bytes told → SaysOfTogether bytes told
+      → AreParts bytes texts → AreReadAs texts trees program claims → TellsOfRead changes program bytes told
+      → SaysOfTogether changes bytes told

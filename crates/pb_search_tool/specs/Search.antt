@@ -1,5 +1,6 @@
 -- What the tool that goes through all runs says.
 use Rattle.std.specs.Prelude.{◌≡◌, ℕ, Bool, true, false, List, Option}
+use Rattle.pb_capitals.specs.Changes.{changes_in}
 use Rattle.pb_command_io.specs.Inputs.{SaysOfInput}
 use Rattle.pb_command_io.specs.declared.status.Status.{Status}
 use Rattle.pb_messages.specs.Said.{SaysToPerson, SaysWithin}
@@ -21,7 +22,7 @@ shown_by numbers = record { from = numbers.from; rows = numbers.rows }
 -- what its commands may say of an input
 abbrev pub says : Options → List ℕ → List ℕ → Status → Type 0
 says (option.Outcomes numbers) = SaysOfInput (SaysOfSearches numbers)
-says (option.Plan options) = SaysOfInput (SaysOfPlan (lending_for options.lend))
+says (option.Plan options changes) = SaysOfInput (SaysOfPlan (lending_for options.lend) (changes_in changes))
 says (option.States options) = SaysOfInput (SaysOfStates (lending_for options.lend) (shown_by options))
 says _ = λ bytes text status. ⊥
 
@@ -37,6 +38,6 @@ tells_outcomes false = SaysToPerson Text
 -- what a person is told of bytes that a command refused
 abbrev pub tells_refused : Options → (bytes told : List ℕ) → Type 0
 tells_refused (option.Outcomes numbers) = tells_outcomes numbers.expect
-tells_refused (option.Plan options) = SaysWithin SaysOfTogether
+tells_refused (option.Plan options changes) = SaysWithin (SaysOfTogether (changes_in changes))
 tells_refused (option.States options) = SaysToPerson (Shown (lending_for options.lend))
 tells_refused _ = λ bytes told. ⊥

@@ -1,6 +1,7 @@
 //! The tool that answers `outcomes`, `plan` and `states`.
 #![tactic(auto)]
 
+mod changed;
 mod expected;
 pub mod plan;
 mod prints;

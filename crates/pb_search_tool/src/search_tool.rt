@@ -40,7 +40,7 @@ impl Commands for SearchTool {
     ) -> Option<Status> {
         match options {
             Options::Outcomes(options) => Some(outcomes_engine(alloc, options, input, output)),
-            Options::Plan(options) => Some(plan(alloc, options, input, output)),
+            Options::Plan(options, changes) => Some(plan(alloc, options, &changes, input, output)),
             Options::States(options) => Some(states(alloc, options, input, output)),
             _ => None,
         }
@@ -54,7 +54,9 @@ impl Commands for SearchTool {
     ) -> Option<Result<Vec<u8>, NoMemory>> {
         match options {
             Options::Outcomes(options) => Some(outcomes_message(alloc, options.expect, bytes)),
-            Options::Plan(_) => Some(together_message(alloc, bytes)),
+            Options::Plan(_, changes) => {
+                Some(together_message(alloc, changes.as_slice(), bytes))
+            }
             Options::States(options) => Some(message_of(
                 alloc,
                 Reading::Shown(options.lend.lending()),

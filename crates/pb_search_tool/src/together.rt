@@ -6,39 +6,46 @@ ghost use Rattle.pb_joint.specs.Texts.{IsFirstFault};
 ghost use Rattle.pb_messages.specs.Said.{SaysWithin};
 ghost use Rattle.pb_search_tool.specs.Messages.{IsLabelOf, SaysOfTogether, TellsFirstFault};
 
+use crate::changed::read_message;
 use bumpalo::Bump;
 use pb_accept::text_cause;
 use pb_base::NoMemory;
 use pb_base::limits::MAX_INPUT;
+use pb_capitals::Change;
 use pb_codegen::{CompileFault, analyze};
 use pb_joint::{TextFault, read_texts};
 use pb_message_wording::text_wording;
+use pb_messages::long_message;
 use pb_messages::worded::worded;
-use pb_messages::{Reading, long_message, message_of};
 use pb_mistakes::Wording;
 use pb_names::{Kind, NameFault};
 use pb_plan_engine::texts_of;
 use std::alloc::{AllocError, Global};
 
-/// Returns the message of the first fault of texts that are read as one program, or those of the texts whose capital is
-/// too little for a claim; nothing if there is nothing to be said of them.
-pub fn together_message(alloc: Global, bytes: &[u8]) -> Result<Vec<u8>, NoMemory>
-    ensures { IfOk result (λ message. SaysWithin SaysOfTogether bytes.now message.items) }
+/// Returns the message of the first fault of texts that are read as one program, with these changes of its capital; or
+/// of the changes; or if there are none those of the texts whose capital is too little for a claim, or nothing if there is
+/// nothing to be said of them.
+pub fn together_message(
+    alloc: Global,
+    changes: &[Change],
+    bytes: &[u8],
+) -> Result<Vec<u8>, NoMemory>
+    ensures { IfOk result (λ message. SaysWithin (SaysOfTogether changes.now) bytes.now message.items) }
 {
     if bytes.len() > MAX_INPUT {
         return long_message(alloc);
     }
-    parts_message(alloc, bytes)
+    parts_message(alloc, changes, bytes)
 }
 
 /// Returns the message of the texts of an input that is not too long.
-fn parts_message(alloc: Global, bytes: &[u8]) -> Result<Vec<u8>, NoMemory>
+fn parts_message(alloc: Global, changes: &[Change], bytes: &[u8]) -> Result<Vec<u8>, NoMemory>
     requires { length bytes.now ≤ most }
-    ensures { IfOk result (λ message. SaysOfTogether bytes.now message.items) }
+    ensures { IfOk result (λ message. SaysOfTogether changes.now bytes.now message.items) }
 {
     let texts = texts_of(alloc, bytes)?;
     match read_texts(alloc, &texts) {
-        Ok(_) => message_of(alloc, Reading::Texts, bytes),
+        Ok(joint) => read_message(alloc, changes, &joint.program, bytes),
         Err(refused) => refused_message(alloc, &texts, &refused),
     }
 }

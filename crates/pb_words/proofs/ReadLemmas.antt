@@ -1,10 +1,10 @@
 -- What clap's results say of the rows that it matched, and of this command line.
 use Rattle.std.proofs.Common.{◌≡◌, ◌↔◌, ◌<◌, ◌≤◌, ◌^◌, ℕ, List, [], Option, Some, None, Result, Ok, Err, refl, sym}
 use Rattle.std.proofs.Common.{ap, subst, ◌∙◌, true, false, Bool, MatchBool, option_map, inl, inr, IfNone, IfSome}
-use Rattle.std.proofs.Common.{codes, get_or, unwrap_or, arith}
+use Rattle.std.proofs.Common.{Bor, codes, get_or, map, unwrap_or, arith}
 use Rattle.std.specs.Str.Parse.{IsNumeral, digits_value, false_text, true_text, without_leading_plus}
 use Rattle.clap.specs.Words.{HasKind, IsAmong, Kinds, ReadsOne, Row, Text, TriesOne, is_simple, is_simple_and_free}
-use Rattle.clap.specs.Words.{kind_of, one_of, one_text, rows_of}
+use Rattle.clap.specs.Words.{kind_of, matched_of, one_of, one_text, raw_values, rows_of}
 use Rattle.clap.specs.declared.error.Error.{Error}
 use Rattle.clap.specs.declared.error.kind.ErrorKind.TheVariants.{OutOfMemory}
 use Rattle.clap.proofs.OnLiterals.{clap_on_literals}
@@ -14,12 +14,15 @@ use Rattle.pb_command_line.specs.CommandLine.{debug_command, draw_command, emit_
 use Rattle.pb_command_line.specs.CommandLine.{migrate_command, outcomes_command, plan_command, record_command, replay_command, run_command}
 use Rattle.pb_command_line.specs.CommandLine.{bank_command, dap_command, lsp_command, states_command, with_bank_commands, with_run_rules}
 use Rattle.clap.specs.declared.parser.matches.Found.{Found}
-use Rattle.clap.proofs.WalkLemmas.{one_text-rows}
-use Rattle.pb_words.specs.Read.{BlamesWords, HasCheckNumbers, HasCode, HasEmitNumber, HasFlag, HasNumber, HasNumberIn}
+use Rattle.clap.proofs.WalkLemmas.{one_text-rows, raw_values-rows}
+use Rattle.pb_capitals.specs.Changes.{AreChanges, changes_in}
+use Rattle.pb_capitals.specs.declared.change.Change.{Change}
+use Rattle.pb_capitals.specs.declared.changes.Changes.{Changes}
+use Rattle.pb_words.specs.Read.{BlamesWords, HasChanges, HasCheckNumbers, HasCode, HasEmitNumber, HasFlag, HasNumber, HasNumberIn}
 use Rattle.pb_words.specs.Read.{HasDebugOptions, HasDrawOptions, HasLend, HasOptionalNumber, HasOptionalNumberIn, HasPlanLend, HasReplayLend}
 use Rattle.pb_words.specs.Read.{HasSearchOptions, HasStatesOptions}
 use Rattle.pb_words.specs.Read.{HasRecordNumbers, HasRunNumbers}
-use Rattle.pb_words.specs.Read.{IsReadFrom, IsReadFromMatches}
+use Rattle.pb_words.specs.Read.{IsReadFrom, IsReadFromMatches, capital_words}
 use Rattle.pb_words.specs.declared.words.Options.{Options}
 use Rattle.pb_words.specs.declared.words.Options.TheVariants.{Bank, Check, Claims, Dap, Debug, Draw, Emit, Exec, Explain}
 use Rattle.pb_words.specs.declared.words.Options.TheVariants.{Lsp, Migrate, Outcomes, Plan, Record, Replay, Run, States}
@@ -132,7 +135,7 @@ no_check rows none Migrate says =
     let m : 99 ≡ 109 = ap (λ (l : Text). get_or l 0 0) says in omega (arith, m)
 no_check rows none (Outcomes o) says =
     let m : 99 ≡ 111 = ap (λ (l : Text). get_or l 0 0) says.0 in omega (arith, m)
-no_check rows none (Plan o) says =
+no_check rows none (Plan o changes) says =
     let m : 99 ≡ 112 = ap (λ (l : Text). get_or l 0 0) says.0 in omega (arith, m)
 no_check rows none (Record o) says =
     let m : 99 ≡ 114 = ap (λ (l : Text). get_or l 0 0) says.0 in omega (arith, m)
@@ -169,7 +172,7 @@ no_debug rows none Migrate says =
     let m : 100 ≡ 109 = ap (λ (l : Text). get_or l 0 0) says in omega (arith, m)
 no_debug rows none (Outcomes o) says =
     let m : 100 ≡ 111 = ap (λ (l : Text). get_or l 0 0) says.0 in omega (arith, m)
-no_debug rows none (Plan o) says =
+no_debug rows none (Plan o changes) says =
     let m : 100 ≡ 112 = ap (λ (l : Text). get_or l 0 0) says.0 in omega (arith, m)
 no_debug rows none (Record o) says =
     let m : 100 ≡ 114 = ap (λ (l : Text). get_or l 0 0) says.0 in omega (arith, m)
@@ -206,7 +209,7 @@ no_emit rows none Migrate says =
     let m : 101 ≡ 109 = ap (λ (l : Text). get_or l 0 0) says in omega (arith, m)
 no_emit rows none (Outcomes o) says =
     let m : 101 ≡ 111 = ap (λ (l : Text). get_or l 0 0) says.0 in omega (arith, m)
-no_emit rows none (Plan o) says =
+no_emit rows none (Plan o changes) says =
     let m : 101 ≡ 112 = ap (λ (l : Text). get_or l 0 0) says.0 in omega (arith, m)
 no_emit rows none (Record o) says =
     let m : 101 ≡ 114 = ap (λ (l : Text). get_or l 0 0) says.0 in omega (arith, m)
@@ -244,7 +247,7 @@ no_run rows none Migrate says =
     let m : 114 ≡ 109 = ap (λ (l : Text). get_or l 0 0) says in omega (arith, m)
 no_run rows none (Outcomes o) says =
     let m : 114 ≡ 111 = ap (λ (l : Text). get_or l 0 0) says.0 in omega (arith, m)
-no_run rows none (Plan o) says =
+no_run rows none (Plan o changes) says =
     let m : 114 ≡ 112 = ap (λ (l : Text). get_or l 0 0) says.0 in omega (arith, m)
 no_run rows none (Record o) says =
     let m : 117 ≡ 101 = ap (λ (l : Text). get_or l 1 0) says.0 in omega (arith, m)
@@ -281,7 +284,7 @@ no_record rows none Migrate says =
     let m : 114 ≡ 109 = ap (λ (l : Text). get_or l 0 0) says in omega (arith, m)
 no_record rows none (Outcomes o) says =
     let m : 114 ≡ 111 = ap (λ (l : Text). get_or l 0 0) says.0 in omega (arith, m)
-no_record rows none (Plan o) says =
+no_record rows none (Plan o changes) says =
     let m : 114 ≡ 112 = ap (λ (l : Text). get_or l 0 0) says.0 in omega (arith, m)
 no_record rows none (Record o) says = none o says.1
 no_record rows none (Replay o) says =
@@ -317,7 +320,7 @@ no_exec rows none Migrate says =
     let m : 101 ≡ 109 = ap (λ (l : Text). get_or l 0 0) says in omega (arith, m)
 no_exec rows none (Outcomes o) says =
     let m : 101 ≡ 111 = ap (λ (l : Text). get_or l 0 0) says.0 in omega (arith, m)
-no_exec rows none (Plan o) says =
+no_exec rows none (Plan o changes) says =
     let m : 101 ≡ 112 = ap (λ (l : Text). get_or l 0 0) says.0 in omega (arith, m)
 no_exec rows none (Record o) says =
     let m : 101 ≡ 114 = ap (λ (l : Text). get_or l 0 0) says.0 in omega (arith, m)
@@ -354,7 +357,7 @@ no_explain rows none Migrate says =
     let m : 101 ≡ 109 = ap (λ (l : Text). get_or l 0 0) says in omega (arith, m)
 no_explain rows none (Outcomes o) says =
     let m : 101 ≡ 111 = ap (λ (l : Text). get_or l 0 0) says.0 in omega (arith, m)
-no_explain rows none (Plan o) says =
+no_explain rows none (Plan o changes) says =
     let m : 101 ≡ 112 = ap (λ (l : Text). get_or l 0 0) says.0 in omega (arith, m)
 no_explain rows none (Record o) says =
     let m : 101 ≡ 114 = ap (λ (l : Text). get_or l 0 0) says.0 in omega (arith, m)
@@ -391,7 +394,7 @@ no_outcomes rows none Lsp says =
 no_outcomes rows none Migrate says =
     let m : 111 ≡ 109 = ap (λ (l : Text). get_or l 0 0) says in omega (arith, m)
 no_outcomes rows none (Outcomes o) says = none o says.1
-no_outcomes rows none (Plan o) says =
+no_outcomes rows none (Plan o changes) says =
     let m : 111 ≡ 112 = ap (λ (l : Text). get_or l 0 0) says.0 in omega (arith, m)
 no_outcomes rows none (Record o) says =
     let m : 111 ≡ 114 = ap (λ (l : Text). get_or l 0 0) says.0 in omega (arith, m)
@@ -429,7 +432,7 @@ no_states rows none Migrate says =
     let m : 115 ≡ 109 = ap (λ (l : Text). get_or l 0 0) says in omega (arith, m)
 no_states rows none (Outcomes o) says =
     let m : 115 ≡ 111 = ap (λ (l : Text). get_or l 0 0) says.0 in omega (arith, m)
-no_states rows none (Plan o) says =
+no_states rows none (Plan o changes) says =
     let m : 115 ≡ 112 = ap (λ (l : Text). get_or l 0 0) says.0 in omega (arith, m)
 no_states rows none (Record o) says =
     let m : 115 ≡ 114 = ap (λ (l : Text). get_or l 0 0) says.0 in omega (arith, m)
@@ -440,7 +443,7 @@ no_states rows none (Run o) says =
 no_states rows none (States o) says = none o says.1
 
 -- if its options cannot be read, the rows of `plan` say nothing
-pub no_plan : (rows : List Row) → ((o : PlanOptions) → HasPlanLend rows o → ⊥) → (o : Options)
+pub no_plan : (rows : List Row) → ((o : PlanOptions) (changes : Changes) → HasPlanLend rows o → HasChanges rows changes → ⊥) → (o : Options)
     → IsReadFrom (codes "plan") rows o → ⊥
 no_plan rows none Bank says =
     let m : 112 ≡ 98 = ap (λ (l : Text). get_or l 0 0) says in omega (arith, m)
@@ -466,7 +469,7 @@ no_plan rows none Migrate says =
     let m : 112 ≡ 109 = ap (λ (l : Text). get_or l 0 0) says in omega (arith, m)
 no_plan rows none (Outcomes o) says =
     let m : 112 ≡ 111 = ap (λ (l : Text). get_or l 0 0) says.0 in omega (arith, m)
-no_plan rows none (Plan o) says = none o says.1
+no_plan rows none (Plan o changes) says = none o changes says.1 says.2
 no_plan rows none (Record o) says =
     let m : 112 ≡ 114 = ap (λ (l : Text). get_or l 0 0) says.0 in omega (arith, m)
 no_plan rows none (Replay o) says =
@@ -503,7 +506,7 @@ no_replay rows none Migrate says =
     let m : 114 ≡ 109 = ap (λ (l : Text). get_or l 0 0) says in omega (arith, m)
 no_replay rows none (Outcomes o) says =
     let m : 114 ≡ 111 = ap (λ (l : Text). get_or l 0 0) says.0 in omega (arith, m)
-no_replay rows none (Plan o) says =
+no_replay rows none (Plan o changes) says =
     let m : 114 ≡ 112 = ap (λ (l : Text). get_or l 0 0) says.0 in omega (arith, m)
 no_replay rows none (Record o) says =
     let m : 112 ≡ 99 = ap (λ (l : Text). get_or l 2 0) says.0 in omega (arith, m)
@@ -539,7 +542,7 @@ no_draw rows none Migrate says =
     let m : 100 ≡ 109 = ap (λ (l : Text). get_or l 0 0) says in omega (arith, m)
 no_draw rows none (Outcomes o) says =
     let m : 100 ≡ 111 = ap (λ (l : Text). get_or l 0 0) says.0 in omega (arith, m)
-no_draw rows none (Plan o) says =
+no_draw rows none (Plan o changes) says =
     let m : 100 ≡ 112 = ap (λ (l : Text). get_or l 0 0) says.0 in omega (arith, m)
 no_draw rows none (Record o) says =
     let m : 100 ≡ 114 = ap (λ (l : Text). get_or l 0 0) says.0 in omega (arith, m)
@@ -663,6 +666,22 @@ is_free_command_line = refl
 pub IfNone-of : {X P : Type 0} (o : Option X) → P → IfNone o P
 IfNone-of None p = p
 IfNone-of (Some x) p = tt
+
+-- the words with capitals, as they are got from what was found
+pub words_found : (f : Found) (words : Option (Bor (List (Bor Text))))
+    → option_map (λ s. map (λ v. v.now) s.now) words ≡ option_map raw_values (matched_of f (codes "capital"))
+    → capital_words (rows_of f) ≡ unwrap_or (option_map (λ s. map (λ v. v.now) s.now) words) []
+words_found f words is = ap (λ (o : Option (List Text)). unwrap_or o []) (sym (raw_values-rows f (codes "capital")) ∙ sym is)
+
+-- no words name no changes
+pub no_changes : AreChanges [] []
+no_changes = record { each = tt; few = omega arith; distinct = λ i j d before there. absurd (omega (arith, there)) }
+
+-- if no changes are named, none are had
+pub none_changed : (read : Option Changes) (words : List Text) → IfNone read ((changes : List Change) → AreChanges words changes → ⊥)
+    → IfNone read ((changes : Changes) → AreChanges words (changes_in changes) → ⊥)
+none_changed None words none = λ changes are. none (changes_in changes) are
+none_changed (Some c) words none = tt
 
 -- ---- options of `outcomes` that mean nothing together
 

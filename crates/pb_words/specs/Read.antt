@@ -1,10 +1,12 @@
 -- What the words of a call say: the command and the numbers that clap matches, if it takes the words.
 use Rattle.std.specs.Prelude.{◌≡◌, ◌≤◌, ◌↔◌, IsTrue, ℕ, Bool, List, [], Option, Some, None, IfSome, ⊤, codes, map}
-use Rattle.std.specs.Prelude.{option_map}
+use Rattle.std.specs.Prelude.{option_map, unwrap_or}
 use Rattle.std.specs.Str.Parse.{IsNumeral, digits_value, without_leading_plus}
-use Rattle.clap.specs.Words.{Row, Text, fault_of, one_of, subcommand_of}
+use Rattle.clap.specs.Words.{Row, Text, all_of, fault_of, one_of, subcommand_of}
 use Rattle.std.specs.Borrow.{Bor}
 use Rattle.pb_base.specs.declared.limits.TheConstants.{MAX_STATES}
+use Rattle.pb_capitals.specs.Changes.{AreChanges, changes_in}
+use Rattle.pb_capitals.specs.declared.changes.Changes.{Changes}
 use Rattle.pb_code.specs.declared.format.Format.{Format}
 use Rattle.pb_code.specs.declared.format.Format.TheVariants.{One, Two}
 use Rattle.pb_command_line.specs.CommandLine.{command_line}
@@ -107,6 +109,14 @@ HasDrawOptions rows o = HasLend rows o.lend × HasOptionalNumberIn rows (codes "
 abbrev pub HasPlanLend : List Row → PlanOptions → Type 0
 HasPlanLend rows o = HasLend rows o.lend
 
+-- the words with capitals, one after another; none if none is given
+abbrev pub capital_words : List Row → List Text
+capital_words rows = unwrap_or (all_of (codes "capital") rows) []
+
+-- the capitals that stand in place of those of the texts, for `plan`
+abbrev pub HasChanges : List Row → Changes → Type 0
+HasChanges rows changes = AreChanges (capital_words rows) (changes_in changes)
+
 -- who decides, for `replay`
 abbrev pub HasReplayLend : List Row → ReplayOptions → Type 0
 HasReplayLend rows o = HasLend rows o.lend
@@ -129,7 +139,7 @@ IsReadFrom name rows (option.Explain code) = (name ≡ codes "explain") × HasCo
 IsReadFrom name rows option.Lsp = name ≡ codes "lsp"
 IsReadFrom name rows option.Migrate = name ≡ codes "migrate"
 IsReadFrom name rows (option.Outcomes o) = (name ≡ codes "outcomes") × HasSearchOptions rows o
-IsReadFrom name rows (option.Plan o) = (name ≡ codes "plan") × HasPlanLend rows o
+IsReadFrom name rows (option.Plan o changes) = (name ≡ codes "plan") × HasPlanLend rows o × HasChanges rows changes
 IsReadFrom name rows (option.Record o) = (name ≡ codes "record") × HasRecordNumbers rows o
 IsReadFrom name rows (option.Replay o) = (name ≡ codes "replay") × HasReplayLend rows o
 IsReadFrom name rows (option.Run o) = (name ≡ codes "run") × HasRunNumbers rows o

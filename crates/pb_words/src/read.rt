@@ -1,10 +1,11 @@
 //! Reads the words of a call.
 ghost use Rattle.std.specs.Prelude.{◌≡◌, ◌↔◌, IfErr, IfNone, IfOk, IfSome, IsTrue, None, Option, ℕ};
 ghost use Rattle.clap.specs.Words.{found_of, kind_of, one_of, rows_of, subcommand_rows_of};
-ghost use Rattle.pb_words.specs.Read.{BlamesWords, HasCheckNumbers, HasCode, HasDebugOptions, HasDrawOptions, HasEmitNumber};
+ghost use Rattle.pb_words.specs.Read.{BlamesWords, HasCheckNumbers, HasChanges, HasCode, HasDebugOptions, HasDrawOptions, HasEmitNumber};
 ghost use Rattle.pb_words.specs.Read.{HasFlag, HasNumberIn, HasOptionalNumberIn, HasRecordNumbers, HasRunNumbers, HasLend, HasPlanLend, HasReplayLend, HasSearchOptions};
 ghost use Rattle.pb_words.specs.Read.{HasStatesOptions, IsReadFromMatches, WordsSay};
 ghost use Rattle.pb_words.specs.declared.words.Options.{Options as AnyOptions};
+ghost use Rattle.pb_capitals.specs.declared.changes.Changes.{Changes as AnyChanges};
 ghost use Rattle.pb_options.specs.declared.options.CheckOptions.{CheckOptions as AnyCheckOptions};
 ghost use Rattle.pb_options.specs.declared.options.DebugOptions.{DebugOptions as AnyDebugOptions};
 ghost use Rattle.pb_options.specs.declared.options.DrawOptions.{DrawOptions as AnyDrawOptions};
@@ -23,6 +24,7 @@ use crate::words::{Options, WordsFault};
 use clap::error::ErrorKind;
 use clap::{ArgMatches, Error};
 use pb_base::limits::{MAX_PICKS, MAX_QUANTUM, MAX_STATES, MAX_WORKERS};
+use pb_capitals::{Changes, changes_of};
 use pb_code::Format;
 use pb_command_line::command_line::command_line;
 use pb_options::{
@@ -35,6 +37,10 @@ use std::alloc::{AllocError, Global};
 /// The text of a word that names nobody who decides on a request.
 const NO_LEND: &str =
     "error: the value of '--lend' is banker or cash\n\nFor more information, try '--help'.\n";
+
+/// The text of a word that is no capital of a resource.
+const NO_CAPITAL: &str =
+    "error: the value of '--capital' is a resource with how much there is of it, 0 to 1000000, such as tape=2; each is named once\n\nFor more information, try '--help'.\n";
 
 /// The text of `record --lend cash` without a seed.
 const NO_SEED: &str =
@@ -190,6 +196,17 @@ fn plan_options(matches: &ArgMatches<'_>) -> Option<PlanOptions>
     Some(PlanOptions { lend })
 }
 
+/// Returns the capitals that stand in place of those of the texts; nothing is returned if what is given is none.
+fn changes_given(matches: &ArgMatches<'_>) -> Option<Changes>
+    ensures some { IfSome result (HasChanges (rows_of (found_of matches.now))) }
+    ensures none { IfNone result ((changes : AnyChanges) → HasChanges (rows_of (found_of matches.now)) changes → ⊥) }
+{
+    match matches.get_raw("capital") {
+        Some(words) => changes_of(words),
+        None => Some(Changes::none()),
+    }
+}
+
 fn replay_options(matches: &ArgMatches<'_>) -> Option<ReplayOptions>
     ensures some { IfSome result (HasReplayLend (rows_of (found_of matches.now))) }
     ensures none { IfNone result ((o : AnyReplayOptions) → HasReplayLend (rows_of (found_of matches.now)) o → ⊥) }
@@ -277,7 +294,7 @@ fn read_matches(matches: &ArgMatches<'_>) -> Option<Options>
         "lsp" => Some(Options::Lsp),
         "migrate" => Some(Options::Migrate),
         "outcomes" => Some(Options::Outcomes(outcomes_options(inner)?)),
-        "plan" => Some(Options::Plan(plan_options(inner)?)),
+        "plan" => Some(Options::Plan(plan_options(inner)?, changes_given(inner)?)),
         "record" => Some(Options::Record(record_options(inner)?)),
         "replay" => Some(Options::Replay(replay_options(inner)?)),
         "run" => Some(Options::Run(run_options(inner)?)),
@@ -303,7 +320,8 @@ pub fn options(alloc: Global, words: &[&str]) -> Result<Options, WordsFault>
     };
     match read_matches(&matches) {
         Some(options) => Ok(options),
-        // clap has looked at the numbers: a code is left that is not there, who lends, or options that mean nothing together.
+        // clap has looked at the numbers: a code is left that is not there, who lends, a capital, or options that mean
+        // nothing together.
         None => match unread_text(alloc, &matches) {
             Ok(text) => Err(WordsFault::Words(text)),
             Err(_) => Err(WordsFault::Memory),
@@ -315,7 +333,8 @@ pub fn options(alloc: Global, words: &[&str]) -> Result<Options, WordsFault>
 fn unread_text(alloc: Global, matches: &ArgMatches<'_>) -> Result<String, AllocError> {
     match matches.subcommand() {
         Some(("record", inner)) if is_cash(inner) => String::from_str(alloc, NO_SEED),
-        Some(("outcomes", inner)) if has_lend(inner) => String::from_str(alloc, NOT_TOGETHER),
+        Some(("outcomes", inner)) if lend(inner).is_some() => String::from_str(alloc, NOT_TOGETHER),
+        Some(("plan", inner)) if lend(inner).is_some() => String::from_str(alloc, NO_CAPITAL),
         Some(("debug" | "draw" | "outcomes" | "plan" | "record" | "replay" | "states", _)) => {
             String::from_str(alloc, NO_LEND)
         }
@@ -328,14 +347,6 @@ fn is_cash(matches: &ArgMatches<'_>) -> bool {
     match lend(matches) {
         Some(Lend::Cash) => true,
         Some(Lend::Banker) | None => false,
-    }
-}
-
-/// Returns whether the option names somebody who decides.
-fn has_lend(matches: &ArgMatches<'_>) -> bool {
-    match lend(matches) {
-        Some(_) => true,
-        None => false,
     }
 }
 

@@ -52,6 +52,6 @@ pub fn tool_of(options: &Options) -> Tool
         | Options::Record(_)
         | Options::Replay(_)
         | Options::Run(_) => Tool::Run,
-        Options::Outcomes(_) | Options::Plan(_) | Options::States(_) => Tool::Search,
+        Options::Outcomes(_) | Options::Plan(_, _) | Options::States(_) => Tool::Search,
     }
 }

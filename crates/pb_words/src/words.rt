@@ -1,5 +1,6 @@
 //! The words of a call, read.
 
+use pb_capitals::Changes;
 use pb_options::{
     CheckOptions, Code, DebugOptions, DrawOptions, EmitOptions, OutcomesOptions, PlanOptions,
     RecordOptions, ReplayOptions, RunOptions, StatesOptions,
@@ -21,7 +22,8 @@ pub enum Options {
     Lsp,
     Migrate,
     Outcomes(OutcomesOptions),
-    Plan(PlanOptions),
+    /// With the capitals that stand in place of those of the texts.
+    Plan(PlanOptions, Changes),
     Record(RecordOptions),
     Replay(ReplayOptions),
     Run(RunOptions),

@@ -2,6 +2,7 @@
 
 use pb_bank_engine::bank_engine;
 use pb_base::{Lending, MemoryInput, MemoryOutput};
+use pb_capitals::Changes;
 use pb_code::Format;
 use pb_command_io::Status;
 use pb_engines::{
@@ -77,6 +78,7 @@ fn status_of(
 ) -> Option<Status> {
     let alloc = rt.alloc();
     let mut input = MemoryInput::new(call.input);
+    let none = Changes::none();
     Some(match call.command {
         Command::Bank => bank_engine(alloc, &mut input, output),
         Command::Check => write_checks(alloc, CheckOptions { heap: None }, &mut input, output),
@@ -91,8 +93,8 @@ fn status_of(
             write_execution(rt, alloc, run_options(quantum, steps)?, &mut input, output)
         }
         Command::Migrate => write_migration(alloc, &mut input, output),
-        Command::Plan => plan_engine(alloc, Lending::ByBanker, &mut input, output),
-        Command::PlanByCash => plan_engine(alloc, Lending::ByCash, &mut input, output),
+        Command::Plan => plan_engine(alloc, Lending::ByBanker, &none, &mut input, output),
+        Command::PlanByCash => plan_engine(alloc, Lending::ByCash, &none, &mut input, output),
         Command::Record { seed } => {
             let options = RecordOptions {
                 run: run_options(64, 1_000_000)?,

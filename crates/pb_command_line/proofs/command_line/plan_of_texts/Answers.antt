@@ -3,4 +3,4 @@ use Rattle.pb_command_line.proofs.command_line.plan_of_texts.Goals as goal
 
 pub returns : goal.returns
 unfolding plan_command
-returns c = c.with_lend.ensures _ c.plain.ensures
+returns c = c.with_capitals.ensures _ (c.with_lend-plan.ensures _ c.plain.ensures)

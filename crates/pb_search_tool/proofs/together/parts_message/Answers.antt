@@ -10,12 +10,12 @@ returns-in-Ok c =
     let parts : AreParts c.args.bytes.now (given c.deref.result.now) =
     subst (λ (texts : List (Bor (List ℕ))). AreParts c.args.bytes.now (given texts)) (sym c.deref.ensures.value) c.in_ok-texts.ensures in
     let read = c.in-Ok.ensures.read in
-    texts_together (λ told. told.items) c.args.bytes.now (given c.deref.result.now) read.0 _ _ c.message_of.result parts read.1
-    c.requires c.message_of.ensures
+    texts_together (λ told. told.items) c.args.changes.now c.args.bytes.now (given c.deref.result.now) read.0 _ _ c.read_message.result parts read.1
+    c.read_message.ensures
 
 pub returns : goal.returns
 returns c =
     let given = map (λ (t : Bor (List ℕ)). t.now) in
     let parts : AreParts c.args.bytes.now (given c.deref-in-Err.result.now) =
     subst (λ (texts : List (Bor (List ℕ))). AreParts c.args.bytes.now (given texts)) (sym c.deref-in-Err.ensures.value) c.in_ok-texts.ensures in
-    fault_together (λ told. told.items) c.args.bytes.now (given c.deref-in-Err.result.now) c.refused_message.result parts c.refused_message.ensures
+    fault_together (λ told. told.items) c.args.changes.now c.args.bytes.now (given c.deref-in-Err.result.now) c.refused_message.result parts c.refused_message.ensures

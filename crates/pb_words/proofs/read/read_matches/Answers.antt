@@ -77,4 +77,10 @@ pub returns-in_err-plan_options-in-plan-clause-none : goal.returns-in_err-plan_o
 returns-in_err-plan_options-in-plan-clause-none c =
     IfNone-of c.from_residual-in_err-plan_options-in-plan.result
     (nothing_read (subcommand_rows_of c.args.matches.now) _ (rows_of (found_of c.in_ok-name.inner.now)) (search rules) c.in_ok-name.ensures.rows
-    (no_plan (rows_of (found_of c.in_ok-name.inner.now)) c.in_err-plan_options-in-plan.ensures.none))
+    (no_plan (rows_of (found_of c.in_ok-name.inner.now)) (λ o changes lends given. c.in_err-plan_options-in-plan.ensures.none o lends)))
+
+pub returns-in_err-changes_given-in-plan-clause-none : goal.returns-in_err-changes_given-in-plan-clause-none
+returns-in_err-changes_given-in-plan-clause-none c =
+    IfNone-of c.from_residual-in_err-changes_given-in-plan.result
+    (nothing_read (subcommand_rows_of c.args.matches.now) _ (rows_of (found_of c.in_ok-name.inner.now)) (search rules) c.in_ok-name.ensures.rows
+    (no_plan (rows_of (found_of c.in_ok-name.inner.now)) (λ o changes lends given. c.in_err-changes_given-in-plan.ensures.none changes given)))

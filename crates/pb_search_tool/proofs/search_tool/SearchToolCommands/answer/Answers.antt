@@ -11,7 +11,7 @@ returns-in-Outcomes-clause-text g c =
 pub returns-in-Plan-clause-text : goal.returns-in-Plan-clause-text
 returns-in-Plan-clause-text g c =
     tells_as (g.I.Input.rest c.args.input.now) (g.I.Input.rest c.args.input.now) (g.O.Output.written c.args.output.now)
-    (g.O.Output.written c.plan.new.output) c.plan.result c.args.options (option.Plan c.in-Plan.options) c.in-Plan.is says c.plan.ensures.text
+    (g.O.Output.written c.plan.new.output) c.plan.result c.args.options (option.Plan c.in-Plan.options c.in-Plan.changes) c.in-Plan.is says c.plan.ensures.text
 
 pub returns-in-States-clause-text : goal.returns-in-States-clause-text
 returns-in-States-clause-text g c =
