@@ -98,6 +98,7 @@ BANK: list[tuple[str, dict[str, Any]]] = [
     *((words, {"kind": words}) for words in ("ready", "allowed", "queued", "finishes", "memory")),
     ("granted <job><shares>", {"kind": "granted"}), ("held <job><shares>", {"kind": "held"}), ("over claim <share>", {"kind": "over claim"}),
     ("wait cash <share> <cash>", {"kind": "wait cash"}), ("wait rest <text>", {"kind": "wait rest"}),
+    ("claimed <text>", {"kind": "claimed"}),
     ("order", {"kind": "order", "text": ""}), ("order <text>", {"kind": "order"}), ("lacks <job> <share>", {"kind": "lacks"}),
     ("twice <job>", {"kind": "twice"}), ("missing <job>", {"kind": "missing"}),
     ("resource <share> capital <capital> cash <cash>", {"kind": "resource"}),
