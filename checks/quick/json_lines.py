@@ -98,6 +98,7 @@ BANK: list[tuple[str, dict[str, Any]]] = [
     *((words, {"kind": words}) for words in ("ready", "allowed", "queued", "finishes", "memory")),
     ("granted <job><shares>", {"kind": "granted"}), ("held <job><shares>", {"kind": "held"}), ("over claim <share>", {"kind": "over claim"}),
     ("wait cash <share> <cash>", {"kind": "wait cash"}), ("wait rest <text>", {"kind": "wait rest"}),
+    ("claimed <text>", {"kind": "claimed"}),
     ("order", {"kind": "order", "text": ""}), ("order <text>", {"kind": "order"}), ("lacks <job> <share>", {"kind": "lacks"}),
     ("twice <job>", {"kind": "twice"}), ("missing <job>", {"kind": "missing"}),
     ("resource <share> capital <capital> cash <cash>", {"kind": "resource"}),
@@ -246,7 +247,7 @@ def calls() -> list[tuple[list[str], bytes]]:
     asks = (b"to 2\nvars p\nthreads p\nloans\nwho tape\ncircle\nline p.0\ntext p.0\nwhy p.0\nnext\nprev\nwrote p ok\nuntil p.0 3\n"
             b"pick p.0\nback\nback\nstack p.0\nback\nstack p.0\nfault p\nmark 0\nmark 4294967295\nmark 4294967296\nhelp\nto 99\nvars q\nthreads p\nnonsense\n")
     jobs = (b"resource tape-1 4\nresource 2.d 2\njob a 3 tape-1, 1 2.d\njob 1-b 4 tape-1\nask a 2 tape-1\nask a 2 tape-1\nask 1-b 4 tape-1\n"
-            b"want 1-b 3 tape-1\nwhy a 1 2.d\norder\norder a 1-b\norder 1-b a\norder a a\norder a\nstate\ngive a 2 tape-1\nhelp\n"
+            b"want 1-b 3 tape-1\nwhy a 1 2.d\norder\norder a 1-b\norder 1-b a\norder a a\norder a\nstate\ncapital tape-1 3\ncapital 2.d 3\ngive a 2 tape-1\nhelp\n"
             b"hold a 1 2.d\ndrop a\nleave a\nnonsense\n")
     made.append((["bank"], jobs))
     for words in (["record"], ["record", "--seed", "3"], ["outcomes", "--run", "1"], ["outcomes", "--run=1"], ["outcomes", "--run", "1", "--prints"],

@@ -1,3 +1,4 @@
+pub mod CapitalDesks
 pub mod DeskLemmas
 pub mod EachNumber
 pub mod MoreLoans

@@ -1,5 +1,7 @@
 pub mod Answers
+pub mod Capitals
 pub mod Desks
 pub mod Queues
+pub mod Refusals
 pub mod Requests
 pub mod Words

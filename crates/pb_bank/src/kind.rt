@@ -11,6 +11,8 @@ pub enum Kind {
     Skip,
     /// `resource R K`
     Resource,
+    /// `capital R K`
+    Capital,
     /// `job J K R, ..`
     Job,
     /// `ask J K R, ..`
@@ -49,14 +51,17 @@ fn last_kind(word: &[u8]) -> Kind
     ensures { result ≡
         cond (bytes_eq word.now (codes "job")) Kind.Job (
         cond (bytes_eq word.now (codes "resource")) Kind.Resource (
+        cond (bytes_eq word.now (codes "capital")) Kind.Capital (
         cond (bytes_eq word.now (codes "order")) Kind.Order (
         cond (bytes_eq word.now (codes "state")) Kind.State (
-        cond (bytes_eq word.now (codes "help")) Kind.Help Kind.Other)))) }
+        cond (bytes_eq word.now (codes "help")) Kind.Help Kind.Other))))) }
 {
     if is(word, "job") {
         Kind::Job
     } else if is(word, "resource") {
         Kind::Resource
+    } else if is(word, "capital") {
+        Kind::Capital
     } else if is(word, "order") {
         Kind::Order
     } else if is(word, "state") {
@@ -80,9 +85,10 @@ fn kind_of_word(word: &[u8]) -> Kind
         cond (bytes_eq word.now (codes "leave")) Kind.Leave (
         cond (bytes_eq word.now (codes "job")) Kind.Job (
         cond (bytes_eq word.now (codes "resource")) Kind.Resource (
+        cond (bytes_eq word.now (codes "capital")) Kind.Capital (
         cond (bytes_eq word.now (codes "order")) Kind.Order (
         cond (bytes_eq word.now (codes "state")) Kind.State (
-        cond (bytes_eq word.now (codes "help")) Kind.Help Kind.Other))))))))))) }
+        cond (bytes_eq word.now (codes "help")) Kind.Help Kind.Other)))))))))))) }
 {
     if is(word, "ask") {
         Kind::Ask

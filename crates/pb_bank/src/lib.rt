@@ -3,6 +3,7 @@
 
 mod answer;
 mod ask;
+mod capital;
 mod come;
 mod desk;
 mod kind;

@@ -63,6 +63,23 @@ pub(crate) fn put_jobs(
     Ok(())
 }
 
+/// Appends the line of a set of jobs to `out`, behind words.
+pub(crate) fn put_set(
+    out: &mut Vec<u8>,
+    words: &[u8],
+    names: &Names,
+    bank: &Bank,
+    set: &[bool; MAX_PROCESSES],
+) -> Result<(), NoMemory>
+    requires { MAX_PROCESSES ≤ length (names_view names.now).processes }
+    ensures { OnOk result (out.new.items
+        ≡ out.old.items ++ line (words.now ++ said.jobs_text (names_view names.now) set.now (processes bank.now.state))) }
+{
+    put(out, words)?;
+    put_jobs(out, names, set, bank.slots())?;
+    put(out, b"\n")
+}
+
 /// Appends the line of a reason to `out`; that of a request that is allowed is given.
 pub(crate) fn put_reason(
     out: &mut Vec<u8>,
@@ -84,11 +101,7 @@ pub(crate) fn put_reason(
             put_name(out, b"wait cash ", names.resources[*r].as_slice())?;
             end_number(out, b" ", bank.cash(*r))
         }
-        Reason::Rest(slots) => {
-            put(out, b"wait rest")?;
-            put_jobs(out, names, slots, bank.slots())?;
-            put(out, b"\n")
-        }
+        Reason::Rest(slots) => put_set(out, b"wait rest", names, bank, slots),
     }
 }
 
@@ -198,6 +211,6 @@ pub(crate) fn put_help(out: &mut Vec<u8>) -> Result<(), NoMemory>
 {
     put(
         out,
-        b"resource R K\njob J K R, ..\nask J K R, ..\nwant J K R, ..\ndrop J\ngive J K R, ..\nleave J\nwhy J K R, ..\nhold J K R, ..\norder\norder J ..\nstate\nhelp\n",
+        b"resource R K\njob J K R, ..\nask J K R, ..\nwant J K R, ..\ndrop J\ngive J K R, ..\nleave J\ncapital R K\nwhy J K R, ..\nhold J K R, ..\norder\norder J ..\nstate\nhelp\n",
     )
 }

@@ -46,7 +46,7 @@ others_tails s p pairs (x ∷ xs) none h =
     (here, others_tails s p pairs xs (omega (arith, cons, none)) h.1)
 
 -- the loans with the new one are within the capital
-lent_with : (s : BankerState) (p : ℕ) (pairs : List Pair) → IsWellFormed s → IsCovered s p pairs → IsLent (with_loan s p pairs)
+pub lent_with : (s : BankerState) (p : ℕ) (pairs : List Pair) → IsWellFormed s → IsCovered s p pairs → IsLent (with_loan s p pairs)
 lent_with s p pairs good asked r lr =
     let within : amount_in pairs r ≤ cash s r =
     amount_in-le pairs (λ q. cash s q) r asked.distinct asked.within_cash in

@@ -134,15 +134,14 @@ kept_left a order used k p slot b next sound is finishes =
           ];
     }
 
--- nothing but loans changed
-pub kept_lent : (a : Accounts) (order : List ℕ) (used : List Bool) → IsKept a order used
-    → (b : Accounts) (next : List ℕ) → IsSound b → (state_of b).claims ≡ (state_of a).claims → (state_of b).capital ≡ (state_of a).capital
+-- neither the claims nor the number of resources changed
+pub kept_same : (a : Accounts) (order : List ℕ) (used : List Bool) → IsKept a order used
+    → (b : Accounts) (next : List ℕ) → IsSound b → (state_of b).claims ≡ (state_of a).claims → resources (state_of b) ≡ resources (state_of a)
     → Finishes (state_of b) (take b.processes next) → IsKept b next used
-kept_lent a order used k b next sound claims money finishes =
+kept_same a order used k b next sound claims mr finishes =
     let n = processes_of a k.sound in
     let n' = processes_of b sound in
     let m : processes (state_of b) ≡ processes (state_of a) = ap (λ (t : List (List ℕ)). length t) claims in
-    let mr : resources (state_of b) ≡ resources (state_of a) = ap (λ (t : List ℕ). length t) money in
     let r' = resources_of b sound in
     let r0 = resources_of a k.sound in
     record {
@@ -154,6 +153,13 @@ kept_lent a order used k b next sound claims money finishes =
           ap (λ (t : List (List ℕ)). get_or (get_or t q []) r 0) claims
           ∙ k.free q r (omega (arith, lq, n, n', m)) fresh (omega (arith, lr, r', r0, mr));
     }
+
+-- nothing but loans changed
+pub kept_lent : (a : Accounts) (order : List ℕ) (used : List Bool) → IsKept a order used
+    → (b : Accounts) (next : List ℕ) → IsSound b → (state_of b).claims ≡ (state_of a).claims → (state_of b).capital ≡ (state_of a).capital
+    → Finishes (state_of b) (take b.processes next) → IsKept b next used
+kept_lent a order used k b next sound claims money finishes =
+    kept_same a order used k b next sound claims (ap (λ (t : List ℕ). length t) money) finishes
 
 -- an answer changes neither the claims nor the capital
 pub after_claims : (s : BankerState) (p : ℕ) (pairs : List Pair) (answer : Answer) → (state_after s p pairs answer).claims ≡ s.claims

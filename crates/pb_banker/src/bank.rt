@@ -11,10 +11,11 @@ use crate::accounts::Accounts;
 use crate::answer::Answer;
 use crate::asker::decide_by_asker;
 use crate::banker::rising;
+use crate::changes::change_capital;
 use crate::jobs::{admit, no_rows, vacate};
 use crate::order::OrderSaid;
-use crate::reason::{Joined, Reason};
-use pb_base::limits::MAX_PROCESSES;
+use crate::reason::{CapitalSaid, Joined, Reason};
+use pb_base::limits::{MAX_AMOUNT, MAX_PROCESSES};
 use pb_base::{Bundle, Capital};
 use std::marker::Model;
 
@@ -42,6 +43,7 @@ impl Model for Bank {
 }
 
 impl Bank {
+    ghost use Rattle.pb_banker.specs.Changes.{SaysOfCapital, state_changed};
     ghost use Rattle.pb_banker.specs.Orders.{SaysOfOrder};
     ghost use Rattle.pb_banker.specs.Jobs.{HasJob, left, state_held, SaysOfJoining, SaysWhy};
 
@@ -125,6 +127,20 @@ impl Bank {
         // Called for its contract alone, which the proof needs.
         let _ = bundle.len();
         self.accounts.take_back(p, bundle);
+    }
+
+    /// Changes the capital of a resource, if each claim on it and all loans of it are within the new one, and the state
+    /// with it is safe.
+    pub fn set_capital(&mut self, r: usize, amount: u32) -> CapitalSaid
+        requires resource { r < resources self.old.state }
+        requires small { amount ≤ MAX_AMOUNT }
+        ensures said { SaysOfCapital self.old.state r amount result }
+        ensures state { self.new.state ≡ state_changed self.old.state r amount result }
+        ensures used { self.new.used ≡ self.old.used }
+        ensures well_formed { IsWellFormed self.new.state }
+        ensures safe { IsSafe self.new.state }
+    {
+        change_capital(&mut self.accounts, &mut self.order, r, amount)
     }
 
     /// Returns why a request would be granted or not.

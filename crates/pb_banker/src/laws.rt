@@ -1,6 +1,7 @@
 //! Laws over the definitions of the bank, each the contract of a function that does nothing.
 
 ghost use Rattle.pb_banker.specs.Askers.{AskerIsEnough, PlaceIsEnough};
+ghost use Rattle.pb_banker.specs.Changes.{MoreCapitalStaysSafe, MoreCapitalAllowsMore, MoreCapitalIsAllowed};
 ghost use Rattle.pb_banker.specs.Jobs.{NewcomersStaySafe};
 
 /// A newcomer whose claims are within the capital keeps the state well-formed and safe.
@@ -17,4 +18,19 @@ pub fn asker_is_enough()
 /// something was lent.
 pub fn place_is_enough()
     ensures { PlaceIsEnough }
+{}
+
+/// With more capital of a resource an order in which all finish stays one.
+pub fn more_capital_stays_safe()
+    ensures { MoreCapitalStaysSafe }
+{}
+
+/// With more capital of a resource whatever was allowed is.
+pub fn more_capital_allows_more()
+    ensures { MoreCapitalAllowsMore }
+{}
+
+/// More capital of a resource is always allowed in a safe state.
+pub fn more_capital_is_allowed()
+    ensures { MoreCapitalIsAllowed }
 {}

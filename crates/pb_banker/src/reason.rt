@@ -25,3 +25,16 @@ pub enum Reason {
     /// Of the slots that have a row, those marked here could not finish after it.
     Rest([bool; MAX_PROCESSES]),
 }
+
+/// What is said of another capital of a resource.
+#[derive(Clone, Copy)]
+pub enum CapitalSaid {
+    /// It is the capital now.
+    Changed,
+    /// Of the slots that have a row, those marked here claim more.
+    Claimed([bool; MAX_PROCESSES]),
+    /// More of the resource is lent.
+    OverCash,
+    /// Of the slots that have a row, those marked here could not finish with it.
+    Rest([bool; MAX_PROCESSES]),
+}

@@ -59,6 +59,7 @@ bank_forms =
     ∷ form Alone (codes "over claim") (codes "over claim 4")
     ∷ form Alone (codes "wait cash") (codes "wait cash 4 5")
     ∷ form Alone (codes "wait rest") (codes "wait rest W")
+    ∷ form Alone (codes "claimed") (codes "claimed W")
     ∷ form_with (codes "order") (codes "\"text\":\"\"") (codes "order")
     ∷ form Alone (codes "order") (codes "order W")
     ∷ form Alone (codes "finishes") (codes "finishes")

@@ -211,7 +211,7 @@ static DEBUG: [Form; 40] = [
 ];
 
 /// The forms of the answers of a bank, in the order in which they are tried.
-static BANK: [Form; 19] = [
+static BANK: [Form; 20] = [
     Form {
         section: Section::Alone,
         first: "\"kind\":\"ready\"",
@@ -251,6 +251,11 @@ static BANK: [Form; 19] = [
         section: Section::Alone,
         first: "\"kind\":\"wait rest\"",
         pattern: "wait rest W",
+    },
+    Form {
+        section: Section::Alone,
+        first: "\"kind\":\"claimed\"",
+        pattern: "claimed W",
     },
     Form {
         section: Section::Alone,
