@@ -4,10 +4,15 @@ A request that was sent and has no answer is sent again over the next connection
 """
 from __future__ import annotations
 
+# (`socket` is this with names of its constants, which take longer to import than Python takes to start)
+import _socket
 import select
-import socket
 import time
-from collections.abc import Callable
+
+TYPE_CHECKING = False
+if TYPE_CHECKING:
+    import socket
+    from collections.abc import Callable
 
 # Seconds in which a server has to answer before the connection is given up, and between two tries to connect.
 SILENCE, PAUSE = 2.0, 0.1
@@ -31,31 +36,39 @@ def now() -> float:
     return time.clock_gettime(time.CLOCK_BOOTTIME)
 
 
-def connect(address: str, authority: str | None, patience: float) -> socket.socket:
+def connect(address: str, authority: str | None, patience: float) -> _socket.socket:
     """Connects to the path of a socket, to `HOST:PORT`, or by TLS to `tls:HOST:PORT`."""
-    if "/" in address or ":" not in address:
-        it = socket.socket(socket.AF_UNIX)
-        it.settimeout(patience)
-        it.connect(address)
-        return it
-    host, _, port = address.removeprefix("tls:").rpartition(":")
-    it = socket.create_connection((host.strip("[]"), int(port)), patience)
-    it.setsockopt(socket.IPPROTO_TCP, socket.TCP_NODELAY, 1)
-    if not address.startswith("tls:"):
-        return it
+    if "/" not in address and ":" in address:
+        return connect_over_network(address, authority, patience)
+    it = _socket.socket(_socket.AF_UNIX, _socket.SOCK_STREAM)
+    it.settimeout(patience)
+    it.connect(address)
+    return it
+
+
+def connect_over_network(address: str, authority: str | None, patience: float) -> socket.socket:
+    """Connects to `HOST:PORT`, or by TLS to `tls:HOST:PORT`."""
     # (needed here alone)
+    import socket
     import ssl
 
-    return ssl.create_default_context(cafile=authority).wrap_socket(it, server_hostname=host.strip("[]"))
+    host, _, port = address.removeprefix("tls:").rpartition(":")
+    host = host.strip("[]")
+    it = socket.create_connection((host, int(port)), patience)
+    it.setsockopt(socket.IPPROTO_TCP, socket.TCP_NODELAY, 1)
+    is_plain = not address.startswith("tls:")
+    return it if is_plain else ssl.create_default_context(cafile=authority).wrap_socket(it, server_hostname=host)
 
 
 class Client:
     """A session with a served bank. `patience` is how long it tries to reach a server; None is without end."""
 
-    def __init__(self, address: str, lease: int, token: str | None = None, authority: str | None = None, patience: float | None = None) -> None:
+    def __init__(
+        self, address: str, lease: int, token: str | None = None, authority: str | None = None, patience: float | None = None
+    ) -> None:
         self.address, self.lease, self.token, self.authority = address, lease, token, authority
         self.patience = patience
-        self.socket: socket.socket | None = None
+        self.socket: _socket.socket | None = None
         self.sid = self.key = ""
         self.number = self.noticed = 0
         self.unread = b""

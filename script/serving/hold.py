@@ -1,8 +1,10 @@
 """`./parbegin hold`: runs a command while it holds resources of a served bank."""
 from __future__ import annotations
 
+# (`signal` and `ctypes` are these with more, which takes longer to import than Python takes to start)
+import _ctypes
+import _signal as signal
 import os
-import signal
 import sys
 import time
 
@@ -85,9 +87,6 @@ class Hold:
     def obtain(self) -> str | None:
         """Joins and waits for the grant. Returns the fence; nothing, if it was not granted in time."""
         numbers = self.client.open([self.first, self.request, "fence"])
-        # (loaded while the bank answers)
-        import ctypes  # noqa: F401
-
         joined, said, fence = (self.client.answer(number) for number in numbers)
         while self.is_full(joined):
             if not self.pause(f"{self.job} waits: there are as many jobs as there can be", JOIN):
@@ -183,16 +182,14 @@ class Hold:
 
 def start(command: list[str], environment: dict[str, str]) -> int:
     """Starts a command that is killed if this process is, so that it does not run on without what it held."""
-    import ctypes
-
     signal.signal(signal.SIGCHLD, signal.SIG_DFL)
     signal.pthread_sigmask(signal.SIG_BLOCK, WATCHED)
-    parent, c_library = os.getpid(), ctypes.CDLL(None)
+    parent, prctl = os.getpid(), _ctypes.dlsym(_ctypes.dlopen(None, 0), "prctl")
     pid = os.fork()
     if pid:
         return pid
     try:
-        c_library.prctl(PR_SET_PDEATHSIG, signal.SIGKILL)
+        _ctypes.call_function(prctl, (PR_SET_PDEATHSIG, signal.SIGKILL))
         for number in (*STOPS, signal.SIGPIPE, signal.SIGXFSZ):
             signal.signal(number, signal.SIG_DFL)
         signal.pthread_sigmask(signal.SIG_UNBLOCK, WATCHED)

@@ -2,7 +2,6 @@
 from __future__ import annotations
 
 import os
-from collections.abc import Iterator
 
 from script.serving.amounts import read_amounts
 
@@ -85,7 +84,7 @@ def read_options(words: list[str]) -> tuple[dict[str, str], list[str]]:
     """Returns the options before the command, and the other words."""
     given: dict[str, str] = {}
     others: list[str] = []
-    left: Iterator[str] = iter(words)
+    left = iter(words)
     for word in left:
         name, sign, value = word.partition("=") if word.startswith("--") else (word, "", "")
         if not word.startswith("-") or word == "-":

@@ -154,4 +154,4 @@ async def accept(pages: Pages, reader: asyncio.StreamReader, writer: asyncio.Str
 
 async def listen_http(server: Server, host: str, port: int) -> asyncio.AbstractServer:
     """Answers GET over HTTP/1.1, one request for each connection."""
-    return await asyncio.start_server(partial(accept, Pages(server)), host, port, limit=MOST_HEAD)
+    return await asyncio.start_server(partial(accept, Pages(server)), host, port, limit=MOST_HEAD, start_serving=False)

@@ -47,7 +47,7 @@ def read_tokens(file: str) -> frozenset[str]:
     return tokens
 
 
-def network_of(address: str, cert: str | None, key: str | None) -> Network:
+def read_network(address: str, cert: str | None, key: str | None) -> Network:
     """Returns where TCP is answered. Without TLS only this machine is."""
     host, port = read_address(address)
     if cert is None and host not in LOOPBACK:
@@ -55,7 +55,10 @@ def network_of(address: str, cert: str | None, key: str | None) -> Network:
     context = None
     if cert is not None:
         context = ssl.SSLContext(ssl.PROTOCOL_TLS_SERVER)
-        context.load_cert_chain(cert, key)
+        try:
+            context.load_cert_chain(cert, key)
+        except ssl.SSLError as fault:
+            raise WrongWords(f"{cert} and {key} are no certificate with its key: {fault.reason}") from fault
     return Network(host, port, context)
 
 
@@ -77,7 +80,7 @@ async def listen_unix(server: Server, path: str, mode: int) -> asyncio.AbstractS
     mask = os.umask(0o777 & ~mode)
     try:
         accept = partial(server.accept, is_trusted=True)
-        return await asyncio.start_unix_server(accept, path, limit=MAX_LINE, backlog=BACKLOG)
+        return await asyncio.start_unix_server(accept, path, limit=MAX_LINE, backlog=BACKLOG, start_serving=False)
     finally:
         os.umask(mask)
 
@@ -87,7 +90,8 @@ async def listen_network(server: Server, network: Network) -> asyncio.AbstractSe
     accept = partial(server.accept, is_trusted=not server.tokens)
     greeting = GREETING if network.context else None
     return await asyncio.start_server(
-        accept, network.host, network.port, ssl=network.context, limit=MAX_LINE, backlog=BACKLOG, ssl_handshake_timeout=greeting
+        accept, network.host, network.port, ssl=network.context, limit=MAX_LINE, backlog=BACKLOG, ssl_handshake_timeout=greeting,
+        start_serving=False,
     )
 
 
@@ -101,7 +105,7 @@ def handed() -> list[socket.socket]:
 async def listen_handed(server: Server) -> list[asyncio.AbstractServer]:
     """Answers at the sockets that systemd has opened, which are of Unix."""
     accept = partial(server.accept, is_trusted=True)
-    return [await asyncio.start_unix_server(accept, sock=it, limit=MAX_LINE, backlog=BACKLOG) for it in handed()]
+    return [await asyncio.start_unix_server(accept, sock=it, limit=MAX_LINE, start_serving=False) for it in handed()]
 
 
 def notify(text: str) -> None:

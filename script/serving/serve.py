@@ -7,6 +7,7 @@ import re
 import signal
 import sqlite3
 from collections.abc import Sequence
+from contextlib import closing
 
 from script.options import Given, WrongWords, read_options
 from script.places import DEVICE, FAULT, say, shown
@@ -101,46 +102,55 @@ def read_words(words: list[str]) -> tuple[Given, Limits]:
     return given, limits
 
 
-async def listen(server: Server, options: dict[str, str]) -> list[asyncio.AbstractServer]:
-    """Opens the sockets."""
+def network_of(options: dict[str, str]) -> listening.Network | None:
+    """Returns where TCP is to be answered, if it is."""
+    if "--tcp" not in options:
+        return None
+    return listening.read_network(options["--tcp"], options.get("--cert"), options.get("--key"))
+
+
+async def listen(server: Server, options: dict[str, str], network: listening.Network | None) -> list[asyncio.AbstractServer]:
+    """Opens the sockets, at which nothing is answered yet."""
     opened = await listening.listen_handed(server)
-    if "--socket" in options:
-        opened.append(await listening.listen_unix(server, options["--socket"], int(options.get("--mode", "600"), 8)))
-    if "--tcp" in options:
-        network = listening.network_of(options["--tcp"], options.get("--cert"), options.get("--key"))
+    if network is not None:
         opened.append(await listening.listen_network(server, network))
     if "--http" in options:
         # (needed here alone)
         from script.serving.http import listen_http
 
         opened.append(await listen_http(server, *listening.read_address(options["--http"])))
+    if "--socket" in options:
+        opened.append(await listening.listen_unix(server, options["--socket"], int(options.get("--mode", "600"), 8)))
     return opened
 
 
 async def serve(bank: Sequence[str], options: dict[str, str], limits: Limits) -> None:
-    """Recovers, and answers until it is told to stop."""
-    capital = capital_of(options.get("--capital"))
-    try_capital(bank, capital)
+    """Recovers, and answers until it is told to stop. Nothing is written before all that was asked for is possible."""
+    capital, network = capital_of(options.get("--capital")), network_of(options)
     tokens = listening.read_tokens(options["--tokens"]) if "--tokens" in options else frozenset()
-    journal = Journal(options["--journal"])
-    server = Server(bank, journal, limits, tokens)
-    server.recover()
-    running = asyncio.ensure_future(server.run(first_commands(server, capital)))
-    opened = await listen(server, options)
-    for number in (signal.SIGTERM, signal.SIGINT):
-        asyncio.get_running_loop().add_signal_handler(number, server.stop)
+    try_capital(bank, capital)
+    with closing(Journal(options["--journal"])) as journal, closing(Server(bank, journal, limits, tokens)) as server:
+        server.recover()
+        first = first_commands(server, capital)
+        opened = await listen(server, options, network)
+        for number in (signal.SIGTERM, signal.SIGINT):
+            asyncio.get_running_loop().add_signal_handler(number, server.stop)
+        try:
+            await answer(server, first, opened)
+        finally:
+            for it in opened:
+                it.close()
+
+
+async def answer(server: Server, first: Sequence[str], opened: Sequence[asyncio.AbstractServer]) -> None:
+    """Answers at the sockets, until the server is told to stop."""
+    running = asyncio.ensure_future(server.run(first))
+    for it in opened:
+        await it.start_serving()
     say(f"serves: {server.meters.recovered} entries after the snapshot, {len(server.desk.sessions)} sessions")
     listening.notify("READY=1")
-    try:
-        await running
-    finally:
-        listening.notify("STOPPING=1")
-        for it in opened:
-            it.close()
-        for connection in list(server.connections):
-            connection.cut_off()
-        journal.close()
-        server.bank.close()
+    await running
+    listening.notify("STOPPING=1")
 
 
 def call(start: list[str], words: list[str]) -> int:
@@ -154,7 +164,8 @@ def call(start: list[str], words: list[str]) -> int:
     except sqlite3.Error as fault:
         say(f"{shown(given.options['--journal'])}: the journal takes no more: {fault}")
         return DEVICE
-    except ValueError as wrong:
-        # (as a certificate that is none)
-        raise WrongWords(str(wrong)) from wrong
+    except OSError as fault:
+        named = f"{shown(os.fsdecode(fault.filename))}: " if fault.filename else ""
+        say(f"{named}{fault.strerror or fault}")
+        return DEVICE
     return 0

@@ -102,6 +102,12 @@ class Server:
         self.is_answering = False
         self.wake.set()
 
+    def close(self) -> None:
+        """Ends the connections and the bank."""
+        for connection in list(self.connections):
+            connection.cut_off()
+        self.bank.close()
+
     def push(self, item: Item) -> None:
         """Puts a request into the queue."""
         self.queue.append(item)

@@ -70,7 +70,8 @@ def restored(bank: BankProcess, text: str) -> Desk:
     if body["version"] != VERSION:
         raise WrongSnapshot(f"the snapshot has version {body['version']}, and this server reads {VERSION}")
     answers = bank.say_all(body["commands"])
-    wrong = [f"{line}: {answer[0]}" for line, answer in zip(body["commands"], answers) if answer and not answer[0].startswith(EXPECTED)]
+    told = zip(body["commands"], answers)
+    wrong = [f"{line}: {answer[0]}" for line, answer in told if answer and not answer[0].startswith(EXPECTED)]
     if wrong or bank.say("state") != body["state"]:
         raise WrongSnapshot(f"the snapshot does not lead to its state: {'; '.join(wrong[:3]) or 'the state is another'}")
     desk = Desk(bank)
