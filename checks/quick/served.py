@@ -28,7 +28,7 @@ from contextlib import suppress
 
 sys.path.insert(0, str(pathlib.Path(__file__).resolve().parents[1] / "lib"))
 
-from calls import DONE, WATCHDOG, WORDS, Tally, installed, program  # noqa: E402
+from calls import DONE, TOP, WATCHDOG, WORDS, Tally, installed, program  # noqa: E402
 from served import AMOUNTS, CAPITAL, Served, Wire, drawn_amounts, drawn_commands  # noqa: E402
 from script.serving.bank import BankProcess  # noqa: E402
 from script.serving.desk import Desk  # noqa: E402
@@ -38,6 +38,7 @@ from script.serving.words import KEPT, MAX_COMMAND, MAX_LINE  # noqa: E402
 HISTORIES, COMMANDS, LINES = 3, 150, 1500
 UNAVAILABLE, NOT_FOUND = 69, 127
 SESSIONS = (1, 2, 3)
+SCRIPTS = sorted((TOP / "examples/11-serving").glob("*.sh"))
 
 
 def new_desk() -> Desk:
@@ -286,16 +287,19 @@ def wait_for(condition: object) -> None:
         time.sleep(0.05)
 
 
-def try_opposite(tally: Tally, it: Holds) -> None:
-    """Two scripts take tape and disk in opposite order, each with one of them in its hands before it wants the other."""
-    claim = f"{CAPITAL['tape']} tape, {CAPITAL['disk']} disk"
-    wants = [f"{CAPITAL['tape']} tape", f"{CAPITAL['disk']} disk"]
-    scripts = []
-    for first, second in (wants, wants[::-1]):
-        inner = f'sleep 0.5; exec {it.script} hold "{second}" -- echo both'
-        scripts.append(it.start("--claim", claim, first, "--", "sh", "-c", inner))
-    told = [script.communicate(timeout=WATCHDOG)[0] for script in scripts]
-    tally.expect(told == [b"both\n"] * 2, "two scripts in opposite order do not both end", told)
+def try_opposite(tally: Tally, script: str, folder: pathlib.Path) -> None:
+    """Starts the two scripts of the examples, which take a tape and a disk in opposite order: both have to end."""
+    served = Served([script, "serve"], folder, capital="1 tape, 1 disk")
+    served.start()
+    path = f"{pathlib.Path(script).parent}:{os.environ['PATH']}"
+    where = {**os.environ, "PATH": path, "PARBEGIN_SOCKET": served.socket}
+    try:
+        started = [subprocess.Popen([it], env=where, stdout=subprocess.PIPE) for it in SCRIPTS]
+        told = [it.communicate(timeout=WATCHDOG)[0].decode() for it in started]
+        wanted = [f"{it.stem} has both\n" for it in SCRIPTS]
+        tally.expect(told == wanted, "two scripts in opposite order do not both end", told)
+    finally:
+        served.kill()
 
 
 def try_kill(tally: Tally, it: Holds, served: Served) -> None:
@@ -417,7 +421,7 @@ def main() -> None:
     with tempfile.TemporaryDirectory(prefix="parbegin-served-") as name:
         folder = pathlib.Path(name)
         script = installed(folder / "installed")
-        for part in ("first", "limits"):
+        for part in ("first", "limits", "opposite"):
             (folder / part).mkdir()
         try_desk(tally)
         port, page = free_port(), f"localhost:{free_port()}"
@@ -430,7 +434,6 @@ def main() -> None:
             try_refusals(tally, served)
             try_statuses(tally, holds)
             try_waits(tally, holds, served)
-            try_opposite(tally, holds)
             try_kill(tally, holds, served)
             try_http(tally, served, page)
             try_words(tally, script, served)
@@ -438,6 +441,7 @@ def main() -> None:
                 try_tls(tally, holds, folder, port)
             tally.expect(served.end() == DONE, "SIGTERM does not end a server with status 0")
             try_limits(tally, script, folder / "limits")
+            try_opposite(tally, script, folder / "opposite")
         finally:
             served.kill()
     tally.end("served")

@@ -142,6 +142,9 @@ class Server:
                 await self.journal.save(snapshot(self.desk))
                 self.meters.snapshots += 1
             written = batch
+        if self.journal.since_snapshot:
+            # (so another version of the bank has nothing to answer anew)
+            await self.journal.save(snapshot(self.desk))
 
     def next_batch(self) -> list[Item]:
         """Takes requests out of the queue, with the newest mark before them if it is not yet in the journal."""
