@@ -22,6 +22,7 @@ import ssl
 import subprocess
 import sys
 import tempfile
+import threading
 import time
 import urllib.request
 from contextlib import suppress
@@ -30,6 +31,9 @@ sys.path.insert(0, str(pathlib.Path(__file__).resolve().parents[1] / "lib"))
 
 from calls import DONE, TOP, WATCHDOG, WORDS, Tally, installed, program  # noqa: E402
 from served import AMOUNTS, CAPITAL, Served, Wire, drawn_amounts, drawn_commands  # noqa: E402
+sys.path.insert(1, str(TOP / "extras/python"))
+
+from parbegin import Answer, Ended, RemoteBank  # noqa: E402
 from script.serving.bank import BankProcess  # noqa: E402
 from script.serving.desk import Desk  # noqa: E402
 from script.serving.snapshots import restored, snapshot  # noqa: E402
@@ -338,6 +342,43 @@ def try_kill(tally: Tally, it: Holds, served: Served) -> None:
         killed.communicate()
 
 
+def try_remote(tally: Tally, served: Served) -> None:
+    """Calls the Python client from several threads, kills the server meanwhile, and compares what it holds with `state`."""
+    with RemoteBank(served.socket, lease=60) as bank:
+        def work(name: str) -> None:
+            bank.join(name, CAPITAL)
+            for _ in range(6):
+                with bank.holding(name, {"tape": 2}):
+                    held.append(name)
+                    tally.expect(len(held) == 1, "two jobs hold more than there is", held)
+                    held.remove(name)
+            bank.leave(name)
+
+        held: list[str] = []
+        threads = [threading.Thread(target=work, args=(f"t{at}",)) for at in range(3)]
+        for thread in threads:
+            thread.start()
+        served.end(signal.SIGKILL)
+        served.start()
+        for thread in threads:
+            thread.join(WATCHDOG)
+        tally.expect(not any(thread.is_alive() for thread in threads), "a thread waits for ever")
+        tally.expect(not any(line.startswith(("job t", "wish")) for line in bank.state()), "a job is left", bank.state())
+        bank.join("a", {"tape": 1})
+        tally.expect(bank.ask("a", {"tape": 2}) is Answer.OVER_CLAIM, "more than the claim is granted")
+        tally.expect(bank.why("a", {"tape": 2}) == ("over claim", "tape", ()), "why", bank.why("a", {"tape": 2}))
+        tally.expect(bank.order() == ["a"] and bank.fence() < bank.fence() + 1, "order and fence", bank.order())
+        with RemoteBank(served.socket) as other:
+            other.join("b", {"tape": 3})
+            other.obtain("b", {"tape": 3})
+            tally.expect(not bank.obtain("a", {"tape": 1}, 0.1), "what another holds is granted")
+            tally.expect(bank.want("a", {"tape": 1}) is Answer.NOT_NOW, "want")
+        tally.expect(bank.wait("a", WATCHDOG), "what an ended session held does not come back")
+    with suppress(Ended):
+        bank.state()
+        tally.expect(False, "a closed bank answers")
+
+
 def get(address: str) -> str:
     with urllib.request.urlopen(f"http://{address}", timeout=WATCHDOG) as it:
         told: str = it.read().decode()
@@ -435,6 +476,7 @@ def main() -> None:
             try_statuses(tally, holds)
             try_waits(tally, holds, served)
             try_kill(tally, holds, served)
+            try_remote(tally, served)
             try_http(tally, served, page)
             try_words(tally, script, served)
             if tls:
