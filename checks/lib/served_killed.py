@@ -72,7 +72,7 @@ def main() -> int:
     ):
         watch(owner, name, step)
     connect = sqlite3.connect
-    journal.sqlite3.connect = lambda *words, **named: Base(connect(*words, **named))  # type: ignore[assignment]
+    setattr(sqlite3, "connect", lambda *words, **named: Base(connect(*words, **named)))
     return serve.call([sys.argv[1]], sys.argv[2:])
 
 

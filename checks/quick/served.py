@@ -30,7 +30,7 @@ from contextlib import suppress
 sys.path.insert(0, str(pathlib.Path(__file__).resolve().parents[1] / "lib"))
 
 from calls import DONE, TOP, WATCHDOG, WORDS, Tally, installed, program  # noqa: E402
-from served import AMOUNTS, CAPITAL, Served, Wire, drawn_amounts, drawn_commands  # noqa: E402
+from served_bank import AMOUNTS, CAPITAL, Served, Wire, drawn_amounts, drawn_commands  # noqa: E402
 sys.path.insert(1, str(TOP / "extras/python"))
 
 from parbegin import Answer, Ended, RemoteBank  # noqa: E402

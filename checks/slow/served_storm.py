@@ -28,7 +28,7 @@ sys.path.insert(0, str(pathlib.Path(__file__).resolve().parents[1] / "lib"))
 
 from bank_model import Model  # noqa: E402
 from calls import DEVICE, TOP, Tally, installed, program  # noqa: E402
-from served import AMOUNTS, CAPITAL, PATIENCE, Served  # noqa: E402
+from served_bank import CAPITAL, PATIENCE, Served  # noqa: E402
 from served_killed import POINTS  # noqa: E402
 
 sys.path.insert(1, str(TOP / "extras/python"))
@@ -107,7 +107,7 @@ class Worker(threading.Thread):
         except Fault as fault:
             self.seen.wrong.append((self.at, "a call failed", fault))
 
-    def one_job(self, bank: Client, job: str) -> None:
+    def one_job(self, bank: RemoteBank, job: str) -> None:
         """A job joins, asks, waits, gives back and leaves."""
         claim = {name: self.rng.randint(0, amount) for name, amount in CAPITAL.items()}
         holds = dict.fromkeys(CAPITAL, 0)
@@ -135,14 +135,14 @@ class Worker(threading.Thread):
             for name, amount in need.items():
                 holds[name] += amount
 
-    def give(self, bank: Client, job: str, holds: dict[str, int], back: dict[str, int]) -> None:
+    def give(self, bank: RemoteBank, job: str, holds: dict[str, int], back: dict[str, int]) -> None:
         """Gives back."""
         self.seen.held.append((time.monotonic(), -1, back))
         bank.give(job, back)
         for name, amount in back.items():
             holds[name] -= amount
 
-    def compare(self, bank: Client, job: str, holds: dict[str, int]) -> None:
+    def compare(self, bank: RemoteBank, job: str, holds: dict[str, int]) -> None:
         """Compares what the job holds with what the bank says."""
         rows = [line.split(" ") for line in bank.state() if line.startswith(f"job {job} ")]
         self.seen.compared += 1

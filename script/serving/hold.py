@@ -1,9 +1,6 @@
 """`./parbegin hold`: runs a command while it holds resources of a served bank."""
 from __future__ import annotations
 
-# (`signal` and `ctypes` are these with more, which takes longer to import than Python takes to start)
-import _ctypes
-import _signal as signal
 import os
 import sys
 import time
@@ -11,6 +8,17 @@ import time
 from script.serving.amounts import spell
 from script.serving.client import Client, Fault, SessionLost, now
 from script.serving.hold_words import HELP, USE, Options, WrongWords, read_words
+
+TYPE_CHECKING = False
+if TYPE_CHECKING:
+    import signal
+    from typing import Any
+
+    _ctypes: Any
+else:
+    # (`signal` and `ctypes` are these with more, which takes longer to import than Python takes to start)
+    import _ctypes
+    import _signal as signal
 
 WORDS, UNAVAILABLE, LOST, CANNOT_RUN, NOT_FOUND = 2, 69, 75, 126, 127
 # What stops a hold that waits, and is passed on to the command of one that does not.

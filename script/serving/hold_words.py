@@ -5,6 +5,10 @@ import os
 
 from script.serving.amounts import read_amounts
 
+TYPE_CHECKING = False
+if TYPE_CHECKING:
+    from collections.abc import Iterator
+
 USE = 'parbegin hold [OPTIONS] "K R, .." -- COMMAND ..'
 HELP = """Run a command while it holds resources of a served bank, as flock(1) does with a file, and without deadlock
 
@@ -45,7 +49,7 @@ class Options:
     """What the words of a call say."""
 
     def __init__(self, given: dict[str, str], amounts: str, command: list[str]) -> None:
-        self.address = given.get("socket") or os.environ.get("PARBEGIN_SOCKET", "")
+        self.address = given["socket"] if "socket" in given else os.environ.get("PARBEGIN_SOCKET", "")
         self.amounts, self.command = amounts_of(amounts), command
         self.claim = amounts_of(given["claim"]) if "claim" in given else None
         self.name = given.get("name")
@@ -80,6 +84,13 @@ def seconds_of(value: str) -> float:
     return float(value)
 
 
+def value_of(name: str, left: Iterator[str]) -> str:
+    """Returns the next word, as the value of an option."""
+    for value in left:
+        return value
+    raise WrongWords(f"a value is required for '{name}' but none was supplied")
+
+
 def read_options(words: list[str]) -> tuple[dict[str, str], list[str]]:
     """Returns the options before the command, and the other words."""
     given: dict[str, str] = {}
@@ -92,10 +103,7 @@ def read_options(words: list[str]) -> tuple[dict[str, str], list[str]]:
         elif name in WITHOUT and not sign:
             given[WITHOUT[name]] = ""
         elif name in WITH_VALUE:
-            following = value if sign else next(left, None)
-            if following is None:
-                raise WrongWords(f"a value is required for '{name}' but none was supplied")
-            given[WITH_VALUE[name]] = following
+            given[WITH_VALUE[name]] = value if sign else value_of(name, left)
         else:
             raise WrongWords(f"unexpected argument '{word}' found")
     return given, others

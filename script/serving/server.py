@@ -12,8 +12,9 @@ from dataclasses import dataclass
 
 from script.serving.bank import BankProcess
 from script.serving.connections import ENDED, Connection, Item
-from script.serving.desk import Desk, Done
+from script.serving.desk import Desk
 from script.serving.journal import Journal
+from script.serving.sessions import Done
 from script.serving.snapshots import restored, snapshot
 from script.serving.words import MAX_CLIENTS, MAX_SESSIONS, refused
 

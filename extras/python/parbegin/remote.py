@@ -71,7 +71,8 @@ class RemoteBank:
         Raises Fault if no server answers within `patience` seconds. Over TLS `token` lets the client in, and `authority` is a
         file with the certificate of who signed that of the server.
         """
-        self._wire = Wire(address or os.environ.get("PARBEGIN_SOCKET", ""), lease, token, authority)
+        where = os.environ.get("PARBEGIN_SOCKET", "") if address is None else address
+        self._wire = Wire(where, lease, token, authority)
         self._lease = lease
         self._turn = threading.Condition()
         self._requests: dict[int, Request] = {}
