@@ -1,12 +1,13 @@
 #!/usr/bin/env python3
 """Serves the bank, and compares what clients are told with what the bank says, before and after a kill.
 
-    checks/quick/served.py [PROGRAM]     PROGRAM is the one that ./parbegin has built if none is given
+    checks/quick/served.py [PROGRAM [PART ..]]     PROGRAM is the one that ./parbegin has built if none is given
 
 Drawn commands of several sessions are given to the desk: what it answers has to be the same if its entries are replayed,
 if it is made anew of a snapshot, and if a request is repeated. Odd lines have to be answered as by the bank itself. Each
 refusal of the server is brought about, a killed server goes on where it was, two scripts that take tape and disk in
-opposite order have to end under `hold`, and its statuses are tried. Its status is 0 if all is as wanted, and 1 if not.
+opposite order have to end under `hold`, and its statuses are tried. All parts are tried if none is named. Its status is 0
+if all is as wanted, and 1 if not.
 """
 from __future__ import annotations
 
@@ -25,6 +26,7 @@ import tempfile
 import threading
 import time
 import urllib.request
+from collections.abc import Callable, Sequence
 from contextlib import suppress
 
 sys.path.insert(0, str(pathlib.Path(__file__).resolve().parents[1] / "lib"))
@@ -35,13 +37,15 @@ sys.path.insert(1, str(TOP / "extras/python"))
 
 from parbegin import Answer, Ended, RemoteBank  # noqa: E402
 from script.serving.bank import BankProcess  # noqa: E402
-from script.serving.desk import Desk  # noqa: E402
+from script.serving.desk import Desk, Diverged  # noqa: E402
 from script.serving.snapshots import restored, snapshot  # noqa: E402
 from script.serving.words import KEPT, MAX_COMMAND, MAX_LINE  # noqa: E402
 
-HISTORIES, COMMANDS, LINES = 3, 150, 1500
+HISTORIES, COMMANDS, LINES = 2, 300, 1500
 UNAVAILABLE, NOT_FOUND = 69, 127
 SESSIONS = (1, 2, 3)
+AT_SERVER = ("lines", "refusals", "statuses", "waits", "kill", "remote", "http", "words", "tls")
+PARTS = ("desk", *AT_SERVER, "limits", "activation", "opposite")
 SCRIPTS = sorted((TOP / "examples/11-serving").glob("*.sh"))
 
 
@@ -121,6 +125,9 @@ def try_desk(tally: Tally) -> None:
             tally.expect(later == it.answers[at:], "history", seed, "from entry", at, "has other answers")
             tally.expect(seen(copy) == seen(it.desk), "history", seed, "from entry", at, "leads to another desk")
             copy.bank.close()
+        with suppress(Diverged):
+            it.desk.apply(f"D {it.desk.newest_mark} 0")
+            tally.expect(False, "a desk goes on where other answers were given")
         it.desk.bank.close()
 
 
@@ -179,6 +186,8 @@ def try_refusals(tally: Tally, served: Served) -> None:
         tally.expect(second.say("7 ask a 1 tape") == ["7 granted a 1 tape"], "who has the key is not granted anything")
         tally.expect(second.say("7 ask a 1 tape") == ["7 granted a 1 tape"], "a repetition has another answer")
         tally.expect(first.say("2 give a 2 tape") == ["2 refused B11 the job does not hold as much: tape"], "it was granted twice")
+        second.say("end")
+        tally.expect("job a tape claim 2 holds 0 needs 2" in first.say("state"), "an ended session keeps what it got by `use`")
         for number in range(3, KEPT + 4):
             first.say(f"{number} give a 0 tape")
         tally.expect(code_of(first.say("2 give a 1 tape")) == "S6", "an answer is kept for ever")
@@ -209,6 +218,26 @@ def try_limits(tally: Tally, script: str, folder: pathlib.Path) -> None:
                 third.send(*["help"] * 200)
         tally.expect(first.say("1 job a 1 tape") == [], "others wait for one that never reads")
     tally.expect(served.end() == DONE, "SIGTERM does not end a server with status 0")
+
+
+def try_activation(tally: Tally, script: str, folder: pathlib.Path) -> None:
+    """Hands a server its socket, as systemd does, and waits for it to say that it is ready."""
+    with socket.socket(socket.AF_UNIX, socket.SOCK_DGRAM) as told, socket.socket(socket.AF_UNIX) as handed:
+        told.settimeout(WATCHDOG)
+        told.bind(f"{folder}/told")
+        handed.bind(f"{folder}/handed")
+        handed.listen()
+        words = [script, "serve", "--journal", f"{folder}/journal", "--capital", "1 tape"]
+        start = 'LISTEN_PID=$$ LISTEN_FDS=1 exec "$@" 3<&0 </dev/null'
+        where = {**os.environ, "NOTIFY_SOCKET": f"{folder}/told"}
+        with subprocess.Popen(["sh", "-c", start, "sh", *words], stdin=handed, env=where, stderr=subprocess.DEVNULL) as served:
+            try:
+                tally.expect(told.recv(100) == b"READY=1", "a server does not say that it is ready")
+                with Wire(f"{folder}/handed") as wire:
+                    tally.expect(wire.say("state") == ["resource tape capital 1 cash 1"], "a socket that was handed on")
+            finally:
+                served.terminate()
+            tally.expect(told.recv(100) == b"STOPPING=1", "a server does not say that it ends")
 
 
 class Holds:
@@ -272,20 +301,27 @@ def try_waits(tally: Tally, it: Holds, served: Served) -> None:
         stopped = it.start("1 tape", "--", "true")
         wait_for(lambda: any(line.startswith("wish") for line in wire.say("state")))
         stopped.terminate()
-        tally.expect(stopped.wait() == 128 + signal.SIGTERM, "a signal does not end a hold that waits")
+        tally.expect(stopped.wait(WATCHDOG) == 128 + signal.SIGTERM, "a signal does not end a hold that waits")
         tally.expect(not any(line.startswith("wish") for line in wire.say("state")), "a hold that was stopped leaves its wish")
         waits = it.start("1 tape", "--", "echo", "granted")
         wait_for(lambda: any(line.startswith("wish") for line in wire.say("state")))
         holder.terminate()
-        tally.expect(holder.wait() == 128 + signal.SIGTERM, "a signal is not passed on")
-        tally.expect(waits.communicate()[0] == b"granted\n", "a hold that waited does not run")
+        tally.expect(holder.wait(WATCHDOG) == 128 + signal.SIGTERM, "a signal is not passed on")
+        tally.expect(waits.communicate(timeout=WATCHDOG)[0] == b"granted\n", "a hold that waited does not run")
         tally.expect(not any(line.startswith("job") for line in wire.say("state")), "a hold leaves its job")
 
 
-def wait_for(condition: object) -> None:
+def has_ended(pid: int) -> bool:
+    """Returns whether a process has ended, also if nobody has asked for its status."""
+    with suppress(OSError):
+        return ") Z " in pathlib.Path(f"/proc/{pid}/stat").read_text()
+    return True
+
+
+def wait_for(condition: Callable[[], object]) -> None:
     """Waits until something is so."""
     end = time.monotonic() + WATCHDOG
-    while not condition():  # type: ignore[operator]
+    while not condition():
         if time.monotonic() > end:
             raise TimeoutError("it does not come to that")
         time.sleep(0.05)
@@ -313,7 +349,7 @@ def try_kill(tally: Tally, it: Holds, served: Served) -> None:
     for hold in (holder, lasting):
         assert hold.stdout is not None
         hold.stdout.readline()
-    holder.wait()
+    holder.wait(WATCHDOG)
     with Wire(served.socket) as wire:
         session = wire.say("session 60")[0].split(" ")
         tally.expect(wire.say("1 job waits 2 gpu") == [] and wire.say("2 want waits 2 gpu") == ["2 queued"], "a wish does not wait")
@@ -325,7 +361,7 @@ def try_kill(tally: Tally, it: Holds, served: Served) -> None:
         tally.expect(wire.say(f"attach {session[1]} {session[2]} 0") == ["attached 2"], "a session is lost")
         tally.expect(wire.say("2 want waits 2 gpu") == ["2 queued"], "an answer is lost")
         lasting.terminate()
-        tally.expect(lasting.wait() == 128 + signal.SIGTERM, "a hold ends with its server", lasting.returncode)
+        tally.expect(lasting.wait(WATCHDOG) == 128 + signal.SIGTERM, "a hold ends with its server", lasting.returncode)
         wait_for(lambda: wire.say("3 why waits 0 gpu") and wire.notices)
         tally.expect(wire.notices == ["notice 1 granted waits 2 gpu"], "other notices came", wire.notices)
     with Wire(served.socket) as wire:
@@ -338,7 +374,7 @@ def try_kill(tally: Tally, it: Holds, served: Served) -> None:
         pid = int(killed.stdout.readline())
         killed.kill()
         wait_for(lambda: not any(line.startswith("job") for line in wire.say("state")))
-        wait_for(lambda: not pathlib.Path(f"/proc/{pid}").exists() or "(sleep) Z" in pathlib.Path(f"/proc/{pid}/stat").read_text())
+        wait_for(lambda: has_ended(pid))
         killed.communicate()
 
 
@@ -457,35 +493,47 @@ def try_words(tally: Tally, script: str, served: Served) -> None:
         tally.expect(ran.returncode == status and told in said, "serve", *words, "ends with", ran.returncode, said)
 
 
+def try_at_server(tally: Tally, script: str, folder: pathlib.Path, parts: Sequence[str]) -> None:
+    """Tries the parts that need one server."""
+    port, page = free_port(), f"localhost:{free_port()}"
+    tls = ["--tcp", f"localhost:{port}", *certified(folder)] if shutil.which("openssl") else []
+    served = Served([script, "serve"], folder, "--http", page, *tls, "--snapshot-every", "40")
+    served.start()
+    holds = Holds(script, served)
+    calls: dict[str, Callable[[], None]] = {
+        "lines": lambda: try_lines(tally, served), "refusals": lambda: try_refusals(tally, served),
+        "statuses": lambda: try_statuses(tally, holds), "waits": lambda: try_waits(tally, holds, served),
+        "kill": lambda: try_kill(tally, holds, served), "remote": lambda: try_remote(tally, served),
+        "http": lambda: try_http(tally, served, page), "words": lambda: try_words(tally, script, served),
+    }
+    if tls:
+        calls["tls"] = lambda: try_tls(tally, holds, folder, port)
+    try:
+        for part, call in calls.items():
+            if part in parts:
+                call()
+        tally.expect(served.end() == DONE, "SIGTERM does not end a server with status 0")
+    finally:
+        served.kill()
+
+
 def main() -> None:
-    tally = Tally()
+    tally, parts = Tally(), sys.argv[2:] or PARTS
     with tempfile.TemporaryDirectory(prefix="parbegin-served-") as name:
         folder = pathlib.Path(name)
         script = installed(folder / "installed")
-        for part in ("first", "limits", "opposite"):
+        for part in ("one", "limits", "activation", "opposite"):
             (folder / part).mkdir()
-        try_desk(tally)
-        port, page = free_port(), f"localhost:{free_port()}"
-        tls = ["--tcp", f"localhost:{port}", *certified(folder)] if shutil.which("openssl") else []
-        served = Served([script, "serve"], folder / "first", "--http", page, *tls, "--snapshot-every", "40")
-        served.start()
-        try:
-            holds = Holds(script, served)
-            try_lines(tally, served)
-            try_refusals(tally, served)
-            try_statuses(tally, holds)
-            try_waits(tally, holds, served)
-            try_kill(tally, holds, served)
-            try_remote(tally, served)
-            try_http(tally, served, page)
-            try_words(tally, script, served)
-            if tls:
-                try_tls(tally, holds, folder, port)
-            tally.expect(served.end() == DONE, "SIGTERM does not end a server with status 0")
+        if "desk" in parts:
+            try_desk(tally)
+        if {*parts} & {*AT_SERVER}:
+            try_at_server(tally, script, folder / "one", parts)
+        if "limits" in parts:
             try_limits(tally, script, folder / "limits")
+        if "activation" in parts:
+            try_activation(tally, script, folder / "activation")
+        if "opposite" in parts:
             try_opposite(tally, script, folder / "opposite")
-        finally:
-            served.kill()
     tally.end("served")
 
 
