@@ -268,6 +268,8 @@ def try_statuses(tally: Tally, it: Holds) -> None:
         (["1 tape", "--", "sh", "-c", "exit 7"], 7, ""),
         (["1 tape", "--", "sh", "-c", "kill -TERM $$"], 128 + signal.SIGTERM, ""),
         (["1 tape, 2 disk", "--", "echo", "--nowait"], DONE, "--nowait\n"),
+        (["2 tape", "--", it.script, "hold", "2 tape", "--", "true"], UNAVAILABLE, "does not allow as much of tape"),
+        (["2 tape", "--", it.script, "hold", "--name", "own", "1 tape", "--", "echo", "own"], DONE, "own\n"),
         (["1 tape", "--", "/no/such"], NOT_FOUND, "there is no such command"),
         (["9 tape", "--", "true"], UNAVAILABLE, "refused B10"),
         (["--claim", "1 tape", "1 disk", "--", "true"], UNAVAILABLE, "does not allow as much of disk"),

@@ -84,7 +84,7 @@ class Hold:
 
     def __init__(self, client: Client, options: Options) -> None:
         self.client, self.options = client, options
-        inside = os.environ.get("PARBEGIN_JOB", "") if options.claim is None and options.name is None else ""
+        inside = options.inside
         self.job = inside or options.name or name_of(options.command[0])
         self.key = os.environ.get("PARBEGIN_KEY", "") if inside else ""
         self.first = f"use {inside} {self.key}" if inside else f"job {self.job} {spell(options.claim or options.amounts)}"
@@ -95,7 +95,7 @@ class Hold:
     def obtain(self) -> str | None:
         """Joins and waits for the grant. Returns the fence; nothing, if it was not granted in time."""
         numbers = self.client.open([self.first, self.request, "fence"])
-        joined, said, fence = (self.client.answer(number) for number in numbers)
+        joined, said, fence = (self.client.answer(number, self.client.patience) for number in numbers)
         while self.is_full(joined):
             if not self.pause(f"{self.job} waits: there are as many jobs as there can be", JOIN):
                 return None

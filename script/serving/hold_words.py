@@ -49,16 +49,25 @@ class Options:
     """What the words of a call say."""
 
     def __init__(self, given: dict[str, str], amounts: str, command: list[str]) -> None:
-        self.address = given["socket"] if "socket" in given else os.environ.get("PARBEGIN_SOCKET", "")
         self.amounts, self.command = amounts_of(amounts), command
         self.claim = amounts_of(given["claim"]) if "claim" in given else None
         self.name = given.get("name")
+        around = os.environ.get("PARBEGIN_SOCKET", "")
+        self.address = absolute(given.get("socket", around))
+        # the job within whose command this one is, if it is at the same server
+        is_inside = self.claim is None and self.name is None and self.address == absolute(around)
+        self.inside = os.environ.get("PARBEGIN_JOB", "") if is_inside else ""
         self.is_patient, self.is_verbose = "nowait" not in given, "verbose" in given
         self.timeout = seconds_of(given["timeout"]) if "timeout" in given else None
         self.conflict = number_of("-E", given.get("conflict", "1"), 0, 255)
         self.lease = number_of("--lease", given.get("lease", "10"), MIN_LEASE, MAX_LEASE)
         if not self.address:
             raise WrongWords("neither '--socket' nor PARBEGIN_SOCKET says where the bank is served")
+
+
+def absolute(address: str) -> str:
+    """Returns an address that is the same from every folder."""
+    return os.path.abspath(address) if address and ("/" in address or ":" not in address) else address
 
 
 def amounts_of(text: str) -> dict[str, int]:

@@ -112,6 +112,8 @@ class Pages:
         if path == "/health":
             is_well = self.server.is_answering
             return self.whole("200 OK" if is_well else "503 Service Unavailable", "text/plain", "serves\n" if is_well else "ends\n")
+        if path == "/events":
+            return self.whole("503 Service Unavailable", "text/plain", f"{MOST_VIEWERS} browsers are told of changes already\n")
         return self.whole("404 Not Found", "text/plain", "/, /events, /state, /metrics, /health\n")
 
     @staticmethod
