@@ -98,7 +98,7 @@ def plant(folder: pathlib.Path, fault: Fault) -> None:
 def is_found(folder: pathlib.Path, fault: Fault) -> bool:
     """Returns whether the check finds a fault: at the first thing that is wrong it is ended."""
     given = program(["bank"])
-    words = ["slow/served_storm.py", given, "20", "1"] if fault.part == STORM else ["quick/served.py", given, fault.part]
+    words = ["slow/served_storm.py", given, "20", "1", "random"] if fault.part == STORM else ["quick/served.py", given, fault.part]
     how = {"cwd": folder, "env": {**os.environ, "PYTHONDONTWRITEBYTECODE": "1"}, "text": True, "start_new_session": True}
     with subprocess.Popen(
         [sys.executable, f"checks/{words[0]}", *words[1:]], stderr=subprocess.PIPE, stdout=subprocess.DEVNULL, **how

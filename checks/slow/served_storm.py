@@ -1,13 +1,16 @@
 #!/usr/bin/env python3
 """Kills a served bank again and again while many clients use it, and looks whether anything is lost or done twice.
 
-    checks/slow/served_storm.py [PROGRAM [SECONDS [SEED]]]     PROGRAM is the one that ./parbegin has built if none is given
+    checks/slow/served_storm.py [PROGRAM [SECONDS [SEED [PART ..]]]]
+
+PROGRAM is the one that ./parbegin has built if none is given; all parts are tried if none is named.
 
 Each client compares what it holds with `state`. What they surely held at each moment is added up, and has to be within
 the capital. Then the journal is replayed over a second bank, the model of checks/lib/bank_model.py, and each answer that a
 client got has to be the one that comes of it. The server is killed at random, and at points that are chosen: before and
 after a batch is written, carried out and answered, and while a snapshot takes the place of batches. Besides, write-ahead
-logs are cut and spoiled after what was acknowledged, and the disk is full. Its status is 0 if all is as wanted, and 1 if not.
+logs are cut and spoiled after what was acknowledged, the disk is full, and a thousand clients are there. Its status is 0 if
+all is as wanted, and 1 if not.
 """
 from __future__ import annotations
 
@@ -15,6 +18,7 @@ import asyncio
 import os
 import pathlib
 import random
+import resource
 import shutil
 import signal
 import sqlite3
@@ -22,13 +26,14 @@ import sys
 import tempfile
 import threading
 import time
-from contextlib import closing, suppress
+from collections.abc import Sequence
+from contextlib import ExitStack, closing, suppress
 
 sys.path.insert(0, str(pathlib.Path(__file__).resolve().parents[1] / "lib"))
 
 from bank_model import Model  # noqa: E402
 from calls import DEVICE, TOP, Tally, installed, program  # noqa: E402
-from served_bank import CAPITAL, PATIENCE, Served  # noqa: E402
+from served_bank import CAPITAL, PATIENCE, Served, Wire  # noqa: E402
 from served_killed import POINTS  # noqa: E402
 
 sys.path.insert(1, str(TOP / "extras/python"))
@@ -39,6 +44,7 @@ from script.serving.desk import Desk  # noqa: E402
 from script.serving.journal import Journal  # noqa: E402
 
 CLIENTS, SECONDS, LOGS = 8, 20.0, 300
+PARTS = ("torn", "full", "crowd", "random", "points")
 KILLED = TOP / "checks/lib/served_killed.py"
 # What is not in the journal, and may be answered anew.
 READING = ("state", "why", "order", "fence", "beat", "end")
@@ -93,7 +99,7 @@ class Worker(threading.Thread):
     """A client whose jobs come and go, and that knows what they hold."""
 
     def __init__(self, at: int, served: Served, seen: Seen, end: float, seed: int) -> None:
-        super().__init__()
+        super().__init__(daemon=True)
         self.at, self.served, self.seen, self.end, self.rng = at, served, seen, end, random.Random(f"{seed}-{at}")
 
     def run(self) -> None:
@@ -172,12 +178,29 @@ def compare_history(tally: Tally, folder: pathlib.Path, seen: Seen) -> int:
 
 def storm(tally: Tally, served: Served, kind: str, seconds: float, seed: int) -> None:
     """Lets clients use the bank while the server is killed, and looks at what they saw."""
-    rng, seen, kills = random.Random(seed), Seen(), 0
+    rng, seen = random.Random(seed), Seen()
     # (it may come to its point before it answers)
     with suppress(RuntimeError):
         served.start(**killed_at(rng, kind))
     end = time.monotonic() + seconds
     workers = [Worker(at, served, seen, end, seed) for at in range(CLIENTS)]
+    try:
+        kills = kill_again(served, rng, kind, end, workers)
+        tally.expect(not any(worker.is_alive() for worker in workers), kind, "a client waits for ever")
+        tally.expect(not seen.wrong, kind, len(seen.wrong), "are wrong:", *seen.wrong[:3])
+        tally.expect(not seen.over_capital(), kind, "more is lent than there is:", *seen.over_capital())
+        with RemoteBank(served.socket, patience=PATIENCE) as bank:
+            left = [line for line in bank.state() if line.startswith(("job", "wish"))]
+        tally.expect(not left, kind, "something is left", *left)
+    finally:
+        served.kill()
+    answers = compare_history(tally, pathlib.Path(served.socket).parent, seen) if kind == "random" else len(seen.answers)
+    print(f"{kind}: {kills} kills, {answers} answers, {seen.compared} looks at the state, seed {seed}", flush=True)
+
+
+def kill_again(served: Served, rng: random.Random, kind: str, end: float, workers: Sequence[threading.Thread]) -> int:
+    """Starts the clients, and kills the server until their time is up. Returns how often it was killed."""
+    kills = 0
     for worker in workers:
         worker.start()
     last = end + 10 * PATIENCE
@@ -190,14 +213,7 @@ def storm(tally: Tally, served: Served, kind: str, seconds: float, seed: int) ->
             kills += 1
             with suppress(RuntimeError):
                 served.start(**(killed_at(rng, kind) if time.monotonic() < end else {}))
-    tally.expect(not any(worker.is_alive() for worker in workers), kind, "a client waits for ever")
-    tally.expect(not seen.wrong, kind, len(seen.wrong), "are wrong:", *seen.wrong[:3])
-    tally.expect(not seen.over_capital(), kind, "more is lent than there is:", *seen.over_capital())
-    with RemoteBank(served.socket, patience=PATIENCE) as bank:
-        tally.expect(not any(line.startswith(("job", "wish")) for line in bank.state()), kind, "something is left", *bank.state())
-    served.end(signal.SIGKILL)
-    answers = compare_history(tally, pathlib.Path(served.socket).parent, seen) if kind == "random" else len(seen.answers)
-    print(f"{kind}: {kills} kills, {answers} answers, {seen.compared} looks at the state, seed {seed}", flush=True)
+    return kills
 
 
 def killed_at(rng: random.Random, kind: str) -> dict[str, str]:
@@ -250,6 +266,35 @@ def try_torn(tally: Tally, folder: pathlib.Path, rng: random.Random) -> None:
             shutil.rmtree(copy)
 
 
+def try_crowd(tally: Tally, start: list[str], folder: pathlib.Path) -> None:
+    """Has a thousand clients that say nothing, some that flood and never read, and some that send any bytes: others are answered."""
+    # (it has to ask for more files than a shell gives)
+    rng, served = random.Random(1), Served(["sh", "-c", 'ulimit -Sn 1024; exec "$@"', "sh", *start], folder)
+    served.start()
+    with ExitStack() as all_of_them:
+        crowd = [all_of_them.enter_context(Wire(served.socket)) for _ in range(1000)]
+        tally.expect(all(wire.say("hello") for wire in crowd), "a client of many is not answered")
+        for wire in crowd[:8]:
+            wire.socket.settimeout(2)
+            with suppress(OSError):
+                for _ in range(500):
+                    wire.send(*["help"] * 100)
+        for wire in crowd[8:40]:
+            with suppress(OSError):
+                wire.socket.sendall(rng.randbytes(20_000))
+        slowest = 0.0
+        with RemoteBank(served.socket, patience=PATIENCE) as bank:
+            bank.join("a", {"tape": 3})
+            for _ in range(100):
+                began = time.monotonic()
+                tally.expect(bank.ask("a", {"tape": 1}) is Answer.GRANTED, "a client of many is not granted anything")
+                bank.give("a", {"tape": 1})
+                slowest = max(slowest, time.monotonic() - began)
+        tally.expect(slowest < PATIENCE / 4, "a client of many waits", slowest, "seconds")
+        print(f"crowd: two answers take at most {slowest:.2f} seconds", flush=True)
+    tally.expect(served.end() == 0, "a server with a crowd does not end")
+
+
 def start_again(served: Served, words: list[str], statuses: list[int]) -> None:
     """Starts a server anew, by other words, once it has ended."""
     assert served.process is not None
@@ -263,7 +308,7 @@ def try_full(tally: Tally, start: list[str], folder: pathlib.Path) -> None:
     served, statuses, held = Served(start, folder), list[int](), 0
     words, served.words = served.words, ["sh", "-c", 'ulimit -f 300; exec "$@"', "sh", *served.words]
     served.start()
-    watcher = threading.Thread(target=start_again, args=(served, words, statuses))
+    watcher = threading.Thread(target=start_again, args=(served, words, statuses), daemon=True)
     watcher.start()
     with RemoteBank(served.socket, lease=300, patience=PATIENCE) as bank:
         bank.join("a", {"tape": 3})
@@ -282,24 +327,32 @@ def try_full(tally: Tally, start: list[str], folder: pathlib.Path) -> None:
     served.end(signal.SIGKILL)
 
 
+def allow_files() -> None:
+    """Lets this check have the files of a crowd."""
+    hard = resource.getrlimit(resource.RLIMIT_NOFILE)[1]
+    resource.setrlimit(resource.RLIMIT_NOFILE, (hard, hard))
+
+
 def main() -> None:
+    allow_files()
     seconds = float(sys.argv[2]) if len(sys.argv) > 2 else SECONDS
     seed = int(sys.argv[3]) if len(sys.argv) > 3 else random.randrange(1_000_000)
-    tally = Tally()
+    tally, parts = Tally(), sys.argv[4:] or PARTS
     with tempfile.TemporaryDirectory(prefix="parbegin-storm-") as name:
         folder = pathlib.Path(name)
         start = [installed(folder / "installed"), "serve"]
         killed = [sys.executable, str(KILLED), program(["bank"])]
-        for part in ("random", "points", "torn", "full"):
+        for part in PARTS:
             (folder / part).mkdir()
-        try_torn(tally, folder / "torn", random.Random(seed))
-        try_full(tally, start, folder / "full")
+        if "torn" in parts:
+            try_torn(tally, folder / "torn", random.Random(seed))
+        if "full" in parts:
+            try_full(tally, start, folder / "full")
+        if "crowd" in parts:
+            try_crowd(tally, start, folder / "crowd")
         for kind, words, every in (("random", start, "1000000"), ("points", killed, "20")):
-            served = Served(words, folder / kind, "--snapshot-every", every)
-            try:
-                storm(tally, served, kind, seconds, seed)
-            finally:
-                served.kill()
+            if kind in parts:
+                storm(tally, Served(words, folder / kind, "--snapshot-every", every), kind, seconds, seed)
     tally.end("served_storm")
 
 

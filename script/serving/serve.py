@@ -4,6 +4,7 @@ from __future__ import annotations
 import asyncio
 import os
 import re
+import resource
 import signal
 import sqlite3
 from collections.abc import Sequence
@@ -47,6 +48,8 @@ WITH_VALUE = (
     "--journal", "--socket", "--mode", "--capital", "--tcp", "--cert", "--key", "--tokens", "--http", "--clients", "--sessions",
     "--snapshot-every",
 )
+# The files of a server beside its connections, with those of browsers.
+SPARE_FILES = 128
 OF_TLS = ("--cert", "--key", "--tokens")
 
 
@@ -153,9 +156,19 @@ async def answer(server: Server, first: Sequence[str], opened: Sequence[asyncio.
     listening.notify("STOPPING=1")
 
 
+def allow_files(clients: int) -> None:
+    """Lets this process have as many files as its clients need, as far as it may."""
+    soft, hard = resource.getrlimit(resource.RLIMIT_NOFILE)
+    wanted = clients + SPARE_FILES
+    if resource.RLIM_INFINITY != soft < wanted:
+        most = wanted if hard == resource.RLIM_INFINITY else min(wanted, hard)
+        resource.setrlimit(resource.RLIMIT_NOFILE, (max(soft, most), hard))
+
+
 def call(start: list[str], words: list[str]) -> int:
     """Serves until it is told to stop, and returns the status."""
     given, limits = read_words(words)
+    allow_files(limits.clients)
     try:
         asyncio.run(serve([start[0], "bank"], given.options, limits))
     except (BankEnded, Diverged, WrongJournal, WrongSnapshot) as why:
