@@ -32,6 +32,9 @@ put 755 "$top/parbegin" "$prefix/bin" parbegin
 for module in "$top"/script/*.py; do
     put 644 "$module" "$prefix/libexec/parbegin/script" "${module##*/}"
 done
+for file in "$top"/script/serving/*.py "$top"/script/serving/page.html; do
+    put 644 "$file" "$prefix/libexec/parbegin/script/serving" "${file##*/}"
+done
 put 755 "$top/script/tools.sh" "$prefix/libexec/parbegin/script" tools.sh
 for file in "$top"/extras/page/*.js "$top"/extras/page/page.css "$top"/extras/page/page.html "$top"/extras/page/make_page.py; do
     put 644 "$file" "$prefix/share/parbegin/page" "${file##*/}"

@@ -17,8 +17,10 @@ here, and with 2 if the program is called by itself.
 
 Further commands, each with a help of its own:
   grade   Judge the texts of a folder, each against one exercise
+  hold    Run a command while it holds resources of a served bank
   page    Make a page of a program for a browser
   sample  Draw many runs of a program, and count how often each outcome came
+  serve   Answer many clients from one bank, which a journal keeps
 
 `parbegin help words` says what words of textbooks, such as available, need and race, are called here.
 """

@@ -192,6 +192,10 @@ def main(words: list[str]) -> int:
             return package([program(*CALLS["package"])])
         if words[:1] == ["build"]:
             return build(words[1:])
+        if words[:1] == ["hold"] or words == ["help", "hold"]:
+            from script.serving.hold import call
+
+            return call(words[1:] if words[:1] == ["hold"] else ["--help"])
         own = own_call(words)
         if own:
             return run_own(own)

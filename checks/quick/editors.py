@@ -37,6 +37,10 @@ OF_SCRIPT = {"check": {"format", "jobs"}, "plan": {"format", "table", "csv", "jo
 COMMANDS_OF_SCRIPT = {
     "grade": {"any", "fair", "lend", "states", "jobs", "csv", "html"}, "page": {"seed", "lend", "from", "rows", "states"},
     "sample": {"runs", "seed", "lend", "steps", "events", "jobs"},
+    "hold": {"socket", "claim", "name", "nowait", "timeout", "conflict", "lease", "verbose"},
+    "serve": {
+        "journal", "socket", "mode", "capital", "tcp", "cert", "key", "tokens", "http", "clients", "sessions", "snapshot",
+    },
 }
 BEFORE = {
     BASH: ("--unproved", "--quiet", "--json"), FISH: ("-l unproved", "-l quiet", "-l json"),

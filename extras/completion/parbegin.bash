@@ -6,7 +6,7 @@ _parbegin() {
         at=$((at + 1))
     done
     if ((COMP_CWORD <= at)); then
-        local commands="bank check claims dap debug draw emit exec explain grade lsp migrate outcomes page plan record replay run sample states help --help --version"
+        local commands="bank check claims dap debug draw emit exec explain grade hold lsp migrate outcomes page plan record replay run sample serve states help --help --version"
         if [[ ${COMP_WORDS[at - 1]} != --quiet && ${COMP_WORDS[at - 1]} != --json ]]; then
             commands+=" --quiet"
         fi
@@ -58,6 +58,7 @@ _parbegin() {
         return
         ;;
     grade) options="--any-order --fair --lend --states --jobs --csv --html" ;;
+    hold) options="--socket --claim --name --nowait --timeout --conflict-exit-code --lease --verbose" ;;
     migrate) options="" ;;
     outcomes) options="--states --lend --first-deadlock --prints --fair --expect --any-order --endless --graph --run --deadlock" ;;
     page) options="--seed --lend --from --rows --states" ;;
@@ -66,10 +67,13 @@ _parbegin() {
     replay) options="--lend" ;;
     run) options="--workers --quantum --steps --seed --lend" ;;
     sample) options="--runs --seed --lend --steps --events --jobs" ;;
+    serve)
+        options="--journal --socket --mode --capital --tcp --cert --key --tokens --http --clients --sessions --snapshot-every"
+        ;;
     states) options="--rows --from --lend" ;;
     help)
         # its word is a command
-        local named="bank check claims dap debug draw emit exec explain grade lsp migrate outcomes page plan record replay run sample states"
+        local named="bank check claims dap debug draw emit exec explain grade hold lsp migrate outcomes page plan record replay run sample serve states"
         mapfile -t COMPREPLY < <(compgen -W "$named" -- "$word")
         return
         ;;

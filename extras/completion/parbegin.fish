@@ -1,5 +1,5 @@
 # Completion of parbegin for fish. To use it: copy this file to ~/.config/fish/completions, or let install.sh do it.
-set -l commands bank check claims dap debug draw emit exec explain grade lsp migrate outcomes page plan record replay run sample states help
+set -l commands bank check claims dap debug draw emit exec explain grade hold lsp migrate outcomes page plan record replay run sample serve states help
 
 complete -c parbegin -n "not __fish_seen_subcommand_from $commands" -f
 complete -c parbegin -n "not __fish_seen_subcommand_from $commands" -l unproved -d "Run the sources with no proof"
@@ -19,6 +19,7 @@ complete -c parbegin -n "not __fish_seen_subcommand_from $commands" -a exec -d "
 set -l codes L1 L2 L3 L4 P1 P2 P3 N1 N2 N3 N4 N6 C1 E1 O1 O2 V1 V2 V3 V4 V5 V6 V7 V8 V9 K1 K2 H1 G1 G2 G3 G4 B1 B2 B3 B4 B5 B6 B7 B8 B9 B10 B11 B12 B13 input output
 complete -c parbegin -n "not __fish_seen_subcommand_from $commands" -a explain -d "Print what a refusal means"
 complete -c parbegin -n "not __fish_seen_subcommand_from $commands" -a grade -d "Judge the texts of a folder against an exercise"
+complete -c parbegin -n "not __fish_seen_subcommand_from $commands" -a hold -d "Run a command while it holds resources"
 complete -c parbegin -n "not __fish_seen_subcommand_from $commands" -a lsp -d "Answer an editor by the Language Server Protocol"
 complete -c parbegin -n "not __fish_seen_subcommand_from $commands" -a migrate -d "Print an object in format 2"
 complete -c parbegin -n "not __fish_seen_subcommand_from $commands" -a outcomes -d "Print every way in which a program can end"
@@ -28,6 +29,7 @@ complete -c parbegin -n "not __fish_seen_subcommand_from $commands" -a record -d
 complete -c parbegin -n "not __fish_seen_subcommand_from $commands" -a replay -d "Replay recorded picks"
 complete -c parbegin -n "not __fish_seen_subcommand_from $commands" -a run -d "Run a program"
 complete -c parbegin -n "not __fish_seen_subcommand_from $commands" -a sample -d "Draw many runs and count their outcomes"
+complete -c parbegin -n "not __fish_seen_subcommand_from $commands" -a serve -d "Answer many clients from one bank"
 complete -c parbegin -n "not __fish_seen_subcommand_from $commands" -a states -d "Print the states along recorded picks"
 complete -c parbegin -n "not __fish_seen_subcommand_from $commands" -a help -d "Print help of a command"
 
@@ -65,3 +67,22 @@ complete -c parbegin -n "__fish_seen_subcommand_from grade plan" -l csv -d "Writ
 complete -c parbegin -n "__fish_seen_subcommand_from grade" -l html -r -F -d "Write a report for a browser too"
 complete -c parbegin -n "__fish_seen_subcommand_from sample" -l runs -x -d "How many runs are drawn"
 complete -c parbegin -n "__fish_seen_subcommand_from sample" -l events -d "All events count"
+complete -c parbegin -n "__fish_seen_subcommand_from hold serve" -l socket -r -F -d "The socket of the server"
+complete -c parbegin -n "__fish_seen_subcommand_from hold" -l claim -x -d "The most that is held at once"
+complete -c parbegin -n "__fish_seen_subcommand_from hold" -l name -x -d "Name of the job"
+complete -c parbegin -n "__fish_seen_subcommand_from hold" -l nowait -d "Fail if it is not lent at once"
+complete -c parbegin -n "__fish_seen_subcommand_from hold" -l timeout -x -d "Fail after so many seconds"
+complete -c parbegin -n "__fish_seen_subcommand_from hold" -l conflict-exit-code -x -d "Status of that failure"
+complete -c parbegin -n "__fish_seen_subcommand_from hold" -l lease -x -d "Seconds, 2 to 86400"
+complete -c parbegin -n "__fish_seen_subcommand_from hold" -l verbose -d "Say why it waits"
+complete -c parbegin -n "__fish_seen_subcommand_from serve" -l journal -r -F -d "Folder of the journal"
+complete -c parbegin -n "__fish_seen_subcommand_from serve" -l mode -x -d "Permissions of the socket"
+complete -c parbegin -n "__fish_seen_subcommand_from serve" -l capital -x -d "What there is"
+complete -c parbegin -n "__fish_seen_subcommand_from serve" -l tcp -x -d "Answer at HOST:PORT"
+complete -c parbegin -n "__fish_seen_subcommand_from serve" -l cert -r -F -d "Certificate"
+complete -c parbegin -n "__fish_seen_subcommand_from serve" -l key -r -F -d "Key of the certificate"
+complete -c parbegin -n "__fish_seen_subcommand_from serve" -l tokens -r -F -d "SHA-256 of tokens"
+complete -c parbegin -n "__fish_seen_subcommand_from serve" -l http -x -d "Show the bank at HOST:PORT"
+complete -c parbegin -n "__fish_seen_subcommand_from serve" -l clients -x -d "Most connections"
+complete -c parbegin -n "__fish_seen_subcommand_from serve" -l sessions -x -d "Most sessions"
+complete -c parbegin -n "__fish_seen_subcommand_from serve" -l snapshot-every -x -d "Batches between snapshots"

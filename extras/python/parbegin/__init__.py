@@ -10,7 +10,8 @@
 
 It calls libparbegin.so by ctypes: the file that the variable PARBEGIN_SO names, else the one in this folder, else the
 one that the loader finds. If there is none, it talks with the program `parbegin` through pipes, by its command `bank` and
-the others: the program that the variable PARBEGIN names, else the one on the path. Both say the same.
+the others: the program that the variable PARBEGIN names, else the one on the path. Both say the same. `RemoteBank` is a
+client of a bank that `parbegin serve` serves.
 
 Any thread may call any bank: a bank has a lock, which each of its calls holds from its first step to its last. There are no
 dependencies.
@@ -21,8 +22,9 @@ from .answers import Answer, Ended, Fault, Outcome, Reason, Reply
 from .bank import Bank
 from .commands import check, claims, outcomes, plan, run
 from .plans import Claim, Need, Nest, Plan
+from .remote import NamedReason, RemoteBank
 
 __all__ = [
-    "Answer", "Bank", "Claim", "Ended", "Fault", "Need", "Nest", "Outcome", "Plan", "Reason", "Reply", "check", "claims",
-    "outcomes", "plan", "run",
+    "Answer", "Bank", "Claim", "Ended", "Fault", "NamedReason", "Need", "Nest", "Outcome", "Plan", "Reason", "RemoteBank", "Reply",
+    "check", "claims", "outcomes", "plan", "run",
 ]

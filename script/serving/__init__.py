@@ -1,0 +1,1 @@
+"""The bank, served to many clients: `serve`, and `hold` for shell scripts."""
