@@ -4,6 +4,7 @@
 mod expected;
 pub mod plan;
 mod prints;
+mod required;
 mod search_tool;
 pub mod states;
 mod together;
