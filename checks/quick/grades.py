@@ -107,6 +107,16 @@ def try_exercises(tally: Tally, it: Class) -> None:
     told = it.run("--csv", "handed_in", "required.txt")[1]
     for row in ("halves.pb,0,as expected,,", "keys.pb,10,not as expected: has a parbegin,,", "hurry.pb,10,not as expected: other prints,p.0 print 2,p.0 print 1"):
         tally.expect(f"\n{row}\n" in told, "what is required beside the prints", row, told)
+    it.write("claims.txt", f"claims at least 1 tape\n{WANTED}")
+    (it.folder / "claims").mkdir()
+    held = "begin hold 1 of {0} do print 2 od end\n"
+    for name, resource in (("disk.pb", "disk"), ("tape.pb", "tape")):
+        (it.folder / "claims" / name).write_text(f"resource {resource} = 1; process p {held.format(resource)}")
+    (it.folder / "claims/none.pb").write_text("process p begin print 2 end\n")
+    status, told, said = it.run("claims", "claims.txt")
+    unmet = "not as expected: claims at least 1 tape"
+    tally.expect((status, told) == (UNEXPECTED, f"disk.pb: {unmet}\nnone.pb: {unmet}\ntape.pb: as expected\n"), "a resource that is not there", told)
+    tally.expect(said == "parbegin: 3 submissions: 1 as expected, 2 not as expected\n", "a resource that is not there", said)
     it.write("dos.txt", WANTED.replace("\n", "\r\n"))
     status, told, said = it.run("order", "dos.txt")
     is_told = "the lines of dos.txt end with a carriage return: save it with the line ends of Unix: a line feed alone" in said
@@ -137,8 +147,12 @@ def try_reasons(tally: Tally, it: Class) -> None:
     it.write("form.txt", f"has a parbegn\n{WANTED}")
     _, told, said = it.run("--csv", "reasons", "form.txt")
     tally.expect("a.pb,1,refused P1 at 31,,line 3: `prabegin` is not a word of the language\n" in told, "the line of a word", told)
-    is_told = said.startswith("parbegin: form.txt line 1: this is not a print line: a print line is P.a print V")
+    is_told = said.startswith("parbegin: form.txt line 1: this is neither a requirement nor a print line: did you mean `has a parbegin`?")
     tally.expect(is_told and " (1 more is refused by a line of it)\n" in said, "what a line of the exercise has to be", said)
+    it.write("late.txt", f"{WANTED}has a hold\n")
+    said = it.run("reasons", "late.txt")[2]
+    is_told = said.startswith("parbegin: late.txt line 2: a requirement stands before the print lines: move this line up")
+    tally.expect(is_told, "a requirement after the print lines", said)
     (it.folder / "reasons/d.pb").write_text("process p begin print 3 end\n%%\np.0 print 3\n")
     os.mkfifo(it.folder / "reasons/e.pb")
     _, told, said = it.run("--csv", "reasons", "wanted.txt")

@@ -86,7 +86,10 @@ CALLS = [
     (["outcomes", "--expect", "other_name.pb"], REFUSED, "refused K1 at 0", "error K1: there is no process `q`\n  --> print line 1, "),
     (["outcomes", "--expect", "required.pb"], UNEXPECTED, "other prints\n", "parbegin: line 1 of the prints: wanted p.0 print 3, got p.0 print 1\n"),
     (["outcomes", "--expect", "unmet.pb"], UNEXPECTED, "not as expected: has a parbegin\n", None),
-    (["outcomes", "--expect", "no_resource.pb"], REFUSED, "refused K1 at 11", "  --> print line 2, "),
+    (["outcomes", "--expect", "no_resource.pb"], UNEXPECTED, "not as expected: claims at least 1 disk\n", None),
+    (["outcomes", "--expect", "misspelt.pb"], REFUSED, "refused K1 at 11", "  = hint: did you mean `has a parbegin`?\n"),
+    (["outcomes", "--expect", "too_late.pb"], REFUSED, "refused K1 at 12", "error K1: a requirement stands before the print lines\n"),
+    (["outcomes", "--expect", "no_amount.pb"], REFUSED, "refused K1 at 11", "`claims at least K R`: K is from 1 to 1000000"),
     (["outcomes", "--expect", "--any-order", "two_prints.pb"], UNEXPECTED, "other prints\n", "wanted p.0 print 3, got p.0 print 2\n"),
     (["--quiet", "outcomes", "--expect", "two_prints.pb"], UNEXPECTED, "other prints\n", None),
     (["outcomes", "--endless", "spins.pb"], DONE, "endless\nreached by\n", None),
@@ -179,6 +182,9 @@ def fill(folder: pathlib.Path) -> None:
     (folder / "required.pb").write_text(f"{held}claims at least 2 tape\np.0 print 3\n")
     (folder / "unmet.pb").write_text(f"{held}has a parbegin\nclaims at least 3 tape\np.0 print 3\n")
     (folder / "no_resource.pb").write_text(f"{held}claims at least 1 disk\np.0 print 1\n")
+    (folder / "misspelt.pb").write_text(f"{held}has a parbegn\np.0 print 1\n")
+    (folder / "too_late.pb").write_text("process p begin print 1 end\n%%\np.0 print 1\nclaims at least 1 disk\n")
+    (folder / "no_amount.pb").write_text(f"{held}claims at least 0 tape\np.0 print 1\n")
     (folder / "wanted.txt").write_text("p.0 print 1\n")
     (folder / "wrong.pb").write_text("process p begin x := 1 end\n")
     (folder / "folder").mkdir()

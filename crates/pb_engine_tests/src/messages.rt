@@ -235,6 +235,33 @@ fn blanks_at_the_ends_of_print_lines(rt: HostRuntime) {
 }
 
 #[test]
+fn lines_that_require_nothing(rt: HostRuntime) {
+    let misspelt = b"process p begin print 1 end\n%%\nhas a parbegn\n";
+    let said = b"error K1: this is neither a requirement nor a print line
+  --> print line 1, column 1
+  |
+1 | has a parbegn
+  | ^
+  = hint: did you mean `has a parbegin`?
+  = hint: a requirement is `has a parbegin`, `has a hold` or `claims at least K R`: K is from 1 to 1000000, with no zeros before it, and R is the name of a resource
+  = hint: a print line is P.a print V, as run writes it, such as p.0 print 2: a process, one of its arms, and what it prints
+  = line 3 of the input
+";
+    assert!(rt; says_of_prints(rt.alloc(), misspelt, said) == Some(true));
+    let late = b"process p begin print 1 end\n%%\np.0 print 1\nclaims at least 1 disk\n";
+    let said = b"error K1: a requirement stands before the print lines
+  --> print line 2, column 1
+  |
+2 | claims at least 1 disk
+  | ^
+  = hint: move this line up, before the first print line
+  = hint: a print line is P.a print V, as run writes it, such as p.0 print 2: a process, one of its arms, and what it prints
+  = line 4 of the input
+";
+    assert!(rt; says_of_prints(rt.alloc(), late, said) == Some(true));
+}
+
+#[test]
 fn the_first_format(rt: HostRuntime) {
     let text = b"resource r = 1;
 resource s = 1;

@@ -1,5 +1,5 @@
 -- What is said to a person of print lines, and of texts that are read as one program, that were refused.
-use Rattle.std.specs.Prelude.{◌≡◌, ◌⊎◌, ◌+◌, ◌++◌, ◌∷◌, ℕ, Bool, List, [], Option, None, Some, codes, cond, slice_get}
+use Rattle.std.specs.Prelude.{◌≡◌, ◌⊎◌, ◌+◌, ◌++◌, ◌∷◌, ℕ, Bool, List, [], Option, Contains, IsTrue, None, Some, codes, cond, slice_get}
 use Rattle.pb_accept.specs.Causes.{text_cause}
 use Rattle.pb_accept.specs.declared.cause.Cause.{Cause}
 use Rattle.pb_base.specs.Steppers.{Table}
@@ -14,6 +14,7 @@ use Rattle.pb_message_stops.specs.declared.ends.Form.TheVariants.{Prints}
 use Rattle.pb_messages.specs.Details.{ShowsWording}
 use Rattle.pb_messages.specs.Messages.{IsMessage, TellsRefusal}
 use Rattle.pb_messages.specs.Said.{SaysOfTexts, lines_before, text_label}
+use Rattle.pb_mistakes.specs.Wordings.{notes_of}
 use Rattle.pb_mistakes.specs.declared.wording.Wording.{Wording}
 use Rattle.pb_names.specs.Program.{Program}
 use Rattle.pb_options.specs.declared.code.Code.TheVariants.{K1}
@@ -28,7 +29,7 @@ use Rattle.pb_tree.specs.Syntax.{ProgramSyntax}
 abbrev pub unsaid_at : (at : ℕ) → Cause
 unsaid_at at = record { code = K1; at = Some at }
 
--- of print lines over some code, and requirements before them, behind this number of lines of the input: nothing if all
+-- of print lines over some code, and requirements before them, after this number of lines of the input: nothing if all
 -- lines say these; else which line says none, with its number in the input, and what it has wrong at its ends
 pub data SaysOfPrintLines (code : Code) (before : ℕ) (lines : List ℕ) : List ℕ → Type 0 where
   said : (requirements : List Requirement) (prints : List Print) → SpellsAsked code lines requirements prints
@@ -88,3 +89,10 @@ pub data SaysOfTogether (changes : List Change) (bytes : List ℕ) : List ℕ �
   read : (texts : List (List ℕ)) (trees : List ProgramSyntax) (program : Program) (claims : Table) (told : List ℕ)
       → AreParts bytes texts → AreReadAs texts trees program claims → TellsOfRead changes program bytes told
       → SaysOfTogether changes bytes told
+
+-- ---- what serves the proof
+
+-- a wording has all notes of an earlier one, or there was no memory for it
+abbrev pub KeepsNotes : (old new : Wording) → Type 0
+KeepsNotes old new =
+    IsTrue new.is_whole → IsTrue old.is_whole × ((note : List ℕ) → Contains (notes_of old) note → Contains (notes_of new) note)

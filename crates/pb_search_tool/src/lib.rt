@@ -5,6 +5,7 @@ mod changed;
 mod expected;
 pub mod plan;
 mod prints;
+mod required;
 mod search_tool;
 pub mod states;
 mod together;
