@@ -85,6 +85,7 @@ DEBUG: list[tuple[str, dict[str, Any]]] = [
     ("at <at> <process>.<arm> line <line>", {"kind": "wrote"}), ("at <at> <process>.<arm> line none", {"kind": "wrote"}),
     ("mark <number>", {"kind": "mark"}),
     *((words, {"kind": words}) for words in ("no event", "never", "not reached", "faulted", "no fault", "no circle", "no text", "not asking", "granted")),
+    ("<process>.<arm> line <line>: <text>", {"kind": "does"}), ("<process>.<arm>: <text>", {"kind": "does"}),
     ("<process>.<arm> line <line> <text>", {"kind": "faulted at"}), ("<process>.<arm> line none <text>", {"kind": "faulted at"}),
     ("<arm> idle", {"kind": "arm", "state": "idle"}), ("<arm> at <place>", {"kind": "arm", "state": "at"}),
     ("<arm> ended", {"kind": "arm", "state": "ended"}), ("<process> holds <amount> <resource> claim <claim>", {"kind": "loan"}),
@@ -244,7 +245,7 @@ def calls() -> list[tuple[list[str], bytes]]:
              b"process bottleneck begin integer x; hold 1 of refused do x := 1 div 0 od end process refused begin skip end\n")
     nothing = b"process refused begin print 1 end\n"
     odd = b"process p // \t\"\\<%%\r\nbegin integer ok, memory;\nok\n:= 1;\nmemory\n:= 2; print ok end\n"
-    asks = (b"to 2\nvars p\nthreads p\nloans\nwho tape\ncircle\nline p.0\ntext p.0\nwhy p.0\nnext\nprev\nwrote p ok\nuntil p.0 3\n"
+    asks = (b"to 2\nvars p\nthreads p\nloans\nwho tape\ncircle\nline p.0\ntext p.0\ndoes p.0\narms\nwhy p.0\nnext\nprev\nwrote p ok\nuntil p.0 3\n"
             b"pick p.0\nback\nback\nstack p.0\nback\nstack p.0\nfault p\nmark 0\nmark 4294967295\nmark 4294967296\nhelp\nto 99\nvars q\nthreads p\nnonsense\n")
     jobs = (b"resource tape-1 4\nresource 2.d 2\njob a 3 tape-1, 1 2.d\njob 1-b 4 tape-1\nask a 2 tape-1\nask a 2 tape-1\nask 1-b 4 tape-1\n"
             b"want 1-b 3 tape-1\nwhy a 1 2.d\norder\norder a 1-b\norder 1-b a\norder a a\norder a\nstate\ncapital tape-1 3\ncapital 2.d 3\ngive a 2 tape-1\nhelp\n"
@@ -256,9 +257,9 @@ def calls() -> list[tuple[list[str], bytes]]:
     made.append((["record"], b"process p begin print x end\n"))
     made.append((["debug"], odd + b"%%\np.0 3\n%%\n" + asks))
     made.append((["debug"], b"process p begin print x end\n%%\n%%\nto 1\n"))
-    made.append((["debug"], b"process p begin\nprint 1;\nprint 7 div 0 end\n%%\np.0 5\n%%\nfault p\nto 5\nfault p\nfault q\n"))
+    made.append((["debug"], b"process p begin\nprint 1;\nprint 7 div 0 end\n%%\np.0 5\n%%\nfault p\nto 4\narms\nto 5\nfault p\nfault q\ndoes p.0\narms\n"))
     made.append((["debug", "--lend", "cash"], (TOP / "examples/devices.pb").read_bytes() + b"%%\na.0 1\nb.0 1\n%%\n"
-                 + b"to 2\ncircle\nloans\nwho tape\nwhy a.0\npick a.0\nline a.0\ntext a.0\nprev\n"))
+                 + b"to 2\ncircle\nloans\nwho tape\nwhy a.0\narms\npick a.0\nline a.0\ntext a.0\nprev\n"))
     made.append((["debug"], (TOP / "examples/devices.pb").read_bytes() + b"%%\na.0 1\n%%\nto 1\nwhy a.0\nwhy b.0\nprev\npick b.0\n"))
     for words in (["explain"], ["explain", "N3"], ["explain", "O1"], ["explain", "V9"]):
         made.append((words, b""))

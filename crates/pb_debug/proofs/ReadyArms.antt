@@ -1,5 +1,5 @@
 -- Of which arms a pick is enabled.
-use Rattle.std.proofs.Common.{◌≡◌, ◌≢◌, ◌⊎◌, ◌↔◌, inl, inr, ℕ, ◌+◌, ◌<◌, ◌≤◌, ℤ, List, arith, Option, Some, None, option_map, option_and_then, refl, sym, ap, ◌∙◌, subst}
+use Rattle.std.proofs.Common.{◌≡◌, ◌⊎◌, inl, inr, ℕ, ◌+◌, ◌≤◌, ℤ, List, arith, Option, Some, None, option_map, option_and_then, refl, sym, ap, ◌∙◌, subst}
 use Rattle.std.specs.Prelude.{slice_get}
 use Rattle.pb_base.proofs.Lists.{all_at}
 use Rattle.pb_base.specs.Banker.{BankerState, IsWithinCash, cash}
@@ -7,7 +7,7 @@ use Rattle.pb_base.specs.declared.lending.Lending.{Lending}
 use Rattle.pb_base.specs.declared.lending.Lending.TheVariants.{ByBanker, ByCash}
 use Rattle.pb_base.specs.Steppers.{Bundle, Effect, Silent, Prints, Takes, Returns, Faults, Finishes, IsGranted, IsLent, Move, State}
 use Rattle.pb_base.specs.Steppers.{event_of, move_of, moved}
-use Rattle.pb_code.specs.Code.{CodeProcess, Ended, Idle, Live, ProcessCode, Take, Thread, code_step, step_process, thread}
+use Rattle.pb_code.specs.Code.{CodeProcess, Ended, Idle, Live, ProcessCode, Take, Thread, code_step, thread}
 use Rattle.pb_code.specs.Whole.{Code, bank_by}
 use Rattle.pb_machine.specs.Looks.{CanStep, IsLiveArm, look_of}
 use Rattle.pb_machine.specs.Turns.{with_thread}
@@ -18,7 +18,7 @@ use Rattle.pb_machine.proofs.EitherLending.{good_reached}
 use Rattle.pb_machine.proofs.InstructionSteps.{take_step}
 use Rattle.pb_machine.proofs.OneMorePick.{move_is}
 use Rattle.pb_verifier.proofs.Requests.{take_at}
-use Rattle.pb_verifier.proofs.States.{CodeMove, checked, code_move}
+use Rattle.pb_verifier.proofs.States.{checked, code_move}
 use Rattle.pb_verifier.proofs.ThreadTurns.{turned}
 use Rattle.pb_debug.specs.Arms.{CanBePicked, pick_of}
 use Rattle.pb_debug.specs.Value.{Debugging, IsPosition, bank_state, state_of}

@@ -25,6 +25,8 @@ debug_forms =
     ∷ form Alone (codes "faulted at") (codes "P.A line 1 W")
     ∷ form Alone (codes "faulted at") (codes "P.A line none W")
     ∷ form Alone (codes "no fault") (codes "no fault")
+    ∷ form Alone (codes "does") (codes "P.A line 1: W")
+    ∷ form Alone (codes "does") (codes "P.A: W")
     ∷ form Alone (codes "loan") (codes "P holds M R claim K")
     ∷ form Alone (codes "cash") (codes "cash M R")
     ∷ form Alone (codes "asks") (codes "P.A asksB")

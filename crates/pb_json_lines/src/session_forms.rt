@@ -7,7 +7,7 @@ ghost use Rattle.pb_json_lines.specs.SessionForms.{bank_forms, debug_forms};
 use crate::form::{Form, Section};
 
 /// The forms of the answers of a debugging session, and of refusals, in the order in which they are tried.
-static DEBUG: [Form; 40] = [
+static DEBUG: [Form; 42] = [
     Form {
         section: Section::Alone,
         first: "\"kind\":\"at\"",
@@ -102,6 +102,16 @@ static DEBUG: [Form; 40] = [
         section: Section::Alone,
         first: "\"kind\":\"no fault\"",
         pattern: "no fault",
+    },
+    Form {
+        section: Section::Alone,
+        first: "\"kind\":\"does\"",
+        pattern: "P.A line 1: W",
+    },
+    Form {
+        section: Section::Alone,
+        first: "\"kind\":\"does\"",
+        pattern: "P.A: W",
     },
     Form {
         section: Section::Alone,

@@ -1,4 +1,4 @@
-use Rattle.std.proofs.Common.{◌≡◌, Bool, true, false, [], inl, inr, refl, sym}
+use Rattle.std.proofs.Common.{◌≡◌, true, false, [], inl, inr, refl, sym}
 use Rattle.std.proofs.lemmas.List.{append-nil}
 use Rattle.pb_base.proofs.Results.{on_ok}
 use Rattle.pb_debug.proofs.debugger.Debugger.say_arm.Goals as goal

@@ -1,12 +1,11 @@
-use Rattle.std.proofs.Common.{◌≡◌, ◌<◌, ◌++◌, length, slice_get, Some, sym, ap, ◌∙◌, subst, arith}
+use Rattle.std.proofs.Common.{◌≡◌, ◌<◌, length, slice_get, Some, sym, ap, ◌∙◌, subst, arith}
 use Rattle.std.proofs.lemmas.Option.{slice_get_within}
 use Rattle.pb_base.proofs.Results.{on_ok}
-use Rattle.pb_base.specs.Lines.{NameTable, names_view}
+use Rattle.pb_base.specs.Lines.{names_view}
 use Rattle.pb_base.specs.Steppers.{State}
-use Rattle.pb_code.specs.Code.{CodeProcess, thread}
-use Rattle.pb_code.specs.View.{code_view, process_view}
+use Rattle.pb_code.specs.Code.{CodeProcess}
+use Rattle.pb_code.specs.View.{process_view}
 use Rattle.pb_code.specs.Whole.{Code}
-use Rattle.pb_history.specs.Entries.{picks_of}
 use Rattle.pb_history.specs.Positions.{state_after}
 use Rattle.pb_machine.proofs.GivenCode.{codes_number, code_at}
 use Rattle.pb_machine.specs.Views.{machine_view, proc_view, thread_view}

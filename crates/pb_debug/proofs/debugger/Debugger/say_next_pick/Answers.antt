@@ -1,5 +1,4 @@
-use Rattle.std.proofs.Common.{◌≡◌, ◌<◌, ℕ, List, length, Some, refl, sym, ap, ◌∙◌, arith, Vec, Global}
-use Rattle.std.specs.Prelude.{slice_get}
+use Rattle.std.proofs.Common.{◌≡◌, ◌<◌, length, Some, refl, sym, ap, ◌∙◌, arith}
 use Rattle.std.proofs.lemmas.List.{length-map}
 use Rattle.std.proofs.lemmas.Option.{slice_get_read}
 use Rattle.pb_base.proofs.Results.{on_ok}
@@ -10,7 +9,7 @@ use Rattle.pb_code.specs.Whole.{Code}
 use Rattle.pb_debug_texts.specs.Does.{does_text}
 use Rattle.pb_machine.proofs.GivenCode.{code_at, codes_number}
 use Rattle.pb_machine.specs.Views.{proc_view}
-use Rattle.pb_debug.specs.Value.{Debugging, state_of}
+use Rattle.pb_debug.specs.Value.{Debugging}
 use Rattle.pb_debug.proofs.Lines.{labels_here}
 use Rattle.pb_debug.proofs.Positions.{in_code, in_labels}
 use Rattle.pb_debug.proofs.debugger.Debugger.say_next_pick.Goals as goal
