@@ -1,10 +1,9 @@
-//! Edits that may mend a text: a word that is misspelt, or what is missing where it is refused. Each is tried before it is proposed.
+//! Edits that may mend a text: those that its message says. Each is tried before it is proposed.
 
 use crate::mend::Mend;
 use pb_base::NoMemory;
-use pb_codegen::{ClaimsFault, CompileFault};
+use pb_codegen::ClaimsFault;
 use pb_lexer::{Kind, Mark, Token};
-use pb_message_wording::respell;
 use std::alloc::Global;
 
 /// What may be missing behind a token.
@@ -49,27 +48,37 @@ pub fn add_missing(
     Ok(())
 }
 
-/// Appends to `out` the edit that writes what is meant in the place of a word that is probably misspelt, if one is, and
-/// returns whether one is.
-pub fn add_respelling(
+/// Appends to `out` the edit that writes bytes in the place of those from one offset up to another, which a message says.
+pub fn add_edit(
     alloc: Global,
     out: &mut Vec<Mend>,
     text: &[u8],
-    fault: &CompileFault,
-) -> Result<bool, NoMemory> {
-    let meant = respell(alloc, text, fault)?;
-    let is_misspelt = meant.is_some();
-    if let Some(meant) = meant {
-        let bytes = String::from_utf8_lossy(alloc, &meant.bytes)?;
-        let title = format!(in alloc; "write `{}`", bytes)?;
-        out.push(Mend {
-            title,
-            start: meant.start,
-            end: meant.end,
-            bytes,
-        })?;
-    }
-    Ok(is_misspelt)
+    start: usize,
+    end: usize,
+    bytes: &[u8],
+) -> Result<(), NoMemory> {
+    let bytes = String::from_utf8_lossy(alloc, bytes)?;
+    let title = if start == end {
+        format!(in alloc; "insert `{}`", bytes.trim_start())?
+    } else if bytes.is_empty() {
+        let left_out = String::from_utf8_lossy(alloc, part_of(text, start, end))?;
+        format!(in alloc; "leave `{}` out", left_out)?
+    } else {
+        format!(in alloc; "write `{}`", bytes)?
+    };
+    out.push(Mend {
+        title,
+        start,
+        end,
+        bytes,
+    })?;
+    Ok(())
+}
+
+/// Returns the bytes of a text from one offset up to another.
+fn part_of(text: &[u8], start: usize, end: usize) -> &[u8] {
+    let end = end.min(text.len());
+    &text[start.min(end)..end]
 }
 
 /// Returns whether a token is this symbol or reserved word.

@@ -6,7 +6,7 @@ ghost use Rattle.pb_lexer.specs.Cutting.{AreTokensOf};
 ghost use Rattle.pb_lexer.specs.Tokens.{tokens as tokens_view};
 ghost use Rattle.pb_mends.specs.Mends.{HasCause, Mends, edit_of};
 
-use crate::candidates::{add_capital, add_declaration, add_missing, add_respelling};
+use crate::candidates::{add_capital, add_declaration, add_edit, add_missing};
 use crate::further::gets_further;
 use crate::kept::keeps_others;
 use crate::mend::{Mend, edited};
@@ -15,8 +15,7 @@ use pb_accept::text_cause;
 use pb_base::NoMemory;
 use pb_codegen::{CompileFault, compile};
 use pb_lexer::{LexFault, Token, lex};
-use pb_names::NameFault;
-use pb_parser::ParseFault;
+use pb_message_wording::{Advice, advice_of};
 use std::alloc::Global;
 
 /// Returns whether an edit is one of the text, whose other tokens it keeps, and the text gets further with it.
@@ -45,7 +44,7 @@ fn mends_it(
     }
 }
 
-/// Returns the edits that may mend a text with this fault and these tokens.
+/// Returns the edits that may mend a text with this fault and these tokens: those that its message says.
 fn candidates(
     alloc: Global,
     text: &[u8],
@@ -53,18 +52,28 @@ fn candidates(
     fault: &CompileFault,
 ) -> Result<Vec<Mend>, NoMemory> {
     let mut out = Vec::new(alloc);
-    let is_misspelt = add_respelling(alloc, &mut out, text, fault)?;
-    match fault {
-        CompileFault::Parse(ParseFault::Syntax(at)) if !is_misspelt => {
-            add_missing(alloc, &mut out, tokens, *at)?
+    if let CompileFault::Claims(over) = fault {
+        add_capital(alloc, &mut out, tokens, over)?;
+        return Ok(out);
+    }
+    let at = offset_of(fault);
+    match advice_of(alloc, text, fault)? {
+        Advice::Unsaid => {}
+        Advice::Expected => add_missing(alloc, &mut out, tokens, at)?,
+        Advice::Declare => add_declaration(alloc, &mut out, tokens, at)?,
+        Advice::Edit { start, end, bytes } => {
+            add_edit(alloc, &mut out, text, start, end, &bytes)?;
         }
-        CompileFault::Names(NameFault::Unknown(at)) => {
-            add_declaration(alloc, &mut out, tokens, *at)?
-        }
-        CompileFault::Claims(over) => add_capital(alloc, &mut out, tokens, over)?,
-        _ => {}
     }
     Ok(out)
+}
+
+/// Returns the offset of a fault; 0 if it has none.
+fn offset_of(fault: &CompileFault) -> usize {
+    match text_cause(fault) {
+        Some(cause) => cause.at.unwrap_or(0),
+        None => 0,
+    }
 }
 
 /// Returns those of some edits with which a text gets further.

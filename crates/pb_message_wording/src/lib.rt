@@ -4,12 +4,12 @@
 
 mod first_format;
 mod holds;
-mod meant;
 mod names;
 mod objects;
+mod said;
 mod texts;
 
 pub use first_format::unsaid_wording;
-pub use meant::{Respelling, respell};
 pub use objects::{unread_wording, unsafe_wording};
+pub use said::{Advice, advice_of};
 pub use texts::text_wording;

@@ -4,7 +4,7 @@ use pb_base::NoMemory;
 use pb_base::limits::{MAX_FORK, MAX_INTEGERS, MAX_PROCESSES, MAX_RESOURCES};
 use pb_lexer::{Mark, Token};
 use pb_message_syntax::misspelt::meant_name;
-use pb_mistakes::foreign::input_hint;
+use pb_mistakes::foreign::value_of;
 use pb_mistakes::tokens::{
     closes, is_at, is_name, opens, process_before, process_name, text_at, token_at,
 };
@@ -220,7 +220,12 @@ fn first_declaration(tokens: &[Token], number: usize, named: Named) -> Option<us
     None
 }
 
-fn unknown<'t>(alloc: Global, tokens: &[Token<'t>], number: usize) -> Result<Told<'t>, NoMemory> {
+/// Returns what is told of the name that the token with a number is and that is not declared.
+pub fn unknown<'t>(
+    alloc: Global,
+    tokens: &[Token<'t>],
+    number: usize,
+) -> Result<Told<'t>, NoMemory> {
     let meant = meant_name(alloc, tokens, number)?;
     let is_resource = is_at(tokens, number.saturating_sub(1), Mark::Of);
     if let Some(told) = known_word(tokens, number, is_resource) {
@@ -233,7 +238,8 @@ fn unknown<'t>(alloc: Global, tokens: &[Token<'t>], number: usize) -> Result<Tol
                 process_name(tokens, number),
                 text_at(tokens, meant),
             )
-            .placed("`@3` is declared at ", tokens.get(meant)),
+            .placed("`@3` is declared at ", tokens.get(meant))
+            .replacing(number, text_at(tokens, meant)),
         None if is_resource => undeclared(
             tokens,
             number,
@@ -266,8 +272,8 @@ fn known_word<'t>(tokens: &[Token<'t>], number: usize, is_resource: bool) -> Opt
     if is_resource {
         return Some(in_other_letters(tokens, number, is_resource, resource?));
     }
-    if let Some(hint) = value_hint(tokens, number) {
-        return Some(undeclared(tokens, number, is_resource, hint));
+    if let Some(told) = value_word(tokens, number) {
+        return Some(told);
     }
     if let Some(other) = integer_in_other_letters(tokens, number) {
         return Some(in_other_letters(tokens, number, is_resource, other));
@@ -295,11 +301,9 @@ fn in_other_letters<'t>(
     } else {
         "the integer @3 is declared, and capital and small letters are different"
     };
-    undeclared(tokens, number, is_resource, hint).with_words(
-        text_at(tokens, number),
-        process_name(tokens, number),
-        other,
-    )
+    undeclared(tokens, number, is_resource, hint)
+        .with_words(text_at(tokens, number), process_name(tokens, number), other)
+        .replacing(number, other)
 }
 
 /// Returns the name of a resource that differs from this one only in capital and small letters.
@@ -320,7 +324,7 @@ fn unknown_integer<'t>(tokens: &[Token<'t>], number: usize) -> Told<'t> {
     } else {
         "declare it after the first begin of the process: integer @1;"
     };
-    let told = undeclared(tokens, number, false, hint);
+    let told = undeclared(tokens, number, false, hint).declaring();
     match other_owner(tokens, text_at(tokens, number)) {
         Some(owner) => told
             .with_words(text_at(tokens, number), process_name(tokens, number), owner)
@@ -329,15 +333,21 @@ fn unknown_integer<'t>(tokens: &[Token<'t>], number: usize) -> Told<'t> {
     }
 }
 
-/// Returns what is written in the place of a value of other languages: a truth value, or one that is read.
-fn value_hint(tokens: &[Token], number: usize) -> Option<&'static str> {
+/// Returns what is told of a name that is a value in other languages: a truth value, or, if it is not assigned and no process
+/// declares it, another one.
+fn value_word<'t>(tokens: &[Token<'t>], number: usize) -> Option<Told<'t>> {
     let name = text_at(tokens, number);
-    let truth = truth_hint(name);
-    let assigned = is_at(tokens, number.saturating_add(1), Mark::Assign);
-    if truth.is_some() || assigned || other_owner(tokens, name).is_some() {
-        return truth;
+    let value = value_of(name)?;
+    let is_assigned = is_at(tokens, number.saturating_add(1), Mark::Assign);
+    if !is_truth(name) && (is_assigned || other_owner(tokens, name).is_some()) {
+        return None;
     }
-    input_hint(name)
+    let told = undeclared(tokens, number, false, value.hint);
+    if is_assigned || value.instead.is_empty() {
+        Some(told)
+    } else {
+        Some(told.replacing(number, value.instead.as_bytes()))
+    }
 }
 
 /// Returns the name of an integer of the same process that differs from this one only in capital letters.
@@ -354,15 +364,9 @@ fn integer_in_other_letters<'t>(tokens: &[Token<'t>], number: usize) -> Option<&
     None
 }
 
-/// Returns what is written in the place of a truth value of other languages.
-fn truth_hint(name: &[u8]) -> Option<&'static str> {
-    if name.eq_ignore_ascii_case(b"true") {
-        Some("there is no truth value: write 1, as in while 1 do")
-    } else if name.eq_ignore_ascii_case(b"false") {
-        Some("there is no truth value: write 0")
-    } else {
-        None
-    }
+/// Returns whether a name is a truth value in other languages.
+fn is_truth(name: &[u8]) -> bool {
+    name.eq_ignore_ascii_case(b"true") || name.eq_ignore_ascii_case(b"false")
 }
 
 /// Returns whether the process in which a token is declares any integer.

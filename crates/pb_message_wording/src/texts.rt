@@ -40,7 +40,7 @@ fn lex_wording(alloc: Global, text: &[u8], fault: LexFault) -> Result<Wording, N
         LexFault::NumberTooLarge(_) => Ok(Wording::noted(
             alloc,
             "the number is greater than 9223372036854775807",
-            "hint: the smallest integer is written -9223372036854775807 - 1",
+            "hint: write a smaller number; the smallest integer is written -9223372036854775807 - 1",
         )),
         LexFault::NameTooLong(_) => Ok(Wording::of(alloc, "the name is longer than 32 bytes")),
         LexFault::NoMemory => Err(NoMemory),

@@ -5,7 +5,7 @@ use pb_diagnostics::actions;
 use std::alloc::Global;
 
 /// Texts, and the actions that mend them.
-const CASES: [(&str, &str); 13] = [
+const CASES: [(&str, &str); 18] = [
     (
         "process a begin prnt 1 end\n",
         "[{\"edit\":{\"changes\":{\"file:///a.pb\":[{\"newText\":\"print\",\"range\":{\"end\":{\"character\":20,\"line\":0},\"start\":{\"character\":16,\"line\":0}}}]}},\"kind\":\"quickfix\",\"title\":\"write `print`\"}]",
@@ -47,6 +47,24 @@ const CASES: [(&str, &str); 13] = [
         "resource a = 1;\nprocess p begin hold 2 of a do skip od end\nprocess q begin hold 3 of a do skip od end\n",
         "[{\"edit\":{\"changes\":{\"file:///a.pb\":[{\"newText\":\"2\",\"range\":{\"end\":{\"character\":14,\"line\":0},\"start\":{\"character\":13,\"line\":0}}}]}},\"kind\":\"quickfix\",\"title\":\"make the capital of a 2\"}]",
     ),
+    // The edit is what the message says, and no other that gets further.
+    (
+        "process a begin integer x y; x := 1 end\n",
+        "[{\"edit\":{\"changes\":{\"file:///a.pb\":[{\"newText\":\",\",\"range\":{\"end\":{\"character\":25,\"line\":0},\"start\":{\"character\":25,\"line\":0}}}]}},\"kind\":\"quickfix\",\"title\":\"insert `,`\"}]",
+    ),
+    (
+        "process a begin print 1; end\n",
+        "[{\"edit\":{\"changes\":{\"file:///a.pb\":[{\"newText\":\"\",\"range\":{\"end\":{\"character\":24,\"line\":0},\"start\":{\"character\":23,\"line\":0}}}]}},\"kind\":\"quickfix\",\"title\":\"leave `;` out\"}]",
+    ),
+    (
+        "process a begin while true do print 1 od end\n",
+        "[{\"edit\":{\"changes\":{\"file:///a.pb\":[{\"newText\":\"1\",\"range\":{\"end\":{\"character\":26,\"line\":0},\"start\":{\"character\":22,\"line\":0}}}]}},\"kind\":\"quickfix\",\"title\":\"write `1`\"}]",
+    ),
+    (
+        "process a begin integer X; x := 1 end\n",
+        "[{\"edit\":{\"changes\":{\"file:///a.pb\":[{\"newText\":\"X\",\"range\":{\"end\":{\"character\":28,\"line\":0},\"start\":{\"character\":27,\"line\":0}}}]}},\"kind\":\"quickfix\",\"title\":\"write `X`\"}]",
+    ),
+    ("resource r = 1; process a begin print r end\n", "[]"),
     // A carriage return alone ends a line.
     (
         "process a\rbegin x := 1 end\r",

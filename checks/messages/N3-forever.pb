@@ -1,0 +1,1 @@
+process p begin while forever do print 1 od end

@@ -1,0 +1,1 @@
+process p begin integer x; x := null; print x end

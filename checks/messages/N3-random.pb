@@ -1,0 +1,1 @@
+process p begin integer x; x := random; print x end
