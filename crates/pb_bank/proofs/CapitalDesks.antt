@@ -39,8 +39,7 @@ told_rest d b next names wishes r amount slots out after view says state used is
       (
         capital.Rest slots,
         says,
-        refl,
-        ap (λ (c : BankValue). record { bank = c; names = names; wishes = wishes }) (same_bank b next state used),
+        (refl, ap (λ (c : BankValue). record { bank = c; names = names; wishes = wishes }) (same_bank b next state used)),
       ),
       is ∙ ap (λ (s : BankerState). out ++ reason_text [] names s (Rest slots)) state,
     )
