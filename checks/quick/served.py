@@ -173,9 +173,9 @@ def code_of(answer: list[str]) -> str:
 def try_refusals(tally: Tally, served: Served) -> None:
     """Brings about the refusals of the server."""
     with Wire(served.socket) as first, Wire(served.socket) as second:
-        _, sid, key, _ = first.say("session 60")[0].split(" ")
+        _, sid, key, _ = first.say("session 600")[0].split(" ")
         tally.expect(first.say("1 job a 2 tape") == [], "a job does not join")
-        second.say("session 60")
+        second.say("session 600")
         for line, code in (
             ("1 ask a 1 tape", "S3"), ("2 leave a", "S3"), ("3 resource more 1", "S4"), (f"4 use a {key[::-1]}x", "S5"),
             ("5 job -hole-1 1 tape", "S11"), ("attach 999999 x 0", "S5"), (f"attach {sid} x 0", "S5"), ("session 0", "S10"),
@@ -205,14 +205,15 @@ def try_limits(tally: Tally, script: str, folder: pathlib.Path) -> None:
     served = Served([script, "serve"], folder, "--clients", "4", "--sessions", "2")
     served.start()
     with Wire(served.socket) as first, Wire(served.socket) as second, Wire(served.socket) as third:
-        first.say("session 60"), second.say("session 60")
-        tally.expect(code_of(third.say("session 60")) == "S7", "there are more sessions than allowed")
+        for wire in (first, second):
+            wire.say("session 600")
+        tally.expect(code_of(third.say("session 600")) == "S7", "there are more sessions than allowed")
         tally.expect(code_of(third.say("job x 1 tape")) == "S7", "there are more sessions than allowed, by lines without numbers")
         with Wire(served.socket) as fourth, Wire(served.socket) as fifth:
             fourth.say("hello")
             tally.expect(code_of(fifth.answer()) == "S7" and fifth.line() == "", "there are more connections than allowed")
         # (one that never reads is cut off, and others are answered meanwhile)
-        third.socket.setsockopt(socket.SOL_SOCKET, socket.SO_SNDTIMEO, (5).to_bytes(8, "little") + bytes(8))
+        third.socket.settimeout(2)
         with suppress(OSError):
             for _ in range(200):
                 third.send(*["help"] * 200)
@@ -353,7 +354,7 @@ def try_kill(tally: Tally, it: Holds, served: Served) -> None:
         hold.stdout.readline()
     holder.wait(WATCHDOG)
     with Wire(served.socket) as wire:
-        session = wire.say("session 60")[0].split(" ")
+        session = wire.say("session 600")[0].split(" ")
         tally.expect(wire.say("1 job waits 2 gpu") == [] and wire.say("2 want waits 2 gpu") == ["2 queued"], "a wish does not wait")
         before = wire.say("state")
     served.end(signal.SIGKILL)
@@ -426,7 +427,7 @@ def get(address: str) -> str:
 def try_http(tally: Tally, served: Served, address: str) -> None:
     """Compares what is shown over HTTP with what the bank says."""
     with Wire(served.socket) as wire:
-        for line in ("session 60", "1 job a 2 tape", "2 job b 3 tape", "3 ask a 1 tape", "4 want b 3 tape"):
+        for line in ("session 600", "1 job a 2 tape", "2 job b 3 tape", "3 ask a 1 tape", "4 want b 3 tape"):
             wire.say(line)
         state = json.loads(get(f"{address}/state"))
         names = [job["name"] for job in state["jobs"]]

@@ -142,15 +142,15 @@ class Hold:
     def wait(self) -> bool:
         """Waits for the grant of a wish. Returns whether it came in time; if not, the wish is taken back."""
         while self.job not in self.client.granted:
-            if self.end is not None and now() >= self.end:
-                # (that is refused if the grant came at the last moment)
-                return bool(self.client.tell(f"drop {self.job}"))
             if self.shown.is_wanted:
                 reason = self.client.tell(f"why {self.job} {spell(self.options.amounts)}")
                 if self.job not in self.client.granted:
                     self.shown.show(f"{self.job} waits for {spell(self.options.amounts)}: {told(reason[0])}")
             elif self.client.left() < 0.75 * self.options.lease:
                 self.client.beat()
+            if self.end is not None and now() >= self.end and self.job not in self.client.granted:
+                # (that is refused if the grant came at the last moment)
+                return bool(self.client.tell(f"drop {self.job}"))
             if self.job not in self.client.granted:
                 most = LOOK if self.shown.is_wanted else self.options.lease / 4
                 self.client.wait(most if self.end is None else min(most, self.end - now()))
