@@ -5,7 +5,8 @@ ghost use Rattle.pb_call.specs.Explained.{Wrote, device_message};
 use pb_base::{Output, write_all};
 
 /// What is said of a call that could not read its input, or not write its output.
-const FAILED: &[u8] = b"device: the input could not be read, or the output could not be written whole\n";
+const FAILED: &[u8] =
+    b"device: the input could not be read, or the output could not be written whole\n";
 
 /// Writes that the input could not be read, or not all of the output be written.
 pub fn explain_device<E: Output>(error: &mut E)
