@@ -1,5 +1,9 @@
-use Rattle.std.proofs.Common.{ap}
+use Rattle.std.proofs.Common.{List, [], ap, subst}
+use Rattle.std.specs.Prelude.{IfSome}
 use Rattle.pb_base.specs.declared.lending.Lending.TheVariants.{ByBanker}
+use Rattle.pb_capitals.specs.declared.change.Change.{Change}
+use Rattle.pb_command_io.specs.Answers.{Tells}
+use Rattle.pb_command_io.specs.Inputs.{SaysOfInput}
 use Rattle.pb_c_call.specs.Replies.{KeptBytes, Tellings}
 use Rattle.pb_c_call.proofs.GivenReplies.{given, told}
 use Rattle.pb_c_call.proofs.exports.pb_plan.Goals as goal
