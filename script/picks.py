@@ -10,7 +10,6 @@ class Picks:
     def __init__(self, lines: list[str]) -> None:
         self.starts: list[int] = []
         self.arms: list[str] = []
-        self.of_arm: dict[str, list[int]] = {}
         self.total = 0
         for line in lines:
             arm, count = line.split(" ")
@@ -19,7 +18,6 @@ class Picks:
     def add(self, arm: str, count: int = 1) -> None:
         """Adds picks of an arm."""
         if not self.arms or self.arms[-1] != arm:
-            self.of_arm.setdefault(arm, []).append(len(self.arms))
             self.starts.append(self.total)
             self.arms.append(arm)
         self.total += count
@@ -31,16 +29,6 @@ class Picks:
     def end_of(self, run: int) -> int:
         """Returns the number of the first pick after a run of one arm."""
         return self.starts[run + 1] if run + 1 < len(self.starts) else self.total
-
-    def last_of(self, arm: str, before: int, count: int) -> list[int] | None:
-        """Returns the last picks of an arm before the pick with this number, in order; nothing if there are fewer."""
-        found: list[int] = []
-        for run in reversed(self.of_arm.get(arm, [])):
-            first, end = self.starts[run], min(self.end_of(run), before)
-            found += range(end - 1, max(first, end - (count - len(found))) - 1, -1)
-            if len(found) >= count:
-                return found[count - 1 :: -1]
-        return None if count else []
 
     def first(self, count: int) -> Picks:
         """Returns the first picks, as many as are asked for."""

@@ -10,7 +10,6 @@ from collections.abc import Iterable
 
 from script import shown
 from script.code import arms_at
-from script.happenings import Teller
 from script.manual import TEXTBOOK, help_of, list_of_commands, list_of_words
 from script.session import Denied, Session
 from script.typed import Completion, Mistake
@@ -18,6 +17,8 @@ from script.typed import Completion, Mistake
 # A move tells of so many picks at most, and of more only the last.
 MOST_TOLD = 20
 INTEGER = re.compile(r"-?[0-9]{1,19}")
+# What is said of an arm that is not live.
+NOT_LIVE = ("idle", "ended", "faulted")
 
 
 class Prompt(Completion, cmd.Cmd):
@@ -26,7 +27,6 @@ class Prompt(Completion, cmd.Cmd):
     def __init__(self, session: Session, name: str, is_object: bool) -> None:
         super().__init__()
         self.session, self.name, self.is_object = session, name, is_object
-        self.teller = Teller(session)
         self.text = [] if is_object else session.given.decode(errors="replace").splitlines()
         self.last_move = ""
 
@@ -106,21 +106,12 @@ class Prompt(Completion, cmd.Cmd):
         here, total = self.session.position, self.session.picks.total
         if here > before:
             first = before if here - before <= MOST_TOLD else here - 1
-            told = ""
             for pick in range(first, here):
-                told = self.teller.of_pick(pick)
-                self.say(f"{pick + 1}/{total} {told}")
-            if ": faults (" not in told:
-                self.tell_fault(self.session.picks.arm_of(here - 1).split(".")[0])
+                self.say(f"{pick + 1}/{total} {self.session.did(pick)}")
         elif here < before:
-            self.say(f"{here}/{total} before {self.teller.of_pick(here)}")
+            self.say(f"{here}/{total} before {self.session.did(here)}")
         else:
             self.say(f"{here}/{total} is where it was")
-
-    def tell_fault(self, name: str) -> None:
-        """Tells where a process faulted, if it has: it was the last pick of the process."""
-        if "faulted" in self.session.places(name).values():
-            self.say(f"  fault: {self.session.ask(f'fault {name}')}")
 
     def step_by(self, by: int, line: str) -> None:
         """Goes on or back, at most to an end of the picks."""
@@ -190,13 +181,9 @@ class Prompt(Completion, cmd.Cmd):
         if self.session.position != total:
             raise Mistake(f"a pick is tried after the last one: `to {total}` goes there")
         arm = self.arm(words)
-        place = self.session.places(arm.split(".")[0])[arm]
-        if isinstance(place, str):
-            raise Mistake(f"{arm} can't be picked: {place}")
-        why = shown.is_waiting(self.session, self.teller, arm, place)
-        if why:
-            raise Mistake(f"{arm} can't be picked: it {why}")
-        self.session.move(f"pick {arm}")
+        if self.session.move(f"pick {arm}") is None:
+            words = self.session.does(arm).partition(": ")[2]
+            raise Mistake(f"{arm} can't be picked: {words if words in NOT_LIVE else f'it {words}'}")
         self.session.picks.add(arm)
         self.last_move = f"pick {arm}"
         self.tell_from(total)
@@ -211,7 +198,7 @@ class Prompt(Completion, cmd.Cmd):
 
     def do_arms(self, _: str) -> None:
         """Carries out `arms`."""
-        lines = list(shown.arms(self.session, self.teller))
+        lines = list(shown.arms(self.session))
         self.say(lines or "  all processes have ended")
 
     def do_vars(self, words: str) -> None:
@@ -232,11 +219,9 @@ class Prompt(Completion, cmd.Cmd):
         """Carries out `who R`."""
         resource = self.resource(words)
         self.say(shown.loans(self.session, resource))
-        for arm in [it for process in self.session.code.processes.values() for it in process.arms()]:
-            place = self.session.places(arm.split(".")[0])[arm]
-            it = self.teller.process(arm).code[place] if isinstance(place, int) else None
-            if it and it.kind == "take" and resource in self.teller.bundle(it).split():
-                self.say(f"  {arm} asks for {self.teller.bundle(it)}")
+        for arm, verb, *rest in map(str.split, self.session.listed(f"who {resource}")):
+            if verb == "asks":
+                self.say(f"  {arm} asks for {' '.join(rest)}")
 
     def do_circle(self, _: str) -> None:
         """Carries out `circle`."""
@@ -256,7 +241,7 @@ class Prompt(Completion, cmd.Cmd):
             self.say(f"  no pick up to here changed {integer}")
         else:
             position = int(answer.split()[1])
-            self.say(f"  {position}/{self.session.picks.total} {self.teller.of_pick(position - 1)}")
+            self.say(f"  {position}/{self.session.picks.total} {self.session.did(position - 1)}")
 
     def do_fault(self, words: str) -> None:
         """Carries out `fault P`."""
@@ -266,8 +251,7 @@ class Prompt(Completion, cmd.Cmd):
 
     def do_line(self, words: str) -> None:
         """Carries out `line P.a`."""
-        arm = self.arm(words)
-        self.say(f"  {self.teller.of_arm(arm, self.session.places(arm.split('.')[0])[arm])}")
+        self.say(f"  {self.session.does(self.arm(words))}")
 
     def do_text(self, words: str) -> None:
         """Carries out `text P.a`."""

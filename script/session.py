@@ -14,6 +14,8 @@ from script.places import say
 # A search for a value looks through so many picks first, and then through twice as many each time.
 LOOKED_AHEAD = 64
 REFUSAL = re.compile(r"refused G\d$")
+# Tells where an answer ends that may have any number of lines.
+MARK = "mark 0"
 # The line of a pick that is not enabled, with its number.
 NOT_ENABLED = re.compile(r"refused H1 at (\d+)")
 
@@ -106,6 +108,31 @@ class Session:
         first = self.ask(command)
         return [first, *(self.read() for _ in range(count - 1))]
 
+    def listed(self, command: str) -> list[str]:
+        """Returns all lines of an answer, of which there may be none."""
+        try:
+            lines = [self.ask(f"{command}\n{MARK}")]
+        except Denied:
+            self.read()
+            raise
+        while lines[-1] != MARK:
+            lines.append(self.read())
+            if not lines[-1]:
+                raise Refused(self.close(), "the session has ended")
+        return lines[:-1]
+
+    def does(self, arm: str) -> str:
+        """Returns what the next pick of an arm does, in words: `p.2 line 8: reads x (0)`."""
+        return self.ask(f"does {arm}")
+
+    def did(self, pick: int) -> str:
+        """Returns what the pick with this number did. The session stays where it is."""
+        here = self.position
+        self.go(pick)
+        told = self.does(self.picks.arm_of(pick))
+        self.go(here)
+        return told.replace(": asks for ", ": is granted ", 1)
+
     def move(self, command: str) -> str | None:
         """Makes a move, and returns what is told after the new position, or nothing if there is no such position."""
         answer = self.ask(command)
@@ -166,6 +193,10 @@ class Session:
             return dict.fromkeys(arms, "faulted")
         states = [line.split(" ", 1)[1] for line in [first, *(self.read() for _ in arms[1:])]]
         return {arm: int(it[3:]) if it.startswith("at ") else it for arm, it in zip(arms, states)}
+
+    def has_faulted(self, process: str) -> bool:
+        """Returns whether a process has faulted."""
+        return "faulted" in self.places(process).values()
 
     def circle(self) -> list[tuple[str, str, str]]:
         """Returns arm, resource and holder of each link of a circular wait: the last holder is the first process."""

@@ -1,11 +1,13 @@
 """What a session shows beside picks: the source with its arms, the arms, integers, loans, and why an arm waits."""
 from __future__ import annotations
 
+import re
 from collections.abc import Iterator
 
-from script.happenings import Teller
 from script.session import Session
 
+# How a line begins that says what an arm does at a source line.
+AT_LINE = re.compile(r"(\S+) line (\d+): ")
 # A text of more lines is shown around its arms, with so many lines before and after.
 MOST_LINES, AROUND = 40, 3
 
@@ -13,10 +15,11 @@ MOST_LINES, AROUND = 40, 3
 def lines_of_arms(session: Session) -> dict[int, list[str]]:
     """Returns for source lines the arms that are there."""
     found: dict[int, list[str]] = {}
+    lines = {at[1]: int(at[2]) for at in map(AT_LINE.match, session.listed("arms")) if at}
     for process in session.code.processes.values():
-        for arm, place in session.places(process.name).items():
-            if isinstance(place, int) and process.code[place].line:
-                found.setdefault(process.code[place].line, []).append(arm)
+        for arm in process.arms():
+            if arm in lines:
+                found.setdefault(lines[arm], []).append(arm)
     return found
 
 
@@ -40,20 +43,6 @@ def listing(session: Session, text: list[str], around: int | None) -> Iterator[s
         yield f"{line:<60}  {here}" if here else line
 
 
-def is_waiting(session: Session, teller: Teller, arm: str, place: int) -> str | None:
-    """Returns why an arm at a place can't be picked, or nothing if it can."""
-    process = teller.process(arm)
-    it = process.code[place]
-    if it.kind == "join":
-        states = session.places(process.name)
-        left = [other for other in process.arms()[it.values[0] : it.values[0] + it.values[1]] if states[other] != "ended"]
-        return f"waits for {' and '.join(left)}" if left else None
-    if it.kind == "take":
-        answer = session.ask(f"why {arm}")
-        return None if answer.startswith(("order", "granted")) else f"asks for {teller.bundle(it)}, and waits: {reason(answer)}"
-    return None
-
-
 def reason(answer: str) -> str:
     """Returns the answer of the program's `why` in words."""
     word, _, rest = answer.partition(" ")
@@ -69,24 +58,15 @@ def reason(answer: str) -> str:
     return "it is not asking for anything" if answer == "not asking" else answer
 
 
-def arms(session: Session, teller: Teller) -> Iterator[str]:
+def arms(session: Session) -> Iterator[str]:
     """Yields for each arm that is alive what it would do, the one of the next pick with a mark, those that wait last."""
-    waiting, picks = [], session.picks
+    picks = session.picks
     following = picks.arm_of(session.position) if session.position < picks.total else None
-    for process in session.code.processes.values():
-        places = session.places(process.name)
-        if "faulted" in places.values():
-            waiting.append(f"  {process.name} has faulted")
-        for arm, place in places.items():
-            if not isinstance(place, int):
-                continue
-            why = is_waiting(session, teller, arm, place)
-            line = process.code[place].line
-            if why:
-                waiting.append(f"  {arm}{f' line {line}' if line else ''}: {why}")
-            else:
-                yield f"{'>' if arm == following else ' '} {teller.of_arm(arm, place)}"
-    yield from waiting
+    for line in session.listed("arms"):
+        yield f"{'>' if re.split('[ :]', line, maxsplit=1)[0] == following else ' '} {line}"
+    for name in session.code.processes:
+        if session.has_faulted(name):
+            yield f"  {name} has faulted"
 
 
 def integers(session: Session, process: str) -> str:
@@ -97,10 +77,9 @@ def integers(session: Session, process: str) -> str:
 
 def threads(session: Session, process: str) -> Iterator[str]:
     """Yields where each arm of a process is."""
-    code = session.code.processes[process].code
     for arm, place in session.places(process).items():
-        line = code[place].line if isinstance(place, int) else 0
-        yield f"  {arm}: {place if isinstance(place, str) else f'line {line}' if line else 'at its end'}"
+        line = session.ask(f"line {arm}") if isinstance(place, int) else place
+        yield f"  {arm}: {'at its end' if line == 'line none' else line}"
 
 
 def circle(session: Session) -> Iterator[str]:

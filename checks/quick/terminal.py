@@ -23,7 +23,6 @@ from calls import DONE, EXAMPLES, FAULT, LIMIT, REFUSED, TOP, WATCHDOG, Tally, c
 sys.path.insert(0, str(TOP))
 sys.dont_write_bytecode = True
 from script.code import read_code  # noqa: E402
-from script.happenings import Teller  # noqa: E402
 from script.picks import Picks  # noqa: E402
 from script.session import Session  # noqa: E402
 
@@ -54,7 +53,7 @@ LOST_PICKS = """1/15 p.0 line 6: starts p.1 and p.2
 9/15 p.2 line 8: computes 0 + 1: 1
 10/15 p.2 line 8: assigns 1 to x (it was 1)
 11/15 p.2: ends
-12/15 p.0 line 6: goes on behind p.1 and p.2
+12/15 p.0 line 6: goes on after p.1 and p.2
 13/15 p.0 line 10: reads x (1)
 14/15 p.0 line 10: prints 1
 15/15 p.0: ends the process""".splitlines()
@@ -103,8 +102,8 @@ def try_example(tally: Tally, name: str, run: bytes) -> None:
     made = call(["emit"], text + b"\n")[1].decode()
     picks = Picks(lines.decode().splitlines())
     session = Session([program()], text + b"\n", read_code(made), picks)
-    teller, most = Teller(session), min(picks.total, MOST_PICKS)
-    told = [teller.of_pick(pick) for pick in range(most)]
+    most = min(picks.total, MOST_PICKS)
+    told = [session.did(pick) for pick in range(most)]
     tally.expect(session.position == 0, name, "a pick that is told of moves the session")
     session.close()
     wanted = call(["replay"], run)[1].decode().splitlines()[:-1]
