@@ -1,6 +1,6 @@
 use Rattle.pb_base.specs.Lines.{names_view}
 use Rattle.pb_bank.proofs.CapitalDesks.{desk_same, told_rest}
-use Rattle.pb_bank.proofs.Results.{on_ok}
+use Rattle.pb_base.proofs.Results.{on_ok}
 use Rattle.pb_bank.proofs.desk.Desk.set_capital.Goals as goal
 
 pub invariant_of-self-in-Claimed : goal.invariant_of-self-in-Claimed
