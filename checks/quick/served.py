@@ -177,14 +177,14 @@ def try_refusals(tally: Tally, served: Served) -> None:
         tally.expect(first.say("1 job a 2 tape") == [], "a job does not join")
         second.say("session 600")
         for line, code in (
-            ("1 ask a 1 tape", "S3"), ("2 leave a", "S3"), ("3 resource more 1", "S4"), (f"4 use a {key[::-1]}x", "S5"),
-            ("5 job -hole-1 1 tape", "S11"), ("attach 999999 x 0", "S5"), (f"attach {sid} x 0", "S5"), ("session 0", "S10"),
+            ("1 ask a 1 tape", "S3"), ("2 leave a", "S3"), ("3 resource more 1", "S4"), ("4 capital tape 9", "S4"), (f"5 use a {key[::-1]}x", "S5"),
+            ("6 job -hole-1 1 tape", "S11"), ("attach 999999 x 0", "S5"), (f"attach {sid} x 0", "S5"), ("session 0", "S10"),
             ("session 86401", "S10"), ("session", "S10"), ("session \xb2", "S10"),
         ):
             tally.expect(code_of(second.say(line)) == code, line, "is not refused by", code)
-        tally.expect(second.say(f"6 use a {key}") == [], "the key of a session does not let others in")
-        tally.expect(second.say("7 ask a 1 tape") == ["7 granted a 1 tape"], "who has the key is not granted anything")
-        tally.expect(second.say("7 ask a 1 tape") == ["7 granted a 1 tape"], "a repetition has another answer")
+        tally.expect(second.say(f"7 use a {key}") == [], "the key of a session does not let others in")
+        tally.expect(second.say("8 ask a 1 tape") == ["8 granted a 1 tape"], "who has the key is not granted anything")
+        tally.expect(second.say("8 ask a 1 tape") == ["8 granted a 1 tape"], "a repetition has another answer")
         tally.expect(first.say("2 give a 2 tape") == ["2 refused B11 the job does not hold as much: tape"], "it was granted twice")
         second.say("end")
         tally.expect("job a tape claim 2 holds 0 needs 2" in first.say("state"), "an ended session keeps what it got by `use`")

@@ -110,7 +110,7 @@ class Desk:
     def _refusal(self, sid: int, session: Session, command: Command) -> str | None:
         """Returns why a session may not send a command, if it may not."""
         job = command.subject
-        if command.verb == "resource":
+        if command.verb in ("resource", "capital"):
             return refused("S4")
         if command.verb == "job":
             return refused("S11") if job.startswith(HOLE) else None
@@ -130,7 +130,7 @@ class Desk:
         if first == "granted" and command.verb in ("ask", "want"):
             self.counts["granted"] += 1
         self._keep(sid, session, command, first)
-        if command.verb in ("job", "give", "leave"):
+        if command.verb in ("capital", "job", "give", "leave"):
             self._tell(answer, notices)
         return answer
 

@@ -23,7 +23,7 @@ REFUSED = {
     "S1": "the first line over this transport is `auth TOKEN`, with a token that is known",
     "S2": "this server answers no more",
     "S3": "the job belongs to another session",
-    "S4": "only the operator declares resources",
+    "S4": "only the operator declares resources and changes their capital",
     "S5": "no such session, or not its key",
     "S6": "the answer to this request is no longer kept",
     "S7": "too many sessions or clients",
@@ -32,7 +32,7 @@ REFUSED = {
     "S10": f"a lease is {MIN_LEASE} to {MAX_LEASE} seconds",
     "S11": f"names that begin with {HOLE} are the server's",
 }
-CHANGING = frozenset(("resource", "job", "ask", "hold", "want", "drop", "give", "leave"))
+CHANGING = frozenset(("resource", "capital", "job", "ask", "hold", "want", "drop", "give", "leave"))
 NOT_A_COMMAND = "refused B1 not a command"
 # Words as the bank cuts them: blanks part them, and a comma is a word. (Python's split() knows other blanks.)
 WORD = re.compile(r"[^ \t\r,]+|,")

@@ -33,7 +33,7 @@ pub(crate) fn read_message(
 /// Returns the message of changes, of which this one names no resource; or if none is that one, of which a claim is over
 /// the capital that it has with them.
 fn changes_message(alloc: Global, unknown: Option<&Change>) -> Result<Vec<u8>, NoMemory>
-    ensures { IfOk result (λ message. message.items ≡ change_message (option_map (λ change. change.now) unknown)) }
+    ensures { IfOk result (λ message. message.items ≡ change_message (option_map (λ change. change.now) unknown.entry)) }
 {
     let mut message = Vec::new(alloc);
     match unknown {
