@@ -24,7 +24,7 @@ use pb_verifier::Verified;
 use std::alloc::Global;
 
 /// Debugs the code that a first part gave under a lending, with the text whose lines are shown.
-#[tactic(auto, using(crate::proofs::PartLemmas::takes_none))]
+#[tactic(auto, using(pb_debug::proofs::LineParts::takes_none))]
 fn debug_code<I: Input, O: Output>(
     alloc: Global,
     lending: Lending,
@@ -73,7 +73,7 @@ fn debug_code<I: Input, O: Output>(
 
 /// Debugs a text or an object under a lending after the picks of the pick lines: writes the answers to the commands, or the
 /// line of the first refusal. The text or object is judged first, then the pick lines, then the picks.
-#[tactic(auto, using(crate::proofs::PartLemmas::takes_none))]
+#[tactic(auto, using(pb_debug::proofs::LineParts::takes_none))]
 pub fn debug_parts<I: Input, O: Output>(
     alloc: Global,
     lending: Lending,
