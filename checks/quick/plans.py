@@ -138,7 +138,7 @@ def try_capital_of_files(tally: Tally, it: Folder) -> None:
     tally.expect(status == REFUSED and is_told and "refused N3 tape" in told, "a table with other capitals", told, said)
     for words, part in ((["--capital=tape=1"], "error C1: with the capitals of --capital "), (["--capital=reel=1"], "error N3: --capital names a resource ")):
         for form in ("gcc", "sarif", "json"):
-            status, told, said = it.run("plan", "--format", form, *words, "two.pb", "week.pb")
+            status, told, said = it.run("plan", "--format", form, *words, "week.pb", "hello.pb")
             is_of_none = status == REFUSED and said.startswith(part) and "error" not in told
             tally.expect(is_of_none, words, "is told of a file by", form, told, said)
         status, told, said = it.run("plan", *words, "week.pb")
