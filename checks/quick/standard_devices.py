@@ -173,9 +173,9 @@ def try_call(tally: Tally, of: Call) -> None:
 
 def look_at_words(tally: Tally) -> None:
     """Looks whether a person is told of an output that is full, unless the call is to be quiet."""
-    for words, wanted in ((["claims"], b"device: "), (["--quiet", "claims"], b"")):
+    for words, wanted in ((["run"], b"device: "), (["--quiet", "run"], b"")):
         with open("/dev/full", "wb") as full:
-            done = subprocess.run([program(words), *words], input=b"process p begin skip end\n", stdout=full, stderr=subprocess.PIPE,
+            done = subprocess.run([program(words), *words], input=b"process p begin print 1 end\n", stdout=full, stderr=subprocess.PIPE,
                                   timeout=WATCHDOG, check=False)
         tally.expect(done.stderr[:8] == wanted, *words, "says", done.stderr)
 
