@@ -67,9 +67,7 @@ _parbegin() {
     replay) options="--lend" ;;
     run) options="--workers --quantum --steps --seed --lend" ;;
     sample) options="--runs --seed --lend --steps --events --jobs" ;;
-    serve)
-        options="--journal --socket --mode --capital --tcp --cert --key --tokens --http --clients --sessions --snapshot-every"
-        ;;
+    serve) options="--journal --socket --mode --capital --tcp --cert --key --tokens --http --clients --sessions --snapshot-every" ;;
     states) options="--rows --from --lend" ;;
     help)
         # its word is a command
