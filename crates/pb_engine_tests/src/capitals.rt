@@ -16,10 +16,10 @@ fn are_read(alloc: Global, words: &[&str], changes: &[&str]) -> bool {
     let Some(changes) = changes_of(changes) else {
         return false;
     };
-    match options(alloc, words) {
-        Ok(read) => read == Options::Plan(PlanOptions { lend: Lend::Banker }, changes),
-        Err(_) => false,
-    }
+    let Ok(read) = options(alloc, words) else {
+        return false;
+    };
+    read == Options::Plan(PlanOptions { lend: Lend::Banker }, changes)
 }
 
 /// Returns whether the plan with these changes is this one, with this status.

@@ -11,10 +11,10 @@ use std::alloc::Global;
 
 /// Returns whether the words after the program's own name are read as these options.
 fn are_read(alloc: Global, words: &[&str], wanted: Options) -> bool {
-    match options(alloc, words) {
-        Ok(read) => read == wanted,
-        Err(_) => false,
-    }
+    let Ok(read) = options(alloc, words) else {
+        return false;
+    };
+    read == wanted
 }
 
 /// Returns whether a command is refused with a word behind it.
