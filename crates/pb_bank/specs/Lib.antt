@@ -1,5 +1,6 @@
 pub mod Answers
 pub mod Capitals
+pub mod Claims
 pub mod Desks
 pub mod Queues
 pub mod Refusals

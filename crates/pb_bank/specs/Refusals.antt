@@ -1,5 +1,5 @@
 -- Why a command is refused, and why a request is not granted.
-use Rattle.std.specs.Prelude.{◌≡◌, ℕ, ◌<◌, Bool, false, cond, List, [], ◌++◌, codes, slice_index_or, ⊤}
+use Rattle.std.specs.Prelude.{◌≡◌, ℕ, ◌<◌, Bool, false, cond, List, [], ◌++◌, codes, slice_index_or, Result, Ok, Err, ⊤}
 use Rattle.std.specs.Fmt.{decimal}
 use Rattle.pb_base.specs.Banker.{BankerState, processes, resources, cash}
 use Rattle.pb_base.specs.Lines.{NameTable, line, each_below, name_of}
@@ -7,6 +7,7 @@ use Rattle.pb_banker.specs.declared.reason.Reason.{Reason}
 use Rattle.pb_banker.specs.declared.reason.Reason.TheVariants.{Allowed, OverClaim, OverCash, Rest}
 use Rattle.pb_bank.specs.declared.refusal.Refusal.{Refusal}
 use Rattle.pb_bank.specs.declared.refusal.Refusal.TheVariants as refused
+use Rattle.pb_bank.specs.declared.request.Request.{Request}
 use Rattle.pb_bank.specs.Desks.{DeskValue}
 use Rattle.pb_bank.specs.Words.{shown_word}
 
@@ -28,6 +29,7 @@ refusal_text names words (refused.OverCapital r) = line (codes "refused B10 a cl
 refusal_text names words (refused.NotHeld r) = line (codes "refused B11 the job does not hold as much: " ++ name_of names.resources r)
 refusal_text names words refused.HasWish = line (codes "refused B12 the job has a wish in the queue")
 refusal_text names words refused.NoWish = line (codes "refused B13 the job has no wish in the queue")
+refusal_text names words (refused.InUse r) = line (codes "refused B14 the job holds or waits for more: " ++ name_of names.resources r)
 
 -- what is said of a refused command with these words, which changes nothing
 abbrev pub Refuses : (words : List (List ℕ)) → Refusal → DeskValue → List ℕ → DeskValue → Type 0
@@ -61,3 +63,9 @@ IsReasonAmong n (Rest slots) = ⊤
 -- so it is in this state
 abbrev pub IsReasonOf : BankerState → Reason → Type 0
 IsReasonOf s reason = IsReasonAmong (resources s) reason
+
+-- what is said of a request, if the words say one
+abbrev pub OfRequest : (Request → List ℕ → DeskValue → Type 0) → (words : List (List ℕ)) → Result Request Refusal → DeskValue
+    → List ℕ → DeskValue → Type 0
+OfRequest Says words (Err refusal) d said next = Refuses words refusal d said next
+OfRequest Says words (Ok w) d said next = Says w said next

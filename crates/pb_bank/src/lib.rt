@@ -4,6 +4,7 @@
 mod answer;
 mod ask;
 mod capital;
+mod claim;
 mod come;
 mod desk;
 mod kind;

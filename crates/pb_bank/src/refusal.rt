@@ -41,6 +41,8 @@ pub enum Refusal {
     HasWish,
     /// The job has no wish in the queue.
     NoWish,
+    /// The job holds or waits for more of this resource.
+    InUse(usize),
 }
 
 /// Returns a byte of a word as it is shown.
@@ -129,5 +131,6 @@ pub(crate) fn put_refusal(
         }
         Refusal::HasWish => put(out, b"refused B12 the job has a wish in the queue\n"),
         Refusal::NoWish => put(out, b"refused B13 the job has no wish in the queue\n"),
+        Refusal::InUse(r) => put_resource(out, b"refused B14 the job holds or waits for more: ", names, r),
     }
 }
