@@ -62,7 +62,7 @@ module _ {T : Type 0} (tells breaks : T → Saying → T → Type 0) (Says : Lis
   of_cause bytes None said short may ends = (NoMemory ∷ [], status.Memory, no_memory, ends)
   of_cause bytes (Some c) said short may ends = (said ∷ [], status.Refused, read (said ∷ []) status.Refused short (may c refl), ends)
 
-  -- ---- what an engine answers
+  -- ---- the answer of an engine
 
   -- the input was read
   pub answers_read : (rest : Option (List ℕ)) (reads reads' : ℕ) (bytes slice : List ℕ) (mid : T) → IfSome rest (λ b. bytes ≡ b)

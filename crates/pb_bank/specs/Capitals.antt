@@ -1,4 +1,4 @@
--- What a desk answers to another capital of a resource.
+-- What `capital R K` changes, and the answer to it.
 use Rattle.std.specs.Prelude.{◌≡◌, ℕ, List, [], ◌∷◌, ◌++◌, codes, Option, Some, None}
 use Rattle.pb_base.specs.Banker.{processes}
 use Rattle.pb_base.specs.Lines.{line}

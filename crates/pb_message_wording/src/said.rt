@@ -107,7 +107,7 @@ fn end_before(tokens: &[Token], number: usize) -> usize {
     }
 }
 
-/// Returns a word or symbol as it is inserted: with a blank before it, if it is no symbol that needs none.
+/// Returns a word or symbol as it is inserted: with a blank before it, unless it is a symbol that needs none.
 fn inserted(alloc: Global, word: &str) -> Result<Vec<u8>, AllocError> {
     let mut bytes = Vec::new(alloc);
     if !matches!(word, ";" | "," | ")") {

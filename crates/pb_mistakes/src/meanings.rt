@@ -277,7 +277,7 @@ const VALUES: [Meaning; 6] = [
     },
 ];
 
-/// Returns whether a word is one of these, but for capital letters.
+/// Returns whether a word is one of these, ignoring case.
 fn is_among(words: &str, text: &[u8]) -> bool {
     words
         .split(' ')

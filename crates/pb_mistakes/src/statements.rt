@@ -22,7 +22,7 @@ pub fn head_mistake<'t>(tokens: &[Token<'t>], number: usize) -> Option<Told<'t>>
     Some(told.placed("`@1`: ", tokens.get(before)))
 }
 
-/// Returns what is told of a name that begins a statement and does not assign, and is no word of other languages.
+/// Returns what is told of a name that begins a statement, does not assign, and is not a word of another language.
 fn unknown_head<'t>(tokens: &[Token<'t>], number: usize) -> Told<'t> {
     let name = text_at(tokens, number);
     let told = if is_process(tokens, name) {

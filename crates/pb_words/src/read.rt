@@ -38,7 +38,7 @@ use std::alloc::{AllocError, Global};
 const NO_LEND: &str =
     "error: the value of '--lend' is banker or cash\n\nFor more information, try '--help'.\n";
 
-/// The text of a word that is no capital of a resource.
+/// The text of a word that is not a capital of a resource.
 const NO_CAPITAL: &str =
     "error: the value of '--capital' is a resource with how much there is of it, 0 to 1000000, such as tape=2; each is named once\n\nFor more information, try '--help'.\n";
 
