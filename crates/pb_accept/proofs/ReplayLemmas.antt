@@ -47,7 +47,7 @@ can_make_again lending code lines entries end are =
     (picks_of entries, end, omega (arith, many), traces_make lending code (code_opening code) end entries are.replay.leads)
 
 module _ {T : Type 0} (tells breaks : T → Saying → T → Type 0) (old new : T) (given : Status) where
-  -- an accepted text, and what is told of the lines behind it
+  -- an accepted text, and what is told of the lines after it
   pub text_is_replayed : (lending : Lending) (bytes text lines : List ℕ) (code known : Code) (labels : List ProcessLabels) → length bytes ≤ 4194304
       → AreTwoParts bytes text lines → IsCompiled text code labels → known ≡ code → Speaks tells breaks (SaysOfLines lending known lines) old new given
       → Speaks tells breaks (SaysOfAny (SaysOfReplay lending) bytes) old new given

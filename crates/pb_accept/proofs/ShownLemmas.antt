@@ -41,7 +41,7 @@ module _ (a b c d : At Held) (x y z whole : List ℕ) (is : whole ≡ x ++ (y ++
   three_added first second third =
       subst (λ (l : List ℕ). Adds a l d) (sym is) (adds_more a b d x (y ++ z) first (adds_more b c d y z second third))
 
--- a text behind others
+-- a text after others
 abbrev pub all_then : List (List ℕ) → List ℕ → List ℕ
 all_then [] rest = rest
 all_then (x ∷ xs) rest = x ++ all_then xs rest

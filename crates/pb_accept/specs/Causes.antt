@@ -97,7 +97,7 @@ load_cause (Unsafe fault) = verify_cause fault
 
 -- ---- pick lines
 
--- where the first line that says no picks begins, counted from behind the line `%%`
+-- where the first line that says no picks begins, counted from after the line `%%`
 abbrev pub picks_cause : PickFault → Option Cause
 picks_cause (picks.NotPicks at) = placed K1 at
 picks_cause picks.TooMany = plain K2
@@ -115,7 +115,7 @@ lines_cause (NotMade fault) = stop_cause fault
 
 -- ---- the line of a cause
 
--- an offset behind a code
+-- an offset after a code
 abbrev pub offset_text : Option ℕ → List ℕ
 offset_text None = []
 offset_text (Some at) = codes " at " ++ decimal at

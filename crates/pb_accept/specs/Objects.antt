@@ -26,7 +26,7 @@ use Rattle.pb_voice.specs.declared.form.Form.TheVariants.{Lines, Objects}
 abbrev pub memory_json : List ℕ
 memory_json = codes "{\"kind\":\"memory\"}\n"
 
--- an offset behind a code
+-- an offset after a code
 abbrev pub offset_json : Option ℕ → List ℕ
 offset_json None = []
 offset_json (Some at) = codes ",\"at\":" ++ decimal at
@@ -39,7 +39,7 @@ kind_json Integers = codes ",\"text\":\"integers\""
 kind_json Fork = codes ",\"text\":\"fork\""
 kind_json Arms = codes ",\"text\":\"arms\""
 
--- the member behind the code of a fault of names
+-- the member after the code of a fault of names
 abbrev pub limit_json : NameFault → List ℕ
 limit_json (names.TooMany kind) = kind_json kind
 limit_json (names.Twice at) = []
@@ -48,7 +48,7 @@ limit_json (names.Amount at) = []
 limit_json (names.Repeated at) = []
 limit_json names.NoMemory = []
 
--- the object of a cause with a member behind it
+-- the object of a cause with a member after it
 abbrev pub cause_json : Option Cause → (member : List ℕ) → List ℕ
 cause_json None member = memory_json
 cause_json (Some cause) member = concat (

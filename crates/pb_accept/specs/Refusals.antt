@@ -38,7 +38,7 @@ kind_words Integers = codes " integers"
 kind_words Fork = codes " fork"
 kind_words Arms = codes " arms"
 
--- the words behind the code of a fault of names
+-- the words after the code of a fault of names
 abbrev pub limit_words : NameFault → List ℕ
 limit_words (names.TooMany kind) = kind_words kind
 limit_words (names.Twice at) = []

@@ -27,7 +27,7 @@ pub data SaysOfEvents (lending : Lending) (code : Code) (events : List Event) (e
   all_told : (ending : Ending) → IsEnding lending code end ending → (status : Status) → IsEndStatus end ending status
       → SaysOfEvents lending code events end (shown code.names events ++ Ended ending ∷ []) status
 
--- what is said of the lines behind an accepted text, by its code
+-- what is said of the lines after an accepted text, by its code
 pub data SaysOfLines (lending : Lending) (code : Code) (lines : List ℕ) : List Saying → Status → Type 0 where
   not_made : (fault : LinesFault) (cause : Cause) → IsLinesFaultBy lending code lines fault → lines_cause fault ≡ Some cause
       → SaysOfLines lending code lines (NoPicks fault ∷ []) status.Refused
@@ -36,7 +36,7 @@ pub data SaysOfLines (lending : Lending) (code : Code) (lines : List ℕ) : List
       → (said : List Saying) (status : Status) → SaysOfEvents lending code (events_of entries) end said status
       → SaysOfLines lending code lines said status
 
--- what is said of an input, which is a text and pick lines behind it: its text is refused; or the text is
+-- what is said of an input, which is a text and pick lines after it: its text is refused; or the text is
 -- accepted, and its lines or their picks are refused; or all picks are made, and their events are told, of
 -- which the program can make the same under this lending with as many picks
 pub data SaysOfReplay (lending : Lending) (bytes : List ℕ) : List Saying → Status → Type 0 where

@@ -1,4 +1,4 @@
--- A text with the picks of a run behind it, as `replay` reads it.
+-- A text with the picks of a run after it, as `replay` reads it.
 use Rattle.std.specs.Prelude.{◌≡◌, ◌<◌, ◌≤◌, ◌⊎◌, ◌++◌, ◌-◌, ℕ, List, Some, codes, length, slice_get}
 use Rattle.pb_base.specs.declared.limits.TheConstants.{MAX_INPUT}
 use Rattle.pb_base.specs.Lines.{NameTable, line}
@@ -11,7 +11,7 @@ use Rattle.pb_picks.specs.PickLines.{pick_lines}
 abbrev pub EndsLine : List ℕ → Type 0
 EndsLine text = slice_get text (length text - 1) ≡ Some 10
 
--- the text, with a line feed behind it if it ends in none
+-- the text, with a line feed after it if it ends in none
 abbrev pub IsEnded : (text ended : List ℕ) → Type 0
 IsEnded text ended = (EndsLine text × (ended ≡ text)) ⊎ ((¬ EndsLine text) × (ended ≡ line text))
 

@@ -31,7 +31,7 @@ pub data Saying : Type 0 where
   Limit : (steps : ℕ) → Saying
   Threads TooLong NoMemory : Saying
 
--- the line of a cause with words behind it; there is no cause if out of memory
+-- the line of a cause with words after it; there is no cause if out of memory
 abbrev pub cause_said : Option Cause → (words : List ℕ) → List ℕ
 cause_said None words = memory_line
 cause_said (Some cause) words = line (cause_line cause ++ words)

@@ -21,7 +21,7 @@ fn comma(item: usize) -> &'static [u8]
     if item == 0 { b"" } else { b"," }
 }
 
-/// Tells an amount, behind this.
+/// Tells an amount, after this.
 fn tell_pair<O: Output>(
     voice: &mut Voice,
     output: &mut O,

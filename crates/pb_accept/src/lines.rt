@@ -19,7 +19,7 @@ use pb_base::{DeviceFault, Output};
 use pb_codegen::{ClaimsFault, CompileFault};
 use pb_voice::Voice;
 
-/// Tells the line of a cause with these words behind it.
+/// Tells the line of a cause with these words after it.
 fn tell_cause<O: Output>(
     voice: &mut Voice,
     output: &mut O,

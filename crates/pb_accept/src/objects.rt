@@ -33,7 +33,7 @@ fn kind_json(kind: Kind) -> &'static [u8]
     }
 }
 
-/// Returns the member behind the code of a fault of names.
+/// Returns the member after the code of a fault of names.
 fn limit_json(fault: NameFault) -> &'static [u8]
     ensures { result.now ≡ spec.limit_json fault }
 {
@@ -47,7 +47,7 @@ fn limit_json(fault: NameFault) -> &'static [u8]
     }
 }
 
-/// Tells the object of a cause with this member behind it.
+/// Tells the object of a cause with this member after it.
 fn tell_cause<O: Output>(
     voice: &mut Voice,
     output: &mut O,

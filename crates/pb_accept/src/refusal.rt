@@ -12,7 +12,7 @@ use pb_names::{Kind, NameFault};
 use pb_options::Code;
 use std::alloc::Global;
 
-/// Returns the line of a cause, without words behind its offset.
+/// Returns the line of a cause, without words after its offset.
 pub fn cause_text(alloc: Global, cause: Cause) -> Result<Vec<u8>, NoMemory>
     ensures { IfOk result (λ text. text.items ≡ cause_line cause) }
 {
@@ -42,7 +42,7 @@ pub(crate) fn refusal_text(alloc: Global, cause: Option<Cause>) -> Result<Vec<u8
     }
 }
 
-/// Returns the words behind the code of a fault of names: of what there are too many, if that is the fault.
+/// Returns the words after the code of a fault of names: of what there are too many, if that is the fault.
 pub(crate) fn limit_words(fault: NameFault) -> &'static [u8]
     ensures { result.now ≡ words_of_limit fault }
 {

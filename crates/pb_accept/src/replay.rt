@@ -45,7 +45,7 @@ pub enum LinesFault {
     NotMade(ReplayFault),
 }
 
-/// Makes the picks that the pick lines behind the text of the input say, from the start of the text: tells
+/// Makes the picks that the pick lines after the text of the input say, from the start of the text: tells
 /// each event, and then how it ended: every process has ended or faulted, or one has not and
 /// no pick is enabled, or it could go on. A line `%%` is between the text and the pick lines. Of a text, lines or
 /// picks that are refused it tells the refusal alone.
@@ -68,7 +68,7 @@ pub fn replay_engine<I: Input, O: Output, T: Teller>(
     }
 }
 
-/// Makes the picks that the lines behind a text say.
+/// Makes the picks that the lines after a text say.
 fn replay_text<O: Output, T: Teller>(
     alloc: Global,
     lending: Lending,

@@ -1,4 +1,4 @@
-//! A text with the picks of a run behind it.
+//! A text with the picks of a run after it.
 
 ghost use Rattle.std.specs.Prelude.{◌≡◌, ◌↔◌, All, IfOk, IsTrue, codes};
 ghost use Rattle.pb_base.specs.Lines.{HasProcess, line, names_view};
@@ -11,7 +11,7 @@ use pb_history::CountedPick;
 use pb_picks::write_picks;
 use std::alloc::Global;
 
-/// Returns the text with these picks behind it, as `replay` reads it: the text, a line `%%`, and a line for each
+/// Returns the text with these picks after it, as `replay` reads it: the text, a line `%%`, and a line for each
 /// pick with its count. If this would be longer than an input may be, it is the line `refused output`.
 pub fn run_text(
     alloc: Global,
@@ -42,7 +42,7 @@ pub fn too_long(alloc: Global) -> Result<Reply, NoMemory>
     refused(line)
 }
 
-/// Returns the text, with a line feed behind it if it ends in none.
+/// Returns the text, with a line feed after it if it ends in none.
 pub fn ended(alloc: Global, text: &[u8]) -> Result<Vec<u8>, NoMemory>
     ensures { IfOk result (λ whole. IsEnded text.now whole.items) }
 {

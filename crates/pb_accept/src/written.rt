@@ -98,7 +98,7 @@ pub fn write_migration<I: Input, O: Output>(alloc: Global, input: &mut I, output
     voice.finish(output, given)
 }
 
-/// Writes what `replay` says of a text and the pick lines behind it, as lines.
+/// Writes what `replay` says of a text and the pick lines after it, as lines.
 ///
 /// After a read that failed nothing is written; after a write that failed, a first part.
 pub fn write_replay<I: Input, O: Output>(

@@ -82,7 +82,7 @@ Continues d c seq r told next c' =
     (found : Option ℕ) × IsFirst (Comes d c.lines) d.position (length d.picks) found
     × ContinuesTo c.events d seq r found told next × (c' ≡ c)
 
--- behind the last pick one of the arm is tried: the event says what it came to, or why the arm does not go on
+-- after the last pick one of the arm is tried: the event says what it came to, or why the arm does not go on
 abbrev pub TriesArm : Debugging → Client → ℕ → Asked → (thread : Option ℕ) → List Data → Debugging → Client → Type 0
 TriesArm d c seq r thread told next c' =
     (text : List ℕ) × Says d (pick_words d (place_of thread)) text next × (c' ≡ c)
@@ -99,7 +99,7 @@ StepsOn d c seq r told next c' =
 abbrev pub event_if_moved : (seq : ℕ) → (d next : Debugging) → List Data
 event_if_moved seq d next = cond (nat_eq d.position next.position) [] (stopped_data seq next (codes "goto") ∷ [])
 
--- whether some line of a text says that a command is refused; an integer `refused` has a number behind its name
+-- whether some line of a text says that a command is refused; an integer `refused` has a number after its name
 abbrev pub refuses_from : (start : Bool) → List ℕ → Bool
 refuses_from start [] = false
 refuses_from start (b ∷ bs) = (start && starts_with nat_eq (b ∷ bs) (codes "refused G")) || refuses_from (b == 10) bs

@@ -1,4 +1,4 @@
-//! Picks of an arm that are tried behind the last.
+//! Picks of an arm that are tried after the last.
 
 ghost use Rattle.std.specs.Prelude.{◌≡◌, ◌<◌, ◌^◌, IfOk};
 ghost use Rattle.pb_adapter_requests.specs.Requests.{request_view};
@@ -31,7 +31,7 @@ fn tried_reason(before: u32, after: u32) -> &'static str
     if after == before { "waits" } else { "step" }
 }
 
-/// Tries a pick of an arm behind the last, and says what it came to, or why the arm does not go on.
+/// Tries a pick of an arm after the last, and says what it came to, or why the arm does not go on.
 pub fn try_arm(
     alloc: Global,
     seq: u64,

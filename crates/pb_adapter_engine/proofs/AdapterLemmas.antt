@@ -115,7 +115,7 @@ module _ (bytes : List ℕ) (left old mid : Option (List ℕ)) (after : WaitingV
     inl (t.written, refl),
   )
 
-  -- the messages behind a launch are known
+  -- the messages after a launch are known
   left_known : (l : LaunchedText) → after.launched ≡ Some l → left ≡ Some t.rest
   left_known l is =
       let over = launch_is_last t.talks.contents t.messages after t.talks.conversation l is in

@@ -70,7 +70,7 @@ pub data SaysOfLaunched (l : LaunchedText) (first : ℕ) (bytes : List ℕ) : Li
 abbrev pub Waits : (bytes rest : List ℕ) → List Data → WaitingValue → Type 0
 Waits bytes rest messages after = Talks AnswersWaiting (λ s. s.over) nobody 1 bytes rest messages after
 
--- what is written of an input, and the status: nothing was launched; or something was, and the messages behind the
+-- what is written of an input, and the status: nothing was launched; or something was, and the messages after the
 -- launch are answered by its session; or the conversation broke off before a launch
 pub data SaysOfAdapter (bytes : List ℕ) : List ℕ → Status → Type 0 where
   waited : (rest : List ℕ) (messages : List Data) (after : WaitingValue) → Waits bytes rest messages after

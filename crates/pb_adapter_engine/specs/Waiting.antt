@@ -62,7 +62,7 @@ launched_view l = record {
 
 -- ---- what is launched
 
--- without a seed pick lines are behind the text; with one the text is all
+-- without a seed pick lines are after the text; with one the text is all
 abbrev pub ArePartsFor : (seed : Option ℕ) → (words source lines : List ℕ) → Type 0
 ArePartsFor None words source lines = AreTwoParts words source lines
 ArePartsFor (Some seed) words source lines = (source ≡ words) × (lines ≡ [])

@@ -134,7 +134,7 @@ fn picks_for(
     }
 }
 
-/// Returns a text and the pick lines behind it; with a seed the text is all.
+/// Returns a text and the pick lines after it; with a seed the text is all.
 fn parts_for(seed: Option<u64>, words: &[u8]) -> (&[u8], &[u8])
     ensures { ArePartsFor seed words.now result.0.now result.1.now }
 {
@@ -144,7 +144,7 @@ fn parts_for(seed: Option<u64>, words: &[u8]) -> (&[u8], &[u8])
     }
 }
 
-/// Launches a text under a lending: with a seed by the picks that it draws, else by those of the pick lines behind
+/// Launches a text under a lending: with a seed by the picks that it draws, else by those of the pick lines after
 /// the text. It is shown under a path, to a client that counts so.
 pub fn launch_of(
     alloc: Global,

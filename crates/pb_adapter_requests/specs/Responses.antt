@@ -49,6 +49,6 @@ abbrev pub event_in : Option Value → List Data
 event_in None = []
 event_in (Some event) = view event ∷ []
 
--- the response of a reply, and its event behind that
+-- the response of a reply, and its event after that
 abbrev pub told_by : Reply → List Data
 told_by reply = view reply.response ∷ event_in reply.event

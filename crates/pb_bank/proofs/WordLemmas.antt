@@ -119,7 +119,7 @@ pub parts_as : (text word word' rest rest' : List ℕ) → words_of text ≡ bef
 parts_as text word word' rest rest' e w r =
     e ∙ (ap (λ (x : List ℕ). before x (words_of rest')) (sym w) ∙ ap (λ (x : List ℕ). before word (words_of x)) (sym r))
 
--- what is behind the blanks does not begin with one
+-- what is after the blanks does not begin with one
 pub first_kept : (text : List ℕ) (n : ℕ) (rest : List ℕ) → rest ≡ drop n text
     → (n < length text → is_blank (get_or text n 0) ≡ false) → 0 < length rest → is_blank (get_or rest 0 0) ≡ false
 first_kept text n rest is ends some =
@@ -129,7 +129,7 @@ first_kept text n rest is ends some =
     let here : rest ≡ get_or text n 0 ∷ drop (n + 1) text = is ∙ next_at text n lt in
     ap (λ (x : List ℕ). is_blank (get_or x 0 0)) here ∙ ends lt
 
--- the word with a number is the one with the number before, behind the first word
+-- the word with a number is the one with the number before, after the first word
 pub nth_next : (words : List (List ℕ)) (n : ℕ) (word : List ℕ) (rest : List (List ℕ)) → words ≡ before word rest
     → (length word ≡ 0 → words ≡ []) → get_or words (suc n) [] ≡ get_or rest n []
 nth_next words n [] rest is none =

@@ -229,7 +229,7 @@ AnswersJob d (name ∷ words) said next =
 
 -- ---- orders
 
--- the job of a slot behind a space, if a job has it
+-- the job of a slot after a space, if a job has it
 abbrev pub slot_text : NameTable → List Bool → ℕ → List ℕ
 slot_text names used p = cond (slice_index_or used p false) (codes " " ++ name_of names.processes p) []
 
@@ -248,7 +248,7 @@ abbrev pub on_slot : (at : ℕ) → Option ℕ → (ℕ → Result (List ℕ) Re
 on_slot at None next = Err (refused.NoJob at)
 on_slot at (Some p) next = next p
 
--- the slots of the jobs of these names, behind others
+-- the slots of the jobs of these names, after others
 abbrev pub slots_after : DeskValue → (slots : List ℕ) → List (List ℕ) → Result (List ℕ) Refusal
 slots_after d slots [] = Ok slots
 slots_after d slots (word ∷ words) = on_slot (length slots) (job_of d word) (λ p. slots_after d (slots ++ p ∷ []) words)
@@ -333,7 +333,7 @@ AnswersAlone text d (word ∷ words) said next = Refuses [] refused.Command d sa
 
 -- ---- lines
 
--- what is said of a command of this kind with these words behind it
+-- what is said of a command of this kind with these words after it
 abbrev pub AnswersKind : Kind → DeskValue → List (List ℕ) → List ℕ → DeskValue → Type 0
 AnswersKind kind.Skip d words said next = Refuses [] refused.Command d said next
 AnswersKind kind.Resource d words said next = AnswersResource d words said next
@@ -355,12 +355,12 @@ AnswersKind kind.Other d words said next = Refuses [] refused.Command d said nex
 abbrev pub ready_line : List ℕ
 ready_line = line (codes "ready")
 
--- nothing is said of an empty line or a comment; any other line has an answer, and the line `ready` behind it
+-- nothing is said of an empty line or a comment; any other line has an answer, and the line `ready` after it
 abbrev pub AnswersWords : Kind → DeskValue → List (List ℕ) → List ℕ → DeskValue → Type 0
 AnswersWords kind.Skip d words said next = (said ≡ []) × (next ≡ d)
 AnswersWords k d words said next = (text : List ℕ) × AnswersKind k d words text next × (said ≡ text ++ ready_line)
 
--- the first word of a text, which is empty if there is none, and the words behind it
+-- the first word of a text, which is empty if there is none, and the words after it
 abbrev pub first_of : List (List ℕ) → List ℕ
 first_of [] = []
 first_of (word ∷ words) = word

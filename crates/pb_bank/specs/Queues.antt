@@ -17,7 +17,7 @@ without_wish wishes p = filter (λ w. not (w.job == p)) wishes
 
 -- ---- texts
 
--- `, K R`, behind other amounts
+-- `, K R`, after other amounts
 abbrev pub next_text : NameTable → Pair → List ℕ
 next_text names pair = codes "," ++ pair_text names pair
 

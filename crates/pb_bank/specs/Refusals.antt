@@ -12,7 +12,7 @@ use Rattle.pb_bank.specs.Words.{shown_word}
 
 -- ---- refusals
 
--- the line of a refusal of a command with these words behind it
+-- the line of a refusal of a command with these words after it
 abbrev pub refusal_text : NameTable → (words : List (List ℕ)) → Refusal → List ℕ
 refusal_text names words refused.Command = line (codes "refused B1 not a command")
 refusal_text names words (refused.NoComma at) = line (codes "refused B1 not a command: a comma is missing before " ++ shown_word words at)
@@ -39,7 +39,7 @@ Refuses words refusal d said next = (said ≡ refusal_text d.names words refusal
 abbrev pub with_state : DeskValue → BankerState → DeskValue
 with_state d s = record d { bank = record d.bank { state = s } }
 
--- the jobs of a set, each behind a space
+-- the jobs of a set, each after a space
 abbrev pub jobs_text : NameTable → List Bool → ℕ → List ℕ
 jobs_text names set n = each_below (λ p. cond (slice_index_or set p false) (codes " " ++ name_of names.processes p) []) n
 

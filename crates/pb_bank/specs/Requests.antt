@@ -19,8 +19,8 @@ pair_from at (Some amount) (Some r) = Ok (record { resource = r; amount = amount
 abbrev pub pair_of : (names : List (List ℕ)) → (at : ℕ) → (amount resource : List ℕ) → Result Pair Refusal
 pair_of names at amount resource = pair_from at (amount_of amount) (place_of names resource)
 
--- the number of the word behind so many pairs, where a comma belongs, and that of the resource of the next one: words are
--- counted from 0 behind the command, and the first is the job
+-- the number of the word after so many pairs, where a comma belongs, and that of the resource of the next one: words are
+-- counted from 0 after the command, and the first is the job
 abbrev pub comma_place : List Pair → ℕ
 comma_place pairs = 3 * length pairs
 
@@ -41,11 +41,11 @@ abbrev pub on_pair : Result Pair Refusal → (Pair → Result (List Pair) Refusa
 on_pair (Err refusal) next = Err refusal
 on_pair (Ok pair) next = next pair
 
--- a comma behind which no pair is; or another word in its place
+-- a comma after which no pair is; or another word in its place
 abbrev pub no_pair : List Pair → (comma : List ℕ) → Result (List Pair) Refusal
 no_pair pairs comma = cond (is_comma comma) (Err Command) (Err (NoComma (comma_place pairs)))
 
--- further pairs behind some: a comma before each, and no resource twice
+-- further pairs after some: a comma before each, and no resource twice
 abbrev pub pairs_after : (names : List (List ℕ)) → List Pair → List (List ℕ) → Result (List Pair) Refusal
 pairs_after names pairs [] = Ok pairs
 pairs_after names pairs (comma ∷ []) = no_pair pairs comma

@@ -18,7 +18,7 @@ is_blank b = b == 32 || b == 9 || b == 13
 abbrev pub ends_word : ℕ → Bool
 ends_word b = is_blank b || b == 44
 
--- a word and those behind it; an empty one is none
+-- a word and those after it; an empty one is none
 abbrev pub before : List ℕ → List (List ℕ) → List (List ℕ)
 before [] words = words
 before (b ∷ bytes) words = (b ∷ bytes) ∷ words
@@ -28,7 +28,7 @@ abbrev pub trimmed : List ℕ → List ℕ
 trimmed [] = []
 trimmed (b ∷ bytes) = cond (is_blank b) (trimmed bytes) (b ∷ bytes)
 
--- the words of bytes that come behind the first part of a word: blanks part them, and a comma is a word
+-- the words of bytes that come after the first part of a word: blanks part them, and a comma is a word
 abbrev pub cut_words : (word : List ℕ) → List ℕ → List (List ℕ)
 cut_words word [] = before word []
 cut_words word (b ∷ bytes) =

@@ -19,7 +19,7 @@ use pb_base::writing::put;
 pub const MAX_COMMAND: usize = 4_096;
 
 impl Desk {
-    /// Appends the state to `out`, if no words are behind the command.
+    /// Appends the state to `out`, if no words are after the command.
     fn say_state(&self, out: &mut Vec<u8>, text: &[u8]) -> Result<(), NoMemory>
         ensures { OnOk result ((said : List ℕ)
             × answers.AnswersAlone (answers.state_text self.now.names self.now.bank ++ wishes_text self.now.names self.now.wishes)
@@ -36,7 +36,7 @@ impl Desk {
         }
     }
 
-    /// Appends the commands to `out`, if no words are behind this one.
+    /// Appends the commands to `out`, if no words are after this one.
     fn say_help(&self, out: &mut Vec<u8>, text: &[u8]) -> Result<(), NoMemory>
         ensures { OnOk result ((said : List ℕ)
             × answers.AnswersAlone answers.help_text self.now (words_of text.now) said self.now

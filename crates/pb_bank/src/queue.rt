@@ -41,7 +41,7 @@ pub(crate) fn without(
     Ok(others)
 }
 
-/// Appends an amount and its resource to `out`, behind a comma if others are before it.
+/// Appends an amount and its resource to `out`, after a comma if others are before it.
 fn put_amount(out: &mut Vec<u8>, names: &Names, pair: Pair, is_behind: bool) -> Result<(), NoMemory>
     requires { pair.resource < length (names_view names.now).resources }
     ensures { OnOk result (out.new.items ≡ out.old.items

@@ -10,7 +10,7 @@ use crate::words::nth_word;
 use pb_base::writing::{put, put_name};
 use pb_base::{Names, NoMemory};
 
-/// Why a command is refused. It changes nothing then. Words are counted from 0 behind the command.
+/// Why a command is refused. It changes nothing then. Words are counted from 0 after the command.
 #[derive(Clone, Copy, Debug, PartialEq, Eq)]
 pub enum Refusal {
     /// The line is not a command, or is over 4,096 bytes.
@@ -88,7 +88,7 @@ fn put_resource(out: &mut Vec<u8>, words: &[u8], names: &Names, r: usize) -> Res
     put(out, b"\n")
 }
 
-/// Appends the line of a refusal to `out`: of a command behind which this text stands.
+/// Appends the line of a refusal to `out`: of a command after which this text stands.
 pub(crate) fn put_refusal(
     out: &mut Vec<u8>,
     names: &Names,

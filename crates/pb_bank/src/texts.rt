@@ -63,7 +63,7 @@ pub(crate) fn put_jobs(
     Ok(())
 }
 
-/// Appends the line of a set of jobs to `out`, behind words.
+/// Appends the line of a set of jobs to `out`, after words.
 pub(crate) fn put_set(
     out: &mut Vec<u8>,
     words: &[u8],

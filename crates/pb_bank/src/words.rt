@@ -18,7 +18,7 @@ pub struct Cut<'t> {
     pub rest: &'t [u8],
 }
 
-/// Two words, and what is behind them.
+/// Two words, and what is after them.
 #[derive(Clone, Copy)]
 pub struct TwoWords<'t> {
     pub first: &'t [u8],

@@ -177,7 +177,7 @@ trim_again (x ∷ xs) =
     ] in
     both (is_blank x) refl
 
--- of a line that is too long it does not matter what is behind the first word
+-- of a line that is too long it does not matter what is after the first word
 long_words : (s : Bool) (d : DeskValue) (ws ws' : List (List ℕ)) (said : List ℕ) (next : DeskValue)
     → AnswersWords (cond s Skip Other) d ws said next → AnswersWords (cond s Skip Other) d ws' said next
 long_words true d ws ws' said next says = says

@@ -21,7 +21,7 @@ use Rattle.pb_base.proofs.DeviceLemmas.{appended-appended}
 
 -- ---- outputs
 
--- what is left of a text behind what is written
+-- what is left of a text after what is written
 pub leaves_more : (stop : Stop) (old mid new : Option (List ℕ)) (a b : List ℕ) → mid ≡ appended old a → WritesBefore
     stop mid new b → WritesBefore stop old new (a ++ b)
 leaves_more Memory old mid new a b e h = h ∙ (ap (λ o. appended o b) e ∙ appended-appended old a b)
@@ -85,7 +85,7 @@ module _ (d m next : DeskValue) (part xs : List ℕ) (old mid new : Option (List
     written = leaves;
   }
 
-  -- a read failed behind them
+  -- a read failed after them
   pub fed_broken : (ys : List ℕ) → FedSome Device d part (xs ++ ys) old mid
   fed_broken ys = fed_some Device ys (whole_prefix old mid fed.text fed.written)
 
@@ -217,7 +217,7 @@ module _ (d m : DeskValue) (bytes : List ℕ) (old mid : Option (List ℕ)) (lin
   abbrev whole : SplitLines
   whole = cut [] (session_bytes bytes)
 
-  -- nothing but blanks is behind the last line feed
+  -- nothing but blanks is after the last line feed
   last_blank : (r : List ℕ) → length (kept r) ≡ 0 → NoneIsAllowed m.bank.state m.wishes → Session d (whole.lines ++ last_line r) fed.text m
   last_blank [] empty none = subst (λ (ls : List (List ℕ)). Session d ls fed.text m) (sym (append-nil whole.lines)) fed.session
   last_blank (b ∷ bs) empty none =

@@ -15,7 +15,7 @@ module _ (d : DeskValue) (first : IsFirstDesk d) (bytes : List ℕ) (old : Optio
   pub told_all : (end : DeskValue) (new : Option (List ℕ)) → SaysAll d bytes old new end → Tells (SaysOfBank bytes) old new Done
   told_all end new says = (says.text, Done, answered d first says.text end says.session, inl (says.written, refl))
 
-  -- out of memory, which is said behind the answers
+  -- out of memory, which is said after the answers
   pub told_some : (mid new : Option (List ℕ)) (page : List ℕ) (given : Status) → SaysSome stop.Memory d bytes old mid
       → page ≡ [] → Says mid new (page ++ memory_line) Memory given → Tells (SaysOfBank bytes) old new given
   told_some mid new page given some empty says = (

@@ -11,7 +11,7 @@ use Rattle.pb_command_io.specs.declared.status.Status.{Status}
 use Rattle.pb_command_io.specs.declared.status.Status.TheVariants as status
 use Rattle.pb_debug_commands.specs.Lines.{cut, lines_of}
 
--- as much of a line as is kept: behind the blanks that it begins with, one byte more than a command may have
+-- as much of a line as is kept: after the blanks that it begins with, one byte more than a command may have
 abbrev pub kept : List ℕ → List ℕ
 kept line = take 4097 (trimmed line)
 

@@ -15,7 +15,7 @@ use std::alloc::Global;
 /// line feed may be missing. A command that is refused is answered so, and changes nothing.
 ///
 /// The status is `Done` at the end of the input, whatever the commands were. If out of memory, the line
-/// `memory` is written behind the answers to the first lines. If a read or a write fails, the status is
+/// `memory` is written after the answers to the first lines. If a read or a write fails, the status is
 /// `Device`.
 pub fn bank_engine<I: Input, O: Output>(alloc: Global, input: &mut I, output: &mut O) -> Status
     ensures text { IfSome (I.rest input.old) (λ bytes.

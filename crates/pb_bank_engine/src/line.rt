@@ -9,7 +9,7 @@ use std::marker::Model;
 /// The bytes of a line that are kept: one more than a command may have.
 const ROOM: usize = MAX_COMMAND + 1;
 
-/// The first bytes of a line: all of them behind the blanks that it begins with, up to one more than a command may
+/// The first bytes of a line: all of them after the blanks that it begins with, up to one more than a command may
 /// have. So a line of any length takes no memory.
 #[derive(Drop)]
 pub struct Line {

@@ -114,7 +114,7 @@ fn tell_line<O: Output>(
     }
 }
 
-/// Answers each line that ends in the input, and keeps what is behind the last.
+/// Answers each line that ends in the input, and keeps what is after the last.
 fn read_lines<I: Input, O: Output>(
     desk: &mut Desk,
     alloc: Global,

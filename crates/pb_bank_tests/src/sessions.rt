@@ -28,7 +28,7 @@ const CASES: [Case; 10] = [
         commands: b"resource tape 3\njob a 3 tape\njob b 2 tape\nask a 2 tape\nask b 2 tape\ngive a 1 tape\nask b 2 tape\ngive a 2 tape\nask a 4 tape\nleave a\nask b 2 tape\njob a 1 tape\nstate\n",
         said: b"ready\nready\nready\ngranted a 2 tape\nready\nwait cash tape 1\nready\nready\ngranted b 2 tape\nready\nrefused B11 the job does not hold as much: tape\nready\nover claim tape\nready\nready\nover claim tape\nready\nready\nresource tape capital 3 cash 1\njob a tape claim 1 holds 0 needs 1\njob b tape claim 2 holds 2 needs 0\nready\n",
     },
-    // The queue: a large wish does not hold back those behind it, and each is served when its turn comes.
+    // The queue: a large wish does not hold back those after it, and each is served when its turn comes.
     Case {
         commands: b"resource tape 4\njob a 4 tape\njob b 4 tape\njob c 2 tape\njob d 1 tape\nwant a 3 tape\nwant b 3 tape\nwant c 2 tape\nwant d 2 tape\nask b 1 tape\nwant b 1 tape\nhold c 1 tape\ndrop d\ndrop e\ndrop\ndrop b c\nstate\ngive a 1 tape\njob e 4 tape\ngive c 2 tape\nleave a\nwant c 2 tape\nwant d 1 tape\nleave c\nleave b\njob c 2 tape\nask c 2 tape\nwant e 4 tape\ndrop e\ndrop e\n",
         said: b"ready\nready\nready\nready\nready\ngranted a 3 tape\nready\nqueued\nready\nqueued\nready\nover claim tape\nready\nrefused B12 the job has a wish in the queue\nready\nrefused B12 the job has a wish in the queue\nready\nrefused B12 the job has a wish in the queue\nready\nrefused B13 the job has no wish in the queue\nready\nrefused B5 no such job: e\nready\nrefused B1 not a command\nready\nrefused B1 not a command\nready\nresource tape capital 4 cash 1\njob a tape claim 4 holds 3 needs 1\njob b tape claim 4 holds 0 needs 4\njob c tape claim 2 holds 0 needs 2\njob d tape claim 1 holds 0 needs 1\nwish b 3 tape\nwish c 2 tape\nready\ngranted c 2 tape\nready\nready\nready\ngranted b 3 tape\nready\nqueued\nready\ngranted d 1 tape\nready\nready\nready\nready\ngranted c 2 tape\nready\nqueued\nready\nready\nrefused B13 the job has no wish in the queue\nready\n",
@@ -112,7 +112,7 @@ fn line_of(
 fn lines_may_be_long(rt: HostRuntime) -> Result<(), NoMemory> {
     let alloc = rt.alloc();
     for (first, byte, count, last, said) in &[
-        // Comments and empty lines of any length, also behind blanks.
+        // Comments and empty lines of any length, also after blanks.
         (
             b"# ".as_slice(),
             b'x',

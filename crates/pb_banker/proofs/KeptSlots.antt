@@ -14,7 +14,7 @@ use Rattle.pb_banker.specs.Jobs.{joined, left, MayJoin, IsWithinCapital, IsFirst
 use Rattle.pb_banker.proofs.TableCells.{processes_of, resources_of}
 use Rattle.pb_banker.proofs.Newcomers.{many_joined, claim-joined_other, length-put_row, row-put_row_same, row-put_row_other, zeros_at}
 
--- the first free slot is at most the one behind the last row
+-- the first free slot is at most the one after the last row
 slot_of : (a : Accounts) (order : List ℕ) (used : List Bool) → IsKept a order used → (p : ℕ) → IsFirstFree used p → p ≤ a.processes
 slot_of a order used k zero free = omega arith
 slot_of a order used k (suc p) free = (let l = k.rows p (free.first p (omega arith)) in omega (arith, l))

@@ -112,7 +112,7 @@ others_than-all n order p all l =
     (IsPermutation-trans (range_with_len 0 n) (cut.before ++ p ∷ cut.after) (p ∷ (cut.before ++ cut.after))
     (subst (λ (ys : List ℕ). IsPermutation (range_with_len 0 n) ys) whole all) (IsPermutation-middle cut.before p cut.after))
 
--- ---- p moved to the front, and behind all others
+-- ---- p moved to the front, and after all others
 
 pub moved_to_front : (n : ℕ) (order : List ℕ) (p k : ℕ) (front : List ℕ) → IsCutAt n order p k → n ≤ length order
     → front ≡ drop k (take (k + 1) order) ++ take k (take (k + 1) order)
@@ -183,7 +183,7 @@ moved_to_back n order p k back cut long is =
     ∙ ap (λ (ys : List ℕ). ys ++ p ∷ [])
     (sym (others_than-cut p cut.before cut.after cut.none_before cut.none_after) ∙ ap (others_than p) (sym cut.whole))
 
--- n put behind all below n
+-- n put after all below n
 pub put_at_end : (n : ℕ) (order : List ℕ) → IsPermutation (range_with_len 0 n) (take n order) → n < length order
     → take (n + 1) (set order n n) ≡ others_than n (take n order) ++ n ∷ []
 put_at_end n order all l =

@@ -161,7 +161,7 @@ module _ (s : BankerState) (good : IsWellFormed s) (p : ℕ) (claims : List ℕ)
 
   -- ---- he can be last
 
-  -- an order without p, and p behind it
+  -- an order without p, and p after it
   last_tails : (xs : List ℕ) → times p xs ≡ 0 → EachTail (FitsBefore s) xs → EachTail (FitsBefore (joined s p claims)) (xs ++ p ∷ [])
   last_tails [] none h = (
     λ r lr.

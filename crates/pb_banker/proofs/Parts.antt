@@ -162,7 +162,7 @@ part_room g xs k n l few belongs =
     let both = length-append (filter g (take (k + 1) xs)) (filter g (drop (k + 1) (take n xs))) in
     omega (arith, next, one, all, both)
 
--- one more is put behind a part
+-- one more is put after a part
 pub one_put : (g : ℕ → Bool) (front next order : List ℕ) (count k : ℕ) → k < length order → g (get_or order k 0) ≡ true
     → count < length next → take count next ≡ front ++ filter g (take k order)
     → take (count + 1) (set next count (get_or order k 0)) ≡ front ++ filter g (take (k + 1) order)

@@ -27,7 +27,7 @@ HasJob b p = IsUsed b.used p
 
 -- ---- coming and going
 
--- the table with another row in this place; behind the last row it grows
+-- the table with another row in this place; after the last row it grows
 abbrev pub put_row : List (List ℕ) → ℕ → List ℕ → List (List ℕ)
 put_row table p row = take p table ++ row ∷ drop (suc p) table
 

@@ -166,7 +166,7 @@ impl Accounts {
         }
     }
 
-    /// Puts a process that fits behind those found, and adds its loans to what is available.
+    /// Puts a process that fits after those found, and adds its loans to what is available.
     fn find(&self, p: usize, found: &mut Search, available: &mut Row)
         requires sound { IsSound self.now }
         requires found { IsFound (state_of self.now) found.old }

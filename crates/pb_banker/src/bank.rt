@@ -175,7 +175,7 @@ impl Bank {
         }
     }
 
-    /// Returns the finishing order in which each next slot is the first that fits, with 0 behind it.
+    /// Returns the finishing order in which each next slot is the first that fits, with 0 after it.
     pub fn order(&self) -> [u8; MAX_PROCESSES]
         ensures { IsLeastFirst self.now.state (take (processes self.now.state) result) }
     {

@@ -68,7 +68,7 @@ item_within {X} size total all xs i x grows list here h = omega (arith, within x
     within (y ∷ ys) zero h = omega (arith, grows y ys)
     within (y ∷ ys) (suc i) h = omega (arith, grows y ys, within ys i (omega arith))
 
--- four lists that were put behind a list, one after another
+-- four lists that were put after a list, one after another
 pub four_behind : {X : Type 0} (old a b c d one two three four : List X)
     → one ≡ old ++ a → two ≡ one ++ b → three ≡ two ++ c → four ≡ three ++ d
     → four ≡ old ++ (a ++ b ++ c ++ d)
@@ -101,6 +101,6 @@ get_removed (y ∷ xs) zero (suc k) x q at e ne = (k, e)
 get_removed (y ∷ xs) (suc i) zero x q at e ne = (0, e)
 get_removed (y ∷ xs) (suc i) (suc k) x q at e ne = let r = get_removed xs i k x q at e ne in (suc r.0, r.1)
 
--- what is behind a place is all that follows, by its length
+-- what is after a place is all that follows, by its length
 pub take_behind : (text : List ℕ) (n : ℕ) → take (length text - n) (drop n text) ≡ drop n text
 take_behind text n = let many = length-drop n text in take_all (length text - n) (drop n text) (omega (arith, many))

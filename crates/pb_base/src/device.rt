@@ -87,7 +87,7 @@ pub enum ReadFault {
 }
 
 /// Reads all that is left of the input, up to `limit` bytes. After an error the bytes that were read, at most
-/// `limit` and a block of 4,096, are lost, and the input goes on behind them.
+/// `limit` and a block of 4,096, are lost, and the input goes on after them.
 pub fn read_whole<I: Input>(
     alloc: Global,
     input: &mut I,

@@ -9,7 +9,7 @@ use Rattle.pb_command_io.specs.Inputs.{SaysOfInput}
 use Rattle.pb_command_io.specs.declared.status.Status.{Status}
 use Rattle.pb_c_call.specs.Replies.{IsGiven, KeptBytes, number_said, RefusesThreads, Replies, Tellings}
 
--- what a command writes of some words, for these bytes, behind those that were written before
+-- what a command writes of some words, for these bytes, after those that were written before
 abbrev pub Writes : List (Bor Text) → (input old new : List ℕ) → Status → Type 0
 Writes read input old new status =
     CallWrites read (Some input) (Some old) (Some new) status ⊎ RefusesThreads read (Some old) (Some new) status

@@ -31,7 +31,7 @@ SayThreads words =
 abbrev pub RefusesThreads : List (Bor Text) → Option (List ℕ) → Option (List ℕ) → Status → Type 0
 RefusesThreads words old new status = SayThreads words × (new ≡ old) × (status ≡ Threads)
 
--- the words behind the name of the program do what the program does with them, with this reply and this status;
+-- the words after the name of the program do what the program does with them, with this reply and this status;
 -- or they would start threads
 abbrev pub Replies : (words : List Text) (input reply : List ℕ) (status : Status) → Type 0
 Replies words input reply status =

@@ -30,7 +30,7 @@ pub record IsFreeAt (code : Code) (s : State CodeProcess) (among : List ℕ) (i 
   pub there : slice_get among i ≡ Some p
   pub free : (link : Link) → LinksTo code s among p link → ⊥
 
--- links one behind another, of which the last waits for `at`
+-- links one after another, of which the last waits for `at`
 pub record IsPath (Good : Link → Type 0) (path : List Link) (at : ℕ) : Type 0 where
   pub each : All Good path
   pub next : (k : ℕ) (link next : Link) → slice_get path k ≡ Some link → slice_get path (k + 1) ≡ Some next

@@ -1,4 +1,4 @@
--- Instructions that name bundles, while more bundles come behind.
+-- Instructions that name bundles, while more bundles come after.
 use Rattle.std.proofs.Common.{◌≡◌, ℕ, suc, ◌<◌, ◌≤◌, List, [], ◌∷◌, ◌++◌, length, get_or, map, refl, ap, ◌∙◌, arith}
 use Rattle.std.proofs.Common.{All}
 use Rattle.std.proofs.lemmas.List.{length-append, get_or_append_left}

@@ -26,7 +26,7 @@ use Rattle.pb_codegen.proofs.TextTokens.{EachToken, IsProper, proper_tokens}
 abbrev AreProper : List Token → Type 0
 AreProper ts = EachToken IsProper ts
 
--- ---- the tokens behind an expression
+-- ---- the tokens after an expression
 
 behind_expr : {l : Level} {ts rest : List Token} {e : tree.ExprSyntax} → Reads l ts e rest → AreProper ts
     → AreProper rest

@@ -56,7 +56,7 @@ pub fn analyze<A: Allocator + Clone>(
 /// Compiles a text. Its trees are in the memory of `trees`, and none of them is left when this returns.
 ///
 /// A text is refused as by `analyze`, which is the first step of this, and then for the first claim over its
-/// capital. An error leaves nothing behind.
+/// capital. An error leaves nothing after.
 pub fn compile<A: Allocator + Clone>(
     alloc: Global,
     trees: A,

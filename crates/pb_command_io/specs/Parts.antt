@@ -26,7 +26,7 @@ abbrev pub IsCutAt : (text part rest : List ℕ) → Type 0
 IsCutAt text part rest =
     (at : ℕ) × IsMarkAt text at × HasNoMarkBelow text at × (part ≡ take at text) × (rest ≡ drop (at + 3) text)
 
--- the text is cut at its first mark; if it has none, it is its own first part, and nothing is behind that
+-- the text is cut at its first mark; if it has none, it is its own first part, and nothing is after that
 abbrev pub AreTwoParts : (text part rest : List ℕ) → Type 0
 AreTwoParts text part rest =
     IsCutAt text part rest ⊎ ((part ≡ text) × (rest ≡ []) × ((at : ℕ) → ¬ IsMarkAt text at))

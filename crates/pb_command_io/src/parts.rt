@@ -33,7 +33,7 @@ fn first_mark(text: &[u8]) -> Option<usize>
     None
 }
 
-/// What a text has before its first line `%%`, and what it has behind that line.
+/// What a text has before its first line `%%`, and what it has after that line.
 #[derive(Clone, Copy)]
 pub struct FirstPart<'t> {
     pub part: &'t [u8],
@@ -58,7 +58,7 @@ pub fn first_part<'t>(text: &'t [u8]) -> FirstPart<'t>
     }
 }
 
-/// Returns what a text has before its first line `%%` and what it has behind that line: nothing if it has no
+/// Returns what a text has before its first line `%%` and what it has after that line: nothing if it has no
 /// such line.
 pub fn two_parts(text: &[u8]) -> (&[u8], &[u8])
     ensures { AreTwoParts text.now result.0.now result.1.now }

@@ -20,7 +20,7 @@ use Rattle.pb_conversations.proofs.WrittenTexts.{known, none_appended, prefix_be
 
 -- ---- the bytes of messages
 
--- messages that were read are read so, whatever comes behind their bytes
+-- messages that were read are read so, whatever comes after their bytes
 pub record Front (bytes : List ℕ) (contents : List (List ℕ)) (rest : List ℕ) : Type 0 where
   pub front : List ℕ
   pub cut : bytes ≡ front ++ rest

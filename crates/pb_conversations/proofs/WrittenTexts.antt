@@ -1,4 +1,4 @@
--- Texts that are written one behind another.
+-- Texts that are written one after another.
 use Rattle.std.proofs.Common.{◌≡◌, ◌∙◌, ℕ, List, [], ◌++◌, Option, Some, None, IfSome, refl, sym, ap, subst, append-nil, append_assoc}
 use Rattle.std.proofs.lemmas.List.Concat.{flat_map-append}
 use Rattle.serde_json.specs.Data.{Data}
@@ -14,7 +14,7 @@ none_appended (Some held) = ap Some (sym (append-nil held))
 pub known : (o : Option (List ℕ)) (bytes : List ℕ) (P : List ℕ → Type 0) → o ≡ Some bytes → IfSome o P → P bytes
 known o bytes P is says = subst (λ (o : Option (List ℕ)). IfSome o P) is says
 
--- texts behind others
+-- texts after others
 pub texts_more : (messages told : List Data) (old mid new : Option (List ℕ)) → mid ≡ appended old (texts messages)
     → new ≡ appended mid (texts told) → new ≡ appended old (texts (messages ++ told))
 texts_more messages told old mid new first wrote =

@@ -47,7 +47,7 @@ pub data AnswersContent {S : Type 0} (Answers : S → ℕ → Asked → List Dat
   no_json : (IsUtf8 content → read content ≡ None)
       → AnswersContent Answers s seq content (failed_data seq 0 [] (codes "this is not JSON") ∷ []) s
 
--- the bytes begin with messages of these contents, and the rest comes behind them
+-- the bytes begin with messages of these contents, and the rest comes after them
 pub data AreFrames (bytes : List ℕ) : List (List ℕ) → List ℕ → Type 0 where
   none_read : AreFrames bytes [] bytes
   one_read : (contents : List (List ℕ)) (content mid rest : List ℕ)
@@ -137,7 +137,7 @@ abbrev pub SaysBefore : (Follows : List ℕ → List ℕ → Type 0) → (bytes 
 SaysBefore Follows bytes left old new =
     (read : List ℕ) × (text : List ℕ) × IsReadTo bytes read left × Follows read text × (new ≡ appended old text)
 
--- the text is what answers all messages that are whole in what was read; behind them stand at most some first bytes of
+-- the text is what answers all messages that are whole in what was read; after them stand at most some first bytes of
 -- a further one
 pub record AnswersRead {S : Type 0} (Answers : S → ℕ → Asked → List Data → S → Type 0) (over : S → Bool) (s : S) (first : ℕ)
     (read text : List ℕ) : Type 0 where

@@ -1,4 +1,4 @@
--- Picks behind the last.
+-- Picks after the last.
 use Rattle.std.proofs.Common.{Vec, Global, ◌≡◌, ℕ, ◌+◌, ◌*◌, ◌%◌, ◌<◌, ◌≤◌, ◌++◌, List, [], ◌∷◌, length, Option, Some}
 use Rattle.std.proofs.Common.{option_to_list, sym, ap, ◌∙◌, subst, length-append, arith}
 use Rattle.std.specs.Prelude.{slice_get}
@@ -61,7 +61,7 @@ module _ (lending : Lending) (v : VerifiedCode) (picks : List Pick) (pick : Pick
       let many = length-append picks (pick ∷ []) in
       record { stands = stands_behind of; within = omega (arith, many) }
 
-  -- with an enabled pick behind them all are enabled
+  -- with an enabled pick after them all are enabled
   pub enabled_behind : AreEnabledBy lending v.code picks → AreEnabledBy lending v.code longer
   enabled_behind all =
       let step = code_step v.code.processes in

@@ -29,7 +29,7 @@ kept_answers d line said next h = subst (λ (c : Option Command). AnswersRead d 
 
 -- ---- outputs
 
--- what is left of a text behind what is written
+-- what is left of a text after what is written
 pub leaves_more : (fault : DebugFault) (old mid new : Option (List ℕ)) (a b : List ℕ) → mid ≡ appended old a → WritesBeforeFault
     fault mid new b → WritesBeforeFault fault old new (a ++ b)
 leaves_more PastEnd old mid new a b e h = elim h [ ]
@@ -93,7 +93,7 @@ module _ (d m next : Debugging) (part xs : List ℕ) (old mid new : Option (List
     written = leaves;
   }
 
-  -- a read failed behind them
+  -- a read failed after them
   pub fed_broken : (ys : List ℕ) → FedSome Device d part (xs ++ ys) old mid m
   fed_broken ys = fed_some Device ys (whole_prefix old mid fed.text fed.written)
 
@@ -211,7 +211,7 @@ pub told_in_part : (r : Result ⊤ DebugFault) (m next : Debugging) (line : List
 told_in_part (Ok x) m next line mid new before after stop same counts grew = absurd (grew same)
 told_in_part (Err e) m next line mid new before after stop same counts grew = write_failed e m next line mid new before after stop counts grew
 
--- more lines are behind the one that failed
+-- more lines are after the one that failed
 pub breaks_before : (d next : Debugging) (lines more whole : List (List ℕ)) (old new : Option (List ℕ)) → BreaksOff d lines old new next
     → whole ≡ lines ++ more → BreaksOff d whole old new next
 breaks_before d next lines more whole old new breaks is = record {

@@ -14,7 +14,7 @@ use Rattle.pb_debug.specs.declared.append.Tried.{Tried}
 abbrev pub CanAppend : Debugging → Type 0
 CanAppend d = (d.position ≡ length d.picks) × (length d.picks < MAX_PICKS)
 
--- with this pick behind the last, at the position just after it
+-- with this pick after the last, at the position just after it
 abbrev pub with_pick : Debugging → Pick → Debugging
 with_pick d pick = moved_to (record d { picks = d.picks ++ pick ∷ [] }) (length d.picks + 1)
 

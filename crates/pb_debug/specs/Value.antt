@@ -13,7 +13,7 @@ use Rattle.pb_history.specs.Positions.{AreEnabledBy, state_after}
 use Rattle.pb_debug_positions.specs.Intervals.{IsInterval, interval_of}
 
 -- who lends, the code, its labels, the text whose lines are shown, if there is one, and the distance of
--- checkpoints stay; picks are only added behind the last; the position moves, and with it the cost of the last move
+-- checkpoints stay; picks are only added after the last; the position moves, and with it the cost of the last move
 pub record Debugging : Type 0 where
   pub lending : Lending
   pub verified : VerifiedCode

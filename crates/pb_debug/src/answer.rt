@@ -329,7 +329,7 @@ impl<'c> Debugger<'c> {
         }
     }
 
-    /// Carries out a command, and puts its answer behind a text.
+    /// Carries out a command, and puts its answer after a text.
     fn carry_out(&mut self, text: &mut Vec<u8>, command: Command) -> Result<(), NoMemory>
         ensures answer { OnOk result ((said : List ℕ)
             × AnswersCommand self.old (command_view command.entry) said self.new

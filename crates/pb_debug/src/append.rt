@@ -29,7 +29,7 @@ pub(crate) struct Tried {
     pub step: Step,
 }
 
-/// Adds a pick, with its event or with none, behind a trace that has room for it.
+/// Adds a pick, with its event or with none, after a trace that has room for it.
 fn push(trace: &mut Trace, pick: Pick, event: Option<Event>)
     requires room { 0 < trace.old.room }
     requires fits { length trace.old.entries < MAX_PICKS }

@@ -60,7 +60,7 @@ impl<'c> Debugger<'c> {
         Ok(())
     }
 
-    /// Answers each line that ends in the input, and keeps what is behind the last.
+    /// Answers each line that ends in the input, and keeps what is after the last.
     fn read_lines<I: Input, O: Output>(
         &mut self,
         line: &mut LineBuffer,

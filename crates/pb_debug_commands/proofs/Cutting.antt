@@ -2,7 +2,7 @@
 use Rattle.std.proofs.Common.{◌≡◌, ℕ, ◌++◌, eqb, Bool, true, false, cond, List, [], ◌∷◌, refl, ap, ◌∙◌, append-nil}
 use Rattle.pb_debug_commands.specs.Lines.{SplitLines, one_line_more, cut}
 
--- what is cut of bytes behind those that were cut
+-- what is cut of bytes after those that were cut
 abbrev joined : SplitLines → List ℕ → SplitLines
 joined c bytes = record { lines = c.lines ++ (cut c.rest bytes).lines; rest = (cut c.rest bytes).rest }
 

@@ -27,7 +27,7 @@ end_step part bs b at false h rest =
     (rest m.0 m.1 ∙ (ap (λ (p : List ℕ). one_line_more p (cut [] (drop (m.0 + 1) bs))) one
     ∙ ap (λ (k : ℕ). one_line_more (part ++ b ∷ take m.0 bs) (cut [] (drop k (b ∷ bs)))) n))
 
--- a line ends at the first line feed, and the next begins behind it
+-- a line ends at the first line feed, and the next begins after it
 end_at : (part bs : List ℕ) (at : ℕ) → first_at 10 bs ≡ Some at → Ends part bs at (cut part bs)
 end_at part [] at h = absurd cc
 end_at part (b ∷ bs) at h = end_step part bs b at (eqb b 10) h (λ j. end_at (part ++ b ∷ []) bs j)
@@ -75,7 +75,7 @@ module _ (bs : List ℕ) where
       all [] some = absurd (some refl)
       all (b ∷ xs) some = refl
 
-  -- a later line is one of those behind the first line feed
+  -- a later line is one of those after the first line feed
   pub later_behind : (n at : ℕ) → 1 < n → Some at ≡ feed bs → line_numbered (drop (at + 1) bs) (n - 1) ≡ line_numbered bs n
   later_behind zero at lt h = absurd (omega (arith, lt))
   later_behind (suc zero) at lt h = absurd (omega (arith, lt))

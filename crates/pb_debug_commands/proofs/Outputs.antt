@@ -8,7 +8,7 @@ pub appended_none : (old : Option (List ℕ)) → appended old [] ≡ old
 appended_none None = refl
 appended_none (Some held) = ap Some (append-nil held)
 
--- a part behind what was written whole
+-- a part after what was written whole
 pub prefix_more : (old mid new : Option (List ℕ)) (a b : List ℕ) → mid ≡ appended old a → AddsPrefix mid new b → AddsPrefix old new (a ++ b)
 prefix_more old mid new a b e (done, left, parts, written) = (
   a ++ done,

@@ -100,7 +100,7 @@ position_is byte (b ∷ bs) =
     step_at (eqb b byte) (position_or_len (λ b. eqb b byte) bs) (length bs)
     ∙ ap (λ (o : Option ℕ). cond (eqb b byte) (Some 0) (option_map suc o)) (position_is byte bs)
 
--- what is before it and behind it
+-- what is before it and after it
 parts_step : (byte b : ℕ) (bs : List ℕ) (i : ℕ) (t : Bool) → eqb b byte ≡ t → cond t (Some 0) (option_map suc (first_at byte bs)) ≡ Some i
     → ((j : ℕ) → first_at byte bs ≡ Some j → bs ≡ take j bs ++ byte ∷ drop (j + 1) bs)
     → b ∷ bs ≡ take i (b ∷ bs) ++ byte ∷ drop (i + 1) (b ∷ bs)
@@ -119,7 +119,7 @@ parts_at : (byte : ℕ) (bs : List ℕ) (i : ℕ) → first_at byte bs ≡ Some 
 parts_at byte [] i h = absurd cc
 parts_at byte (b ∷ bs) i h = parts_step byte b bs i (eqb b byte) refl h (λ j. parts_at byte bs j)
 
--- the first point behind a word is the one behind it
+-- the first point after a word is the one after it
 name_byte_no_point : (b : ℕ) → is_name_byte b ≡ true → eqb b 46 ≡ false
 name_byte_no_point b h = grind (arith, nat_tests)
 

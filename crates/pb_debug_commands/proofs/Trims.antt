@@ -11,7 +11,7 @@ all_white (b ∷ bs) white =
     ap (before b) (all_white bs (λ i u. white (suc i) (omega (arith, u))))
     ∙ ap (λ t. cond t [] (b ∷ [])) (white 0 (omega arith))
 
--- the first bytes are left if the last of them is no white space, and all behind them is
+-- the first bytes are left if the last of them is no white space, and all after them is
 pub trims : (s : List ℕ) (n : ℕ) → n ≤ length s
     → ((i : ℕ) → n ≤ i → i < length s → is_ascii_whitespace (slice_index s i) ≡ true)
     → (0 < n → is_ascii_whitespace (slice_index s (n - 1)) ≡ false) → take n s ≡ trimmed s

@@ -10,7 +10,7 @@ pub record SplitLines : Type 0 where
 abbrev pub one_line_more : List ℕ → SplitLines → SplitLines
 one_line_more line c = record { lines = line ∷ c.lines; rest = c.rest }
 
--- the lines of bytes that come behind the first part of a line
+-- the lines of bytes that come after the first part of a line
 abbrev pub cut : List ℕ → List ℕ → SplitLines
 cut part [] = record { lines = []; rest = part }
 cut part (b ∷ bytes) = cond (b == 10) (one_line_more part (cut [] bytes)) (cut (part ++ b ∷ []) bytes)

@@ -4,7 +4,7 @@ use Rattle.std.specs.Fmt.{decimal}
 use Rattle.pb_debug_commands.specs.Commands.{Command, To, Step, Back, Mark, Vars, Threads, Fault, Wrote, Until, Loans, Next, Prev}
 use Rattle.pb_debug_commands.specs.Commands.{Help, Circle, Arms, Line, Text, Why, Stack, Pick, Does, Who, command_of, looks_like_name, trimmed}
 
--- the bytes of a command: a word, and behind a space a number, a name, or a process and an arm with a point
+-- the bytes of a command: a word, and after a space a number, a name, or a process and an arm with a point
 -- between
 abbrev pub command_spelling : Command → List ℕ
 command_spelling (To n) = codes "to " ++ decimal n

@@ -48,7 +48,7 @@ mark_was (a ∷ b ∷ c ∷ xs) ys long (inl is) =
     let two : length (a ∷ b ∷ c ∷ (xs ++ ys)) ≡ 2 = ap length is in absurd (omega (arith, two))
 mark_was (a ∷ b ∷ c ∷ xs) ys long (inr (after, is)) = inr (xs, ap (λ (t : List ℕ). take 3 t ++ xs) is)
 
--- a mark that ends within a text, and the text with more behind it
+-- a mark that ends within a text, and the text with more after it
 module _ (xs ys : List ℕ) (at : ℕ) (within : at + 3 ≤ length xs) where
   rest_is : drop at (xs ++ ys) ≡ drop at xs ++ ys
   rest_is = drop-append-le at xs ys (omega (arith, within))
@@ -193,7 +193,7 @@ pub says_weaker : (P Q : List ℕ → List ℕ → Type 0) → ((read text : Lis
 says_weaker P Q f None left old new says = tt
 says_weaker P Q f (Some bytes) left old new (read, text, to, follows, written) = (read, text, to, f read text follows, written)
 
--- of what is behind the first part some first bytes are read: the first part, and these, are read of the
+-- of what is after the first part some first bytes are read: the first part, and these, are read of the
 -- whole
 pub first_of_two : (bytes part read rest : List ℕ) → AreTwoParts bytes part (read ++ rest)
     → (before : List ℕ) × (bytes ≡ before ++ rest) × AreTwoParts before part read
@@ -240,7 +240,7 @@ first_of_two bytes part read rest (inl (at, mark, before, part_is, rest_is)) =
           )
     ]
 
--- the same of the first two parts, and of what is said behind them
+-- the same of the first two parts, and of what is said after them
 pub first_of_three : (bytes source lines commands : List ℕ) (left old new : Option (List ℕ)) (Follows Says : List ℕ → List ℕ → Type 0)
     → AreThreeParts bytes source lines commands → SaysBefore Follows commands left old new
     → ((all read text : List ℕ) → AreThreeParts all source lines read → Follows read text → Says all text)

@@ -17,7 +17,7 @@ module _ (d end : Debugging) (bytes : List ℕ) (old : Option (List ℕ)) where
   pub told_all : (new : Option (List ℕ)) → SaysAll d bytes old new end → Tells (SaysOfSession d bytes) old new Done
   told_all new says = (says.text, Done, answered says.text end says.session, inl (says.written, refl))
 
-  -- out of memory, which is said behind the answers
+  -- out of memory, which is said after the answers
   pub told_some : (mid new : Option (List ℕ)) (page : List ℕ) (given : Status) → SaysSome fault.NoMemory d bytes old mid end
       → page ≡ [] → Says mid new (page ++ memory_line) Memory given → Tells (SaysOfSession d bytes) old new given
   told_some mid new page given some empty says = (

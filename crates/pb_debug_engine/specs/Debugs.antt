@@ -18,8 +18,8 @@ use Rattle.pb_verifier.specs.Verified.{VerifiedCode}
 
 -- ---- the three parts of an input
 
--- a text or an object; pick lines behind the first line `%%`; and commands behind the next one. Without such
--- a line the parts behind it are empty
+-- a text or an object; pick lines after the first line `%%`; and commands after the next one. Without such
+-- a line the parts after it are empty
 abbrev pub AreThreeParts : (bytes source lines commands : List ℕ) → Type 0
 AreThreeParts bytes source lines commands =
     (rest : List ℕ) × AreTwoParts bytes source rest × AreTwoParts rest lines commands

@@ -26,7 +26,7 @@ pub record IsLong (bytes : List ℕ) : Type 0 where
   pub more : MAX_INPUT < length bytes
   pub unmarked : (at : ℕ) → at + 3 ≤ MAX_INPUT → ¬ IsMarkAt bytes at
 
--- the first part is too long, with the line `%%` behind it, or the second is
+-- the first part is too long, with the line `%%` after it, or the second is
 abbrev pub HasLongPart : List ℕ → Type 0
 HasLongPart bytes = IsLong bytes ⊎ ((source : List ℕ) × (rest : List ℕ) × AreTwoParts bytes source rest × IsLong rest)
 

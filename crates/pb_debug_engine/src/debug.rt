@@ -13,7 +13,7 @@ use pb_command_io::{Status, read_input, two_parts};
 use std::alloc::Global;
 
 /// Debugs the text or the object that the input begins with under a lending: makes the picks of the pick lines
-/// behind the first line `%%`, and writes the answers to the commands behind the second. The first part is an object if
+/// after the first line `%%`, and writes the answers to the commands after the second. The first part is an object if
 /// it begins with `PBO `. If it, the pick lines or their picks are refused, only the refusal line is written.
 ///
 /// The status is `Done` at the end of the commands, whatever they were. After a read that failed nothing is

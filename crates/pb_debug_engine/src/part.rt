@@ -68,7 +68,7 @@ pub struct FirstParts {
     pub lines: Vec<u8>,
 }
 
-/// Reads the two parts of an input that are before its commands, with the lines `%%` behind them. The
+/// Reads the two parts of an input that are before its commands, with the lines `%%` after them. The
 /// commands are left to be read.
 pub fn read_first_parts<I: Input>(alloc: Global, input: &mut I) -> Result<FirstParts, ReadFault>
     ensures parts { IfOk result (λ parts. IfSome (I.rest input.old) (λ bytes.

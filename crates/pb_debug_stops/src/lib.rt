@@ -1,4 +1,4 @@
-//! Where a person stops along the picks of a run: behind a pick that moves an arm to another line, or that brings
+//! Where a person stops along the picks of a run: after a pick that moves an arm to another line, or that brings
 //! one to a line with a breakpoint.
 #![tactic(auto)]
 

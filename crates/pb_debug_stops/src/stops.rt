@@ -1,4 +1,4 @@
-//! Picks behind which a person stops.
+//! Picks after which a person stops.
 
 ghost use Rattle.std.specs.Prelude.{◌≡◌, ◌↔◌, ◌+◌, ◌<◌, ◌≤◌, ℕ, length, slice_get, IsTrue};
 ghost use Rattle.pb_code.specs.View.{labels_view};

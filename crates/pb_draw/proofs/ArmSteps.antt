@@ -40,7 +40,7 @@ arms_step all lanes lanes' processes p code before there is =
     ∙ (sym (ap (λ (cs : List ProcessCode). map (λ (l : Lane). l.pick) lanes ++ arms_from p cs)
     (drop_at processes p code there ∙ ap (λ (k : ℕ). code ∷ drop k processes) e)) ∙ before))
 
--- behind the last process there is none
+-- after the last process there is none
 pub arms_over : (all : List Pick) (lanes : List Lane) (processes : List ProcessCode) (p : ℕ) → length processes ≤ p
     → map (λ (l : Lane). l.pick) lanes ++ arms_from p (drop p processes) ≡ all → map (λ (l : Lane). l.pick) lanes ≡ all
 arms_over all lanes processes p past before =

@@ -19,7 +19,7 @@ module _ {S V : Type 0} (at : S → ℕ) (value : S → V) where
   shown_more v [] s i = refl
   shown_more v (t ∷ steps) s i = shown_more (cond (nat_le (at t) i) (value t) v) steps s i
 
-  -- behind its last step a curve stays
+  -- after its last step a curve stays
   shown_later : (v : V) (steps : List S) (n i : ℕ) → NoneBehind at n steps → n ≤ i
       → shown_at at value v steps i ≡ shown_at at value v steps n
   shown_later v [] n i early le = refl
@@ -41,7 +41,7 @@ module _ {S V : Type 0} (at : S → ℕ) (value : S → V) where
   none_behind_more [] s n early le = (le, tt)
   none_behind_more (t ∷ steps) s n early le = (early.0, none_behind_more steps s n early.1 le)
 
-  -- a step behind all others
+  -- a step after all others
   rising_more : (steps : List S) (s : S) (n : ℕ) → NoneBehind at n steps → n < at s → AreRising at steps → AreRising at (steps ++ s ∷ [])
   rising_more [] s n early less rising = tt
   rising_more (t ∷ []) s n early less rising = (let first : at t ≤ n = early.0 in omega (arith, first, less), tt)
@@ -99,7 +99,7 @@ module _ {S V : Type 0} (at : S → ℕ) (value : S → V) where
     changes = changing_more AreAlike v steps s n c.early other c.changes;
   }
 
-  -- the same, of a position that is counted from the one behind it
+  -- the same, of a position that is counted from the one after it
   pub curve_stays_at : (v : V) (AreAlike : V → V → Type 0) (IsSo : ℕ → V → Type 0) (n : ℕ) (steps : List S) → 0 < n → IsCurveOf at value v AreAlike IsSo (n - 1) steps
       → IsSo n (shown_at at value v steps (n - 1)) → IsCurveOf at value v AreAlike IsSo n steps
   curve_stays_at v AreAlike IsSo n steps some c same =
@@ -115,7 +115,7 @@ module _ {S V : Type 0} (at : S → ℕ) (value : S → V) where
       subst (λ (k : ℕ). IsCurveOf at value v AreAlike IsSo k (steps ++ s ∷ [])) e
       (curve_changes v AreAlike IsSo (n - 1) steps s c (here ∙ sym e) (subst (λ (k : ℕ). IsSo k (value s)) (sym e) is) other)
 
-  -- behind all its steps a curve shows what the last of them says
+  -- after all its steps a curve shows what the last of them says
   pub shown_at_end : (v : V) (steps : List S) (k : ℕ) (s : S) (n : ℕ) → k + 1 ≡ length steps → s ≡ get_or steps k s
       → NoneBehind at n steps → shown_at at value v steps n ≡ value s
   shown_at_end v [] k s n many is early = absurd (omega (arith, many))

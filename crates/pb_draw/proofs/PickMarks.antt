@@ -41,7 +41,7 @@ marks_more integers code labels picks i pick what source old new before there sa
     ∙ (ap (λ (p : Option Pick). earlier ++ mark_list here p (line_before code labels picks i) i) (sym there)
     ∙ ap (marks_before integers code labels picks) (let e : suc i ≡ i + 1 = omega arith in e)))))
 
--- what a pick shows, by its event, by what its arm does, and by machines before it and behind it
+-- what a pick shows, by its event, by what its arm does, and by machines before it and after it
 pub happening_here : (lending : Lending) (v : VerifiedCode) (picks : List Pick) (integers : Integers) (i : ℕ) (pick : Pick) (event : Option Event)
     (access : Option Access) (m m' : Machine) (shown seen : Option Happening) → IsAfterBy lending v picks i m → IsAfterBy lending v picks (i + 1) m'
     → slice_get picks i ≡ Some pick → event ≡ event_at v.code picks i → access ≡ access_before v.code picks i

@@ -51,7 +51,7 @@ abbrev pub open_holds : (arm : Pick) → (at : ℕ) → List Bar → ℕ
 open_holds arm at [] = 0
 open_holds arm at (bar ∷ bars) = cond (is_open arm at bar) 1 0 + open_holds arm at bars
 
--- the bar of a mark, behind these earlier bars and before these further marks: a grant has one, from its pick on. Its depth
+-- the bar of a mark, after these earlier bars and before these further marks: a grant has one, from its pick on. Its depth
 -- is the number of the earlier holds of its arm that are open at that pick
 abbrev pub bar_of : (earlier : List Bar) → (at : ℕ) → Event → List Mark → List Bar
 bar_of earlier at (Granted pick bundle) later =
@@ -67,7 +67,7 @@ bar_for earlier at (happening.Did event) later = bar_of earlier at event later
 bar_for earlier at (happening.Read x value) later = []
 bar_for earlier at (happening.Assigned x value) later = []
 
--- a bar for each grant among these marks, up to the pick that gives it back, behind these earlier bars
+-- a bar for each grant among these marks, up to the pick that gives it back, after these earlier bars
 abbrev pub bars_from : (earlier : List Bar) → List Mark → List Bar
 bars_from earlier [] = []
 bars_from earlier (m ∷ marks) =

@@ -24,7 +24,7 @@ line_before code labels picks i =
 abbrev pub value_before : Code → List Pick → (i x : ℕ) → Option ℤ
 value_before code picks i x = option_and_then (λ pick. value_at code picks i pick.process x) (slice_get picks i)
 
--- and behind it
+-- and after it
 abbrev pub value_behind : Code → List Pick → (i x : ℕ) → Option ℤ
 value_behind code picks i x = option_and_then (λ pick. value_at code picks (i + 1) pick.process x) (slice_get picks i)
 
@@ -61,7 +61,7 @@ happening_of None other = other
 happening_of (Some event) other = Some (happening.Did event)
 
 -- what pick i has to show, of what is drawn: its event, or else the integer that it reads, with the value before it, or the one to
--- which it assigns, with the value behind it
+-- which it assigns, with the value after it
 abbrev pub happening_at : Integers → Code → List Pick → (i : ℕ) → Option Happening
 happening_at integers code picks i =
     happening_of (event_at code picks i)

@@ -105,7 +105,7 @@ fn read_by(
     }
 }
 
-/// Returns the assignment that a pick makes, if it is one and assignments are drawn. The machine is behind that pick.
+/// Returns the assignment that a pick makes, if it is one and assignments are drawn. The machine is after that pick.
 fn assigned_by(
     integers: Integers,
     access: Option<Access>,

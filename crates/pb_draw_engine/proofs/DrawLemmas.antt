@@ -49,7 +49,7 @@ refusal_told lending size bytes text lines old new given short few cut (said, st
     go _ _ (not_read nothing) = not_read nothing
     go _ _ (read within (by_line refusal is)) = read short (no_text text lines cut refusal is)
 
--- an accepted text, and what is said of the lines behind it
+-- an accepted text, and what is said of the lines after it
 pub lines_told : (lending : Lending) (size : Size) (bytes text lines : List ℕ) (code given : Code) (labels shown : List ProcessLabels)
     (old new : Option (List ℕ)) (answered : Status) → length bytes ≤ 4194304 → AreTwoParts bytes text lines → IsCompiled text code labels → given ≡ code → shown ≡ labels
     → Tells (SaysOfDrawnLines lending size given shown lines) old new answered → Tells (SaysOfInput (SaysOfDraw lending size) bytes) old new answered

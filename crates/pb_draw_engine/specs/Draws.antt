@@ -86,7 +86,7 @@ pub record IsShown (lending : Lending) (size : Size) (code : Code) (labels : Lis
   pub drawn : IsDrawn lending size code labels entries end picture ended
   pub fits : Fits picture ended text status
 
--- what is said of the lines behind an accepted text, by its code and its labels: their picks are refused under this
+-- what is said of the lines after an accepted text, by its code and its labels: their picks are refused under this
 -- lending; or all are made, and the picture of them is written, or that it is too large
 pub data SaysOfDrawnLines (lending : Lending) (size : Size) (code : Code) (labels : List ProcessLabels) (lines : List ℕ)
     : List ℕ → Status → Type 0 where
@@ -97,7 +97,7 @@ pub data SaysOfDrawnLines (lending : Lending) (size : Size) (code : Code) (label
       → (said : List ℕ) (status : Status) → IsShown lending size code labels entries end said status
       → SaysOfDrawnLines lending size code labels lines said status
 
--- what is said of an input, which is a text and pick lines behind it: its text is refused; or it is accepted
+-- what is said of an input, which is a text and pick lines after it: its text is refused; or it is accepted
 pub data SaysOfDraw (lending : Lending) (size : Size) (bytes : List ℕ) : List ℕ → Status → Type 0 where
   no_text : (text lines : List ℕ) → AreTwoParts bytes text lines
       → (refusal : List ℕ) → RefusesWith text refusal → SaysOfDraw lending size bytes (line refusal) Refused

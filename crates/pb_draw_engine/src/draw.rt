@@ -33,7 +33,7 @@ pub const MAX_PICTURE: usize = 8_388_608;
 /// What is written in place of a longer picture.
 const LIMIT_LINE: &[u8] = b"limit 8388608\n";
 
-/// Makes the picks that the pick lines behind the text of the input say, from the start of the text, under
+/// Makes the picks that the pick lines after the text of the input say, from the start of the text, under
 /// whoever decides on requests, and writes a picture of that run as SVG. A line `%%` separates the text from the pick lines. If the text, a
 /// line or a pick is refused, only the refusal line is written, as by `replay`; and of a picture that would be longer than
 /// 8 MB only the line `limit 8388608`, with status `Limit`.

@@ -92,7 +92,7 @@ in_mono k i j le =
     (min_mono (i - k.position - 1) (j - k.position - 1) k.silent (omega (arith, le))) in
     omega (arith, h, g, s))
 
--- ---- events one behind another
+-- ---- events one after another
 
 past : (k next : Knot) (knots : List Knot) (i : ℕ) → next.position ≤ i → x_from k (next ∷ knots) i ≡ x_from next knots i
 past k next knots i le = ap (λ (b : Bool). cond b (x_from next knots i) (x_in k i)) (le-leb next.position i le)
@@ -193,7 +193,7 @@ from_wide k c (next ∷ knots) (suc n) j chain there later =
     let m = from_wide next c knots n j chain.1 there later in
     omega (arith, h, g, m)
 
--- a position is at the last event that is not behind it
+-- a position is at the last event that is not after it
 from_at : (k c : Knot) (knots : List Knot) (n i : ℕ) → IsChainFrom k knots → slice_get (k ∷ knots) n ≡ Some c → c.position ≤ i
     → ((d : Knot) → slice_get knots n ≡ Some d → i < d.position) → x_from k knots i ≡ x_in c i
 from_at k c [] zero i chain there here after = grind (arith, common_steps)

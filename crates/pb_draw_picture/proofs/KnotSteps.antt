@@ -7,7 +7,7 @@ use Rattle.pb_draw.specs.declared.drawing.Mark.{Mark}
 use Rattle.pb_draw_picture.specs.Axis.{AreKnots, AreKnotsFrom, last, one_more, same, squeezed, width_of}
 use Rattle.pb_draw_picture.specs.declared.knot.Knot.{Knot}
 
--- behind the first i marks: with the events of the others these are those of all
+-- after the first i marks: with the events of the others these are those of all
 abbrev pub KnotsSoFar : NameTable → List ProcessLabels → (picks left : ℕ) → List Mark → (i position x width : ℕ) → List Knot → Type 0
 KnotsSoFar names labels picks left marks i position x width knots =
     (rest : List Knot) → AreKnotsFrom names labels picks position x width (drop i marks) rest

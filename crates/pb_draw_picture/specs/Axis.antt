@@ -10,7 +10,7 @@ use Rattle.pb_draw_picture.specs.declared.knot.Knot.{Knot}
 use Rattle.pb_draw_picture.specs.declared.sizes.TheConstants.{SIDE}
 
 -- the places of positions: position i is after the first i picks, and begins at `x i`. A later position is
--- not further left; and the event of a mark, which begins at the position behind its pick, is left of all that
+-- not further left; and the event of a mark, which begins at the position after its pick, is left of all that
 -- comes later by its width at least
 pub record IsAxis (marks : List Mark) (x : ℕ → ℕ) : Type 0 where
   pub forward : (i j : ℕ) → i ≤ j → x i ≤ x j
@@ -20,11 +20,11 @@ pub record IsAxis (marks : List Mark) (x : ℕ → ℕ) : Type 0 where
 abbrev pub squeezed : (n of : ℕ) → ℕ
 squeezed n of = cond (nat_le of 15) (min n of * 6) (min n of * 90 / of)
 
--- where a position begins that is at this event, or among the silent picks behind it
+-- where a position begins that is at this event, or among the silent picks after it
 abbrev pub x_in : Knot → (i : ℕ) → ℕ
 x_in k i = cond (nat_le i k.position) k.x (k.x + k.width + squeezed (i - k.position - 1) k.silent)
 
--- the same among the events from this one on: at the last that is not behind it
+-- the same among the events from this one on: at the last that is not after it
 abbrev pub x_from : Knot → List Knot → (i : ℕ) → ℕ
 x_from k [] i = x_in k i
 x_from k (next ∷ knots) i = cond (nat_le next.position i) (x_from next knots i) (x_in k i)
@@ -33,7 +33,7 @@ abbrev pub x_at : List Knot → (i : ℕ) → ℕ
 x_at [] i = 0
 x_at (k ∷ knots) i = x_from k knots i
 
--- an event begins behind all that comes before it
+-- an event begins after all that comes before it
 pub record IsBehind (next k : Knot) : Type 0 where
   pub later : k.position < next.position
   pub right : k.x + k.width + squeezed k.silent k.silent ≤ next.x
@@ -42,7 +42,7 @@ abbrev pub IsChainFrom : Knot → List Knot → Type 0
 IsChainFrom k [] = Unit {0}
 IsChainFrom k (next ∷ knots) = IsBehind next k × IsChainFrom next knots
 
--- each event begins behind the one before it, and the first is the start
+-- each event begins after the one before it, and the first is the start
 abbrev pub IsChain : List Knot → Type 0
 IsChain [] = Unit {0}
 IsChain (k ∷ knots) = (k.position ≡ 0) × IsChainFrom k knots
@@ -54,7 +54,7 @@ abbrev pub width_of : NameTable → List ProcessLabels → Mark → ℕ
 width_of names labels m =
     16 + min (max (length (caption_of names labels m.pick m.line m.what)) (length (decimal m.at))) 100 * 7
 
--- an event at a position, which begins at a place and is so wide, and behind it the silent picks up to another position
+-- an event at a position, which begins at a place and is so wide, and after it the silent picks up to another position
 pub record IsKnot (position x width next : ℕ) (k : Knot) : Type 0 where
   pub position_is : k.position ≡ position
   pub x_is : k.x ≡ x
@@ -62,7 +62,7 @@ pub record IsKnot (position x width next : ℕ) (k : Knot) : Type 0 where
   pub silent_is : k.silent ≡ next - position - 1
 
 -- the events from one on that is at a position, begins at a place and is so wide, to the end of a run of some picks:
--- those of these marks, each behind the one before it; marks at one position are one event
+-- those of these marks, each after the one before it; marks at one position are one event
 pub data AreKnotsFrom (names : NameTable) (labels : List ProcessLabels) (picks : ℕ) : (position x width : ℕ) → List Mark → List Knot → Type 0 where
   last : (position x width : ℕ) (k : Knot) → IsKnot position x width (max picks position + 1) k
       → AreKnotsFrom names labels picks position x width [] (k ∷ [])

@@ -11,7 +11,7 @@ use Rattle.pb_draw_picture.specs.declared.picture.RectKind.TheVariants.{Gap}
 use Rattle.pb_draw_picture.specs.Shapes.{Text, rect_to}
 use Rattle.pb_draw_picture.specs.declared.sizes.TheConstants.{GAP_TEXT, GAP_TOP, LEFT_OUT_DOWN, LINE_NOTE_DOWN, MARGIN, MARK_NOTE_DOWN, NOTE_DOWN}
 
--- the silent picks behind an event are a shortened stretch: there are more than 15
+-- the silent picks after an event are a shortened stretch: there are more than 15
 abbrev pub is_shortened : Knot → Bool
 is_shortened k = nat_lt 15 k.silent
 

@@ -11,7 +11,7 @@ use Rattle.pb_draw_picture.specs.Shapes.{Text, rect_to}
 use Rattle.pb_draw_picture.specs.Texts.{bundle_text}
 use Rattle.pb_draw_picture.specs.declared.sizes.TheConstants.{BAR, BUNDLE_DOWN, BUNDLE_RIGHT}
 
--- the position behind a pick, if there is one
+-- the position after a pick, if there is one
 abbrev pub behind : Option ℕ → Option ℕ
 behind None = None
 behind (Some at) = Some (at + 1)
@@ -21,7 +21,7 @@ abbrev pub colour_of : List Pair → ℕ
 colour_of [] = 0
 colour_of (pair ∷ bundle) = pair.resource
 
--- the bar of a hold: from the position behind the pick that takes it to that behind the pick that gives it back
+-- the bar of a hold: from the position after the pick that takes it to that after the pick that gives it back
 abbrev pub hold_at : Places → Bar → Rect
 hold_at places bar =
     rect_to (Hold (colour_of bar.bundle)) (places.x (bar.taken + 1)) (end_of places (behind bar.returned)) (hold_y places bar) BAR

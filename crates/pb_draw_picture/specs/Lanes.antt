@@ -55,7 +55,7 @@ abbrev pub name_again : NameTable → Places → Lane → (k : ℕ) → Text
 name_again names places lane k =
     record { kind = Again; x = k * 800; y = places.line lane.pick - AGAIN_UP; text = pick_text names lane.pick }
 
--- the same at the first n places behind the start
+-- the same at the first n places after the start
 abbrev pub names_again : NameTable → Places → Lane → (n : ℕ) → List Text
 names_again names places lane zero = []
 names_again names places lane (suc n) = names_again names places lane n ++ name_again names places lane (suc n) ∷ []

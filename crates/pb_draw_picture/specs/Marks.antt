@@ -58,7 +58,7 @@ sign_for names labels x y pick source (happening.Did event) = event_at names x y
 sign_for names labels x y pick source (happening.Read integer value) = read_at names labels x y pick integer value
 sign_for names labels x y pick source (happening.Assigned integer value) = assign_at names labels x y pick integer value
 
--- each at the position behind its pick, on the line of its arm
+-- each at the position after its pick, on the line of its arm
 abbrev pub signs : NameTable → List ProcessLabels → Places → List Mark → List Sign
 signs names labels places marks =
     map (λ m. sign_for names labels (places.x (m.at + 1)) (places.line m.pick + MIDDLE) m.pick m.line m.what) marks

@@ -28,7 +28,7 @@ fn squeezed(picks: u64, of: u64) -> u64
 }
 
 impl Knot {
-    /// Returns where the silent picks behind the event begin.
+    /// Returns where the silent picks after the event begin.
     pub(crate) fn silent_x(&self) -> u64
         ensures { result ≡ self.now.x + self.now.width }
     {
@@ -43,7 +43,7 @@ impl Knot {
         self.silent_x() + squeezed(self.silent, self.silent)
     }
 
-    /// Returns where a position begins that is at the event, or among the silent picks behind it.
+    /// Returns where a position begins that is at the event, or among the silent picks after it.
     fn x_in(&self, position: u64) -> u64
         ensures x { result ≡ spec.x_in self.now position }
         ensures near { result ≤ 2 ^ 44 }
@@ -85,7 +85,7 @@ fn knot_to(start: Start, next: u64) -> Knot
     }
 }
 
-/// Returns the start behind a knot, at the position of the next event.
+/// Returns the start after a knot, at the position of the next event.
 fn start_at(knot: &Knot, position: u64, width: u64) -> Start
     requires near { knot.now.x + knot.now.width + 90 ≤ 1000 + 1000 * position }
     requires early { position ≤ 2 ^ 32 }

@@ -13,7 +13,7 @@ use pb_code::Labels;
 use pb_draw::Happening;
 use std::alloc::Global;
 
-/// Returns a number as text, with words behind it.
+/// Returns a number as text, with words after it.
 pub(crate) fn number_text(alloc: Global, number: u64, words: &[u8]) -> Result<Vec<u8>, NoMemory>
     ensures { IfOk result (λ text. text.items ≡ decimal number ++ words.now) }
 {

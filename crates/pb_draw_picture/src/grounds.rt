@@ -32,7 +32,7 @@ pub(crate) const READS_NOTE: &[u8] =
 pub(crate) const INTEGERS_NOTE: &[u8] =
     b"more than 100 picks assign to an integer: assignments and reads are not drawn";
 
-/// Adds the ground of the stretch behind an event, if it is shortened.
+/// Adds the ground of the stretch after an event, if it is shortened.
 fn add_gap(rects: &mut Vec<Rect>, knot: &Knot, bottom: u64) -> Result<(), NoMemory>
     ensures { OnOk result (rects.new.items ≡ rects.old.items ++ spec.gap_if_shortened bottom knot.now) }
 {
@@ -67,7 +67,7 @@ fn silent_at(alloc: Global, knot: &Knot) -> Result<Label, NoMemory>
     })
 }
 
-/// Adds how many silent picks the stretch behind an event has, if it is shortened.
+/// Adds how many silent picks the stretch after an event has, if it is shortened.
 fn add_silent(alloc: Global, knot: &Knot, labels: &mut Vec<Label>) -> Result<(), NoMemory>
     ensures { OnOk result (map text_of labels.new.items ≡ map text_of labels.old.items ++ spec.silent_if_shortened knot.now) }
 {

@@ -16,7 +16,7 @@ use pb_base::{Bundle, Names, NoMemory};
 use pb_draw::Bar;
 use std::alloc::Global;
 
-/// Returns the position behind a pick, if there is one.
+/// Returns the position after a pick, if there is one.
 fn behind(at: Option<u32>) -> Option<u64>
     ensures { result ≡ spec.behind at }
 {

@@ -4,7 +4,7 @@ ghost use Rattle.std.specs.Prelude.{◌≤◌, ◌+◌, ◌*◌, ◌^◌};
 ghost use Rattle.pb_draw_picture.specs.declared.sizes.TheConstants.{SIDE};
 
 /// An event on the axis: the position just after it, where that begins, how wide its pick is, and how many
-/// silent picks come behind it. The first knot is position 0, before any pick.
+/// silent picks come after it. The first knot is position 0, before any pick.
 #[derive(Clone, Copy)]
 pub(crate) struct Knot {
     pub position: u64,
@@ -17,7 +17,7 @@ pub(crate) struct Knot {
     ghost few: { silent ≤ 2 ^ 33 },
 }
 
-/// Where the next knot begins, and how wide its pick is: what comes behind it is not known yet.
+/// Where the next knot begins, and how wide its pick is: what comes after it is not known yet.
 #[derive(Clone, Copy)]
 pub(crate) struct Start {
     pub position: u64,

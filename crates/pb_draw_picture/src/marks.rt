@@ -126,7 +126,7 @@ fn mark_for(
     }
 }
 
-/// Returns the position behind the pick of a mark.
+/// Returns the position after the pick of a mark.
 fn behind(mark: &Mark) -> u64
     ensures { result ≡ mark.now.at + 1 }
 {

@@ -9,7 +9,7 @@ use std::alloc::{AllocError, Global};
 use std::sync::Wait;
 use std::thread::Threads;
 
-/// The words of a call behind the program's name, its input, what its output begins and ends with, how many bytes
+/// The words of a call after the program's name, its input, what its output begins and ends with, how many bytes
 /// it has if that is all of it, and its status.
 struct Call {
     words: &'static str,

@@ -7,7 +7,7 @@ use pb_engines::write_replay;
 use pb_options::{DrawOptions, Lend, ReplayOptions};
 use std::alloc::Global;
 
-/// An input, the options, the size that its picture begins with, the shapes behind [`LOOKS`], and the status.
+/// An input, the options, the size that its picture begins with, the shapes after [`LOOKS`], and the status.
 struct Case {
     input: &'static [u8],
     options: DrawOptions,

@@ -58,7 +58,7 @@ const CASES: [Case; 16] = [
         said: b"outcome 1\np ended\nprinted\np.0 print 1\nreached by\np.0 3\nnot as expected: other prints\n",
         status: Status::Unexpected,
     },
-    // a fault, behind the prints that are expected
+    // a fault, after the prints that are expected
     Case {
         input: b"process p begin print 1; print 1 div 0 end\n%%\np.0 print 1\n",
         lend: Lend::Banker,
@@ -266,7 +266,7 @@ const BAD_LINES: [&[u8]; 10] = [
     b"p.0 print 9223372036854775808\n",
 ];
 
-/// Returns whether these lines are refused behind a text.
+/// Returns whether these lines are refused after a text.
 fn refuses(alloc: Global, lines: &[u8]) -> Option<bool> {
     let mut bytes = Vec::from_slice(alloc, b"process p begin skip end\n%%\n").ok()?;
     bytes.extend_from_slice(lines).ok()?;

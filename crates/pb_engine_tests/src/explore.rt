@@ -314,7 +314,7 @@ fn the_first_deadlock(rt: HostRuntime) {
     assert!(rt; first.is_some_and(|told| told.1 == 1 && told.2 == Extent::AtDeadlock));
 }
 
-/// A print beside a store of what it prints, and one behind both.
+/// A print beside a store of what it prints, and one after both.
 const RACE: &[u8] =
     b"process p begin integer x; parbegin x := 1; print x parend; print 7 end process q begin skip end";
 

@@ -26,7 +26,7 @@ fn commands_are_answered_before_more_is_read(rt: HostRuntime) {
     assert!(rt; answers_before(rt.alloc(), 42, b"at 1\nat 0\n") == Some(true));
 }
 
-/// Returns whether a write that fails ends a live session behind its first answer.
+/// Returns whether a write that fails ends a live session after its first answer.
 fn ends_at_a_failed_write(alloc: Global) -> Option<bool> {
     let mut input = MemoryInput::new(SESSION);
     let mut output = FaultyOutput::new(alloc, 100, 1, 100).ok()?;
@@ -48,7 +48,7 @@ fn failing_devices(rt: HostRuntime) {
     assert!(rt; says_nothing(rt.alloc()) == Some(true));
 }
 
-/// Returns whether this is said of an input with a text of this length, with line feeds behind it, and the
+/// Returns whether this is said of an input with a text of this length, with line feeds after it, and the
 /// second of the same input if its commands are read as they come.
 fn says_of_length(alloc: Global, length: usize, said: &[u8], said_live: &[u8]) -> Option<bool> {
     let mut bytes = Vec::from_slice(alloc, b"process p begin print 1 end\n").ok()?;

@@ -81,7 +81,7 @@ error N3: integer y is not declared in process q
     assert!(rt; says(rt.alloc(), Reading::Texts, texts, said) == Some(true));
 }
 
-/// Returns whether the message of a text has this line first, behind the code `P1`, and this hint.
+/// Returns whether the message of a text has this line first, after the code `P1`, and this hint.
 fn explains(alloc: Global, text: &[u8], summary: &str, hint: &str) -> Option<bool> {
     let said = message_of(alloc, Reading::Text, text).ok()?;
     let said = String::from_utf8(said).ok()?;

@@ -17,7 +17,7 @@ fn are_read(alloc: Global, words: &[&str], wanted: Options) -> bool {
     read == wanted
 }
 
-/// Returns whether a command is refused with a word behind it.
+/// Returns whether a command is refused with a word after it.
 fn is_refused(alloc: Global, command: &str, word: &str) -> bool {
     options(alloc, &["parbegin", command, word]).is_err()
 }

@@ -40,7 +40,7 @@ last_is_feed text ended (inr (not_ended, same)) =
     subst (λ (t : List ℕ). (0 < length t) × (get_or t (length t - 1) 0 ≡ 10)) (sym same)
     (omega (arith, long), ap (λ (k : ℕ). get_or (line text) k 0) last ∙ get_or_at text 10 [] 0 (length text) refl)
 
--- ---- the first mark is behind the text
+-- ---- the first mark is after the text
 
 module _ (bytes ended lines : List ℕ) (tokens : List Token) (is_ended : IsEnded bytes ended) (cuts : Cuts bytes tokens) where
   abbrev whole : List ℕ

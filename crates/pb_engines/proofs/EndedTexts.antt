@@ -1,4 +1,4 @@
--- A text that is cut into tokens: no line of it begins with a percent sign, and with a line feed behind it it
+-- A text that is cut into tokens: no line of it begins with a percent sign, and with a line feed after it it
 -- has the same tokens.
 use Rattle.std.proofs.Common.{◌≡◌, ℕ, ◌+◌, ◌-◌, ◌<◌, ◌≤◌, ◌⊎◌, inl, inr, true, List, [], ◌∷◌, length, take, drop}
 use Rattle.std.proofs.Common.{get_or, slice_range, refl, sym, ap, ◌∙◌, subst, arith, append-nil, length-append}
@@ -71,7 +71,7 @@ no_percent_line_up_to (more {at = at} cut piece) k less is = elim (cases_lt k at
 pub no_percent_line : (text : List ℕ) (ts : List Token) → Cuts text ts → (k : ℕ) → k < length text → PercentLine text k → ⊥
 no_percent_line text ts cuts = no_percent_line_up_to cuts
 
--- ---- with a line feed behind it
+-- ---- with a line feed after it
 
 module _ (text : List ℕ) where
   longer : length (line text) ≡ length text + 1

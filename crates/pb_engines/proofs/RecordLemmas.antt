@@ -157,7 +157,7 @@ banker_is_never_stuck v verified steps picks end recorded = elim (goes_on v veri
     reached : CodeReaches v.code end
     reached = (spread picks, recorded.events, recorded.makes)
 
--- a run that was drawn, with the status that the machine behind it tells
+-- a run that was drawn, with the status that the machine after it tells
 pub drawn_ends : (lending : Lending) (code : Code) (steps : ℕ) (seed : Option ℕ) (picks : List CountedPick) (end : State CodeProcess)
     (ending : Ending) (status : Status) → IsRecorded lending code steps seed picks end → IsEnding lending code end ending
     → status ≡ recorded_status ending → IsRecordedWith lending code steps seed picks status

@@ -47,7 +47,7 @@ reports_follow_the_source text code labels compiled limit report is =
 
 -- ---- what is said of it
 
--- its events, and what is said behind them
+-- its events, and what is said after them
 pub says_of_report : (v : VerifiedCode) (names : NameTable) (steps : ℕ) (report : Report) → IsVerified v → IsReport v.code steps report
     → names ≡ v.code.names → (last : Saying) (status : Status) → SaysOfOutcome (events_of report.trace.entries) steps report.outcome last status
     → SaysOfCodeRun v.code steps (shown names (events_of report.trace.entries) ++ last ∷ []) status

@@ -52,7 +52,7 @@ never_both p q (inl a) (inr (same, b)) = omega (arith, a, same)
 never_both p q (inr (same, a)) (inl b) = omega (arith, b, same)
 never_both p q (inr (same, a)) (inr (equal, b)) = omega (arith, a, b)
 
--- a pick of the first list is in the second: the first of that, or behind it
+-- a pick of the first list is in the second: the first of that, or after it
 same_head : (p q : Pick) (ps qs : List Pick) → AreInOrder (p ∷ ps) → AreInOrder (q ∷ qs) → Contains (q ∷ qs) p → Contains (p ∷ ps) q → p ≡ q
 same_head p q ps qs order others here there = elim (first_or_rest q qs p here) [
   | inl same ↦ sym same
@@ -171,7 +171,7 @@ module _ (lending : Lending) (code : Code) (first : Lcg) where
       let moved_here : CodeMovesBy lending code before q shown s = subst (λ (x : Pick). CodeMovesBy lending code before x shown s) pick moved in
       ((λ i. list i ++ pick i ∷ []), moves_once lending code before q shown event s t moved_here moves_here, after)
 
-  -- the first picks of a run, and that one more is enabled behind them
+  -- the first picks of a run, and that one more is enabled after them
   record Start (n : ℕ) : Type 0 where
     picks : List Pick
     state : State CodeProcess

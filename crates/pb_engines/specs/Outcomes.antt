@@ -16,7 +16,7 @@ abbrev pub ShowsFault : List Event → Type 0
 ShowsFault events =
     (i : ℕ) × (pick : Pick) × (kind : FaultKind) × (slice_get events i ≡ Some (Faulted pick kind))
 
--- what is said behind these events: all is over, or the steps were used up before
+-- what is said after these events: all is over, or the steps were used up before
 pub data SaysOfOutcome (events : List Event) (steps : ℕ) : Outcome → Saying → Status → Type 0 where
   all_done : ¬ ShowsFault events → SaysOfOutcome events steps outcome.Done (Ended Over) status.Done
   some_fault : ShowsFault events → SaysOfOutcome events steps outcome.Done (Ended Over) status.Fault

@@ -34,7 +34,7 @@ abbrev pub IsOfRun : Status → Type 0
 IsOfRun status = (status ≡ Done) ⊎ (status ≡ Deadlock)
 
 -- an input is cut by `replay` into the recorded text and the picks of its run, and under the same lending no line
--- or pick of them is refused; nor is the text, unless the line feed behind it made it longer than a text may be.
+-- or pick of them is refused; nor is the text, unless the line feed after it made it longer than a text may be.
 -- The replay ends in a deadlock exactly if the run was written as one
 pub record CanBeReplayed (lending : Lending) (steps : ℕ) (seed : Option ℕ) (bytes whole : List ℕ) (status : Status) : Type 0 where
   pub cut : (text lines : List ℕ) → AreTwoParts whole text lines → HoldsRun lending steps seed bytes text lines

@@ -4,7 +4,7 @@ ghost use Rattle.pb_engines.specs.RecordLaws.{RecordsCanBeReplayed, SeedsWriteOn
 
 /// `replay` cuts what `record` wrote into the recorded text, ended by a line feed, and lines that say the
 /// picks of its run. Under the same lending it refuses no line, no pick and not the text, unless that had 65,536
-/// bytes and no line feed behind it; and it ends in a deadlock exactly if `record` ended so, if there is memory.
+/// bytes and no line feed after it; and it ends in a deadlock exactly if `record` ended so, if there is memory.
 pub fn records_can_be_replayed()
     ensures { RecordsCanBeReplayed }
 {}

@@ -69,7 +69,7 @@ fn tell_report<O: Output, T: Teller>(
     }
 }
 
-/// Returns what is said behind the events of a report, and the status.
+/// Returns what is said after the events of a report, and the status.
 fn last_of(report: &Report, steps: u32) -> (Said<'static>, Status)
     ensures said { SaysOfOutcome (events_of report.now.trace.entries) steps report.now.outcome (said_view result.0) result.1 }
     ensures no_device { result.1 ≢ status.Device }

@@ -12,7 +12,7 @@ mod texts;
 use pb_options::Code;
 
 /// What there is to say of the refusals with one code. Its texts are lines of at most 84 bytes, with no line
-/// feed behind the last one.
+/// feed after the last one.
 #[derive(Clone, Copy, Debug)]
 pub struct Entry {
     /// The meaning in a few words.
@@ -28,7 +28,7 @@ pub struct Entry {
 /// A call of the program that is refused.
 #[derive(Clone, Copy, Debug)]
 pub struct Example {
-    /// The words behind the name of the program, with single spaces.
+    /// The words after the name of the program, with single spaces.
     pub command: &'static str,
     /// What the call reads.
     pub input: ExampleInput,

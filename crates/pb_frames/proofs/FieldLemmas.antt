@@ -14,7 +14,7 @@ pub says_is : (line : List ℕ) (n : ℕ) (b : Bool) → n ≡ min 15 (length li
 says_is line n b most is =
     is ∙ ap (λ (xs : List ℕ). str_eq_ignore_ascii_case xs length_name) (ap (λ (k : ℕ). take k line) most ∙ take_min 15 line)
 
--- the same of what stands behind them
+-- the same of what stands after them
 pub value_is : (line : List ℕ) (n : ℕ) (behind r : List ℕ) → n ≡ min 15 (length line) → behind ≡ drop n line → IsTrimAsciiStart behind r
     → r ≡ field_value line
 value_is line n behind r most cut is =

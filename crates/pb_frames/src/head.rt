@@ -19,7 +19,7 @@ const LARGE: usize = 100_000_000;
 pub enum LineEnd {
     /// More lines follow. The lines so far say this size, or none.
     Further(Option<usize>),
-    /// It is the empty line behind the others, which say this size.
+    /// It is the empty line after the others, which say this size.
     Complete(usize),
     /// The line is not a header field.
     Wrong,
@@ -61,7 +61,7 @@ fn says_length(line: &[u8]) -> bool
     line[..name].eq_ignore_ascii_case(LENGTH)
 }
 
-/// Returns what stands behind the name of the size, and behind the blanks there.
+/// Returns what stands after the name of the size, and after the blanks there.
 #[tactic(auto, using(std::proofs::lemmas::List::drop_min, std::proofs::lemmas::Str::Ascii::trim_ascii_start_is))]
 fn field_value(line: &[u8]) -> &[u8]
     ensures { result.now ≡ spec.field_value line.now }

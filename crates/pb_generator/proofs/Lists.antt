@@ -199,7 +199,7 @@ arms_in_arms-more arms i arm here l =
 
 -- ---- arms that are collected
 
--- more arms behind those so far
+-- more arms after those so far
 pub collected : (old now new done more all : List Block) → now ≡ old ++ done → new ≡ now ++ more
     → all ≡ done ++ more
     → new ≡ old ++ all

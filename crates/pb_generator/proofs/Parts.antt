@@ -1,4 +1,4 @@
--- How a writer grows: one part of the code behind another, and jumps that are patched.
+-- How a writer grows: one part of the code after another, and jumps that are patched.
 use Rattle.std.proofs.Common.{◌≡◌, ℕ, suc, ◌+◌, ◌<◌, ◌≤◌, List, [], ◌∷◌, ◌++◌, length, map, Option, Some, arith}
 use Rattle.std.proofs.Common.{ap, sym, subst, ◌∙◌, append_assoc, append-nil, length-append, All}
 use Rattle.std.specs.Prelude.{slice_get, slice_set, slice_index_or}
@@ -60,7 +60,7 @@ adds_as {a} {b} {code} {other} {lines} {others} h c l = record {
 pub length-seen : (w : Writer) → length (seen w) ≡ place w
 length-seen w = length-map w.instrs.items (instr_view w.bundles.items)
 
--- the next place is behind the code
+-- the next place is after the code
 pub adds-place : {a b : Writer} {code : List Instr} {lines : List (Option ℕ)}
     → Adds a b code lines → place b ≡ place a + length code
 adds-place {a} {b} {code} h =

@@ -20,12 +20,12 @@ pub record IsSound (w : Writer) : Type 0 where
   pub named : All (NamesBelow (length w.bundles.items)) w.instrs.items
   pub few : length w.bundles.items ≤ place w
 
--- this code fits behind what is written
+-- this code fits after what is written
 pub record HasRoom (w : Writer) (code : List Instr) : Type 0 where
   pub sound : IsSound w
   pub small : place w + length code ≤ MAX_PLACES
 
--- code was written with its lines, behind what was there
+-- code was written with its lines, after what was there
 pub record Adds (old new : Writer) (code : List Instr) (lines : List (Option ℕ)) : Type 0 where
   pub coded : seen new ≡ seen old ++ code
   pub lined : new.lines.items ≡ old.lines.items ++ lines

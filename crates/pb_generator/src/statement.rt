@@ -176,7 +176,7 @@ impl Writer {
         Ok(())
     }
 
-    /// Appends an expression, and an instruction behind it that takes its value.
+    /// Appends an expression, and an instruction after it that takes its value.
     fn put_last<A: Allocator>(
         &mut self,
         line: u32,

@@ -118,14 +118,14 @@ operator_leaves l part ts after target x taken = record {
   same = x.same;
 }
 
--- ---- one part behind another
+-- ---- one part after another
 
 pub adds_more : {X Y : Type 0} (is : X → Y → Type 0) (join : Y → Y → Y) → ((a b c : Y) → join (join a b) c ≡ join a (join b c))
     → (x y z : X) (a b : Y)
     → Adds is join x y a → Adds is join y z b → Adds is join x z (join a b)
 adds_more is join assoc x y z a b first second before h = subst (is z) (assoc before a b) (second (join before a) (first before h))
 
--- ---- statements behind others
+-- ---- statements after others
 
 pub stmts_assoc : (a b c : StmtsSyntax) → append (append a b) c ≡ append a (append b c)
 stmts_assoc no_stmt b c = refl

@@ -54,7 +54,7 @@ pub signs_over : (op : UnaryOp) (count turn : ℕ) (answer whole : Answer ExprSy
     → whole ≡ signs (count - turn) op answer → whole ≡ answer
 signs_over op count turn answer whole over same = let none : count - turn ≡ 0 = omega arith in same ∙ ap (λ n. signs n op answer) none
 
--- what was made of the operand behind its signs was made of the whole
+-- what was made of the operand after its signs was made of the whole
 pub signed_makes : {E : Type 0} (is : E → ExprSyntax → Type 0) (wants : Type 0) (r : Result E ParseFault) (n : ℕ) (op
     : UnaryOp) (x : E) (answer whole : Answer ExprSyntax)
     (rest : List Token) → Signs wants is r n op x → Finds is x answer rest → whole ≡ signs n op answer → IsMadeOf wants is r whole rest

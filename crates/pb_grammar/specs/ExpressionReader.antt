@@ -64,7 +64,7 @@ abbrev pub related_by : Part ExprSyntax → ExprSyntax → List Token
 related_by part a all None ts = Found a all
 related_by part a all (Some f) ts = and_then (part ts) (λ b rest. Found (f a b) rest)
 
--- at most one relation behind `a`
+-- at most one relation after `a`
 unfoldable pub related : Part ExprSyntax → ExprSyntax → Part ExprSyntax
 related part a [] = Found a []
 related part a (t ∷ ts) = related_by part a (t ∷ ts) (joins level.Comparison t.lexeme) ts
@@ -99,44 +99,44 @@ of_level inner level.Factor = factor inner
 abbrev pub joined : BinaryOp → ExprSyntax → Answer ExprSyntax → Answer ExprSyntax
 joined op a answer = and_then answer (λ b rest. Found (tree.binary op a b) rest)
 
--- the rest of a term behind its first factor, and of a sum behind its first term
+-- the rest of a term after its first factor, and of a sum after its first term
 abbrev pub factors : Part ExprSyntax → ExprSyntax → Part ExprSyntax
 factors inner a ts = more (joins level.Term) (factor inner) a ts
 
 abbrev pub terms : Part ExprSyntax → ExprSyntax → Part ExprSyntax
 terms inner a ts = more (joins level.Sum) (term inner) a ts
 
--- the rest of a conjunction behind its first negation, and of a disjunction behind its first conjunction
+-- the rest of a conjunction after its first negation, and of a disjunction after its first conjunction
 abbrev pub negations : Part ExprSyntax → ExprSyntax → Part ExprSyntax
 negations inner a ts = more (joins level.Conjunction) (negation inner) a ts
 
 abbrev pub conjunctions : Part ExprSyntax → ExprSyntax → Part ExprSyntax
 conjunctions inner a ts = more (joins level.Disjunction) (conjunction inner) a ts
 
--- the rest of a comparison behind its first sum
+-- the rest of a comparison after its first sum
 unfoldable pub after_sum : Part ExprSyntax → Level → ExprSyntax → Part ExprSyntax
 after_sum inner level.Comparison a ts = related (sum inner) a ts
 after_sum inner _ a ts = Found a ts
 
--- the rest of a comparison or sum behind its first term
+-- the rest of a comparison or sum after its first term
 unfoldable pub after_term : Part ExprSyntax → Level → ExprSyntax → Part ExprSyntax
 after_term inner level.Sum a ts = and_then (terms inner a ts) (after_sum inner level.Sum)
 after_term inner level.Comparison a ts = and_then (terms inner a ts) (after_sum inner level.Comparison)
 after_term inner _ a ts = Found a ts
 
--- the rest of a comparison, sum or term behind its first factor
+-- the rest of a comparison, sum or term after its first factor
 unfoldable pub after_factor : Part ExprSyntax → Level → ExprSyntax → Part ExprSyntax
 after_factor inner level.Term a ts = and_then (factors inner a ts) (after_term inner level.Term)
 after_factor inner level.Sum a ts = and_then (factors inner a ts) (after_term inner level.Sum)
 after_factor inner level.Comparison a ts = and_then (factors inner a ts) (after_term inner level.Comparison)
 after_factor inner _ a ts = Found a ts
 
--- the rest of a disjunction behind its first conjunction
+-- the rest of a disjunction after its first conjunction
 unfoldable pub after_conjunction : Part ExprSyntax → Level → ExprSyntax → Part ExprSyntax
 after_conjunction inner level.Disjunction a ts = conjunctions inner a ts
 after_conjunction inner _ a ts = Found a ts
 
--- the rest of a disjunction or conjunction behind its first negation
+-- the rest of a disjunction or conjunction after its first negation
 unfoldable pub after_negation : Part ExprSyntax → Level → ExprSyntax → Part ExprSyntax
 after_negation inner level.Conjunction a ts = and_then (negations inner a ts) (after_conjunction inner level.Conjunction)
 after_negation inner level.Disjunction a ts = and_then (negations inner a ts) (after_conjunction inner level.Disjunction)

@@ -1,13 +1,13 @@
--- Lists of statements and of arms: a reader must believe that `append` puts one list behind another.
+-- Lists of statements and of arms: a reader must believe that `append` puts one list after another.
 use Rattle.pb_tree.specs.Syntax as tree
 use Rattle.pb_tree.specs.Syntax.{StmtSyntax, StmtsSyntax, ArmsSyntax}
 
--- one list behind another
+-- one list after another
 abbrev pub append : StmtsSyntax → StmtsSyntax → StmtsSyntax
 append tree.no_stmt b = b
 append (tree.stmt_then s a) b = tree.stmt_then s (append a b)
 
--- some arms behind others
+-- some arms after others
 abbrev pub append_arms : ArmsSyntax → ArmsSyntax → ArmsSyntax
 append_arms tree.no_arm b = b
 append_arms (tree.arm_then s a) b = tree.arm_then s (append_arms a b)

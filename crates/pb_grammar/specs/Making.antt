@@ -26,6 +26,6 @@ abbrev pub IsMadeOf : {X Y : Type 0} → (wants : Type 0) → (X → Y → Type 
 IsMadeOf wants is (Ok x) answer rest = Finds is x answer rest
 IsMadeOf wants is (Err e) answer rest = Fails wants e answer
 
--- `part` comes behind whatever `old` was made of, and so `new` was made
+-- `part` comes after whatever `old` was made of, and so `new` was made
 abbrev pub Adds : {X Y : Type 0} → (X → Y → Type 0) → (Y → Y → Y) → X → X → Y → Type 0
 Adds is join old new part = (before : _) → is old before → is new (join before part)

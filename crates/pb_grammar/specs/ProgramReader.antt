@@ -14,7 +14,7 @@ one_name ts = and_then (a_name ts) (λ x rest. Found (x ∷ []) rest)
 unfoldable pub names : Part (List NameSyntax)
 names = chain (between mark.Comma concat) one_name
 
--- resource = "resource" name "=" number ";", behind its first word
+-- resource = "resource" name "=" number ";", after its first word
 unfoldable pub a_resource : Part (List ResourceSyntax)
 a_resource ts = and_then (then_mark mark.Equal (a_name ts)) (λ x us.
     and_then (then_mark mark.Semicolon (a_number us)) (λ n rest.
@@ -34,7 +34,7 @@ unfoldable pub integers : Part (List NameSyntax)
 integers [] = Found [] []
 integers (t ∷ ts) = integers_by (is_mark mark.Integer t.lexeme) (then_mark mark.Semicolon (names ts)) (t ∷ ts)
 
--- process = "process" name "begin" [ "integer" names ";" ] list "end", behind its first word
+-- process = "process" name "begin" [ "integer" names ";" ] list "end", after its first word
 unfoldable pub a_process : ℕ → Part (List ProcessSyntax)
 a_process d ts = and_then (then_mark mark.Begin (a_name ts)) (λ x us. and_then (integers us) (λ xs vs.
     and_then (then_mark mark.End (list (statement d) vs)) (λ a rest.

@@ -15,7 +15,7 @@ pub data ReadsNames : List Token → List NameSyntax → List Token → Type 0 w
       → ReadsNames ts xs (t ∷ u ∷ rest) → Is t mark.Comma → u.lexeme ≡ Name x
       → ReadsNames ts (xs ++ (name_at u x ∷ [])) rest
 
--- resource = "resource" name "=" number ";", behind its first word
+-- resource = "resource" name "=" number ";", after its first word
 pub data ReadsResource : List Token → ResourceSyntax → List Token → Type 0 where
   resource : {t u v w : Token} {rest : List Token} {x : List ℕ} {n : ℤ}
       → t.lexeme ≡ Name x → Is u mark.Equal → v.lexeme ≡ Number n → Is w mark.Semicolon
@@ -28,7 +28,7 @@ pub data ReadsResources : List Token → List ResourceSyntax → List Token → 
       → ReadsResources ts rs (t ∷ mid) → Is t mark.Resource → ReadsResource mid r rest
       → ReadsResources ts (rs ++ (r ∷ [])) rest
 
--- process = "process" name "begin" [ "integer" names ";" ] list "end", behind its first word
+-- process = "process" name "begin" [ "integer" names ";" ] list "end", after its first word
 pub data ReadsProcess : List Token → ProcessSyntax → List Token → Type 0 where
   plain : {t u v : Token} {ts rest : List Token} {x : List ℕ} {a : StmtsSyntax}
       → t.lexeme ≡ Name x → Is u mark.Begin → ReadsList ts a (v ∷ rest) → Is v mark.End

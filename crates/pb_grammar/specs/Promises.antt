@@ -30,7 +30,7 @@ Gives view (Err e) answer rest = Fails ⊥ e answer
 abbrev pub name_said : Given → NameSyntax
 name_said t = name_at (token t) (token t).text
 
--- what was made of the operand behind n prefix operators, unless out of memory
+-- what was made of the operand after n prefix operators, unless out of memory
 abbrev pub Signs : {E : Type 0} → (wants : Type 0) → (E → ExprSyntax → Type 0) → Result E ParseFault → ℕ
     → UnaryOp → E → Type 0
 Signs wants is (Ok x) n op operand = (e : ExprSyntax) → is operand e

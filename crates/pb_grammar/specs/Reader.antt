@@ -15,7 +15,7 @@ pub data Answer (X : Type 0) : Type 0 where
 abbrev pub Part : Type 0 → Type 0
 Part X = List Token → Answer X
 
--- goes on behind what was read
+-- goes on after what was read
 abbrev pub and_then : {X Y : Type 0} → Answer X → (X → List Token → Answer Y) → Answer Y
 and_then Refused f = Refused
 and_then (Found x rest) f = f x rest

@@ -50,7 +50,7 @@ unfoldable pub a_pair : Part (List DemandSyntax)
 a_pair ts = and_then (then_mark mark.Of (a_number ts)) (λ n rest. and_then (a_name rest) (λ x after.
     Found (record { amount = n; resource = x } ∷ []) after))
 
--- one list behind another
+-- one list after another
 abbrev pub concat : {X : Type 0} → List X → List X → List X
 concat a b = a ++ b
 
@@ -85,27 +85,27 @@ abbrev pub assign : ℕ → Token → List ℕ → Part StmtsSyntax
 assign d t x ts = and_then (expect mark.Assign ts) (λ _ us. and_then (expression d us) (λ e rest.
     Found (single (tree.assign t.line (name_at t x) e)) rest))
 
--- "print" expr, behind its first word
+-- "print" expr, after its first word
 abbrev pub print : ℕ → ℕ → Part StmtsSyntax
 print d line ts = and_then (expression d ts) (λ e rest. Found (single (tree.print line e)) rest)
 
--- "if" expr "then" list [ "else" list ] "fi", behind its first word
+-- "if" expr "then" list [ "else" list ] "fi", after its first word
 abbrev pub if_else : ℕ → Part StmtsSyntax → ℕ → Part StmtsSyntax
 if_else d deeper line ts = and_then (then_mark mark.Then (expression d ts)) (λ e us.
     and_then (list deeper us) (λ a vs. and_then (then_mark mark.Fi (otherwise deeper vs)) (λ b rest.
     Found (single (tree.if_else line e a b)) rest)))
 
--- "while" expr "do" list "od", behind its first word
+-- "while" expr "do" list "od", after its first word
 abbrev pub while_do : ℕ → Part StmtsSyntax → ℕ → Part StmtsSyntax
 while_do d deeper line ts = and_then (then_mark mark.Do (expression d ts)) (λ e us.
     and_then (then_mark mark.Od (list deeper us)) (λ a rest. Found (single (tree.while_do line e a)) rest))
 
--- "hold" pairs "do" list "od", behind its first word
+-- "hold" pairs "do" list "od", after its first word
 abbrev pub hold : Part StmtsSyntax → ℕ → Part StmtsSyntax
 hold deeper line ts = and_then (then_mark mark.Do (pairs ts)) (λ ps us.
     and_then (then_mark mark.Od (list deeper us)) (λ a rest. Found (single (tree.hold line ps a)) rest))
 
--- "parbegin" arms "parend", behind its first word
+-- "parbegin" arms "parend", after its first word
 abbrev pub parbegin : Part StmtsSyntax → ℕ → Part StmtsSyntax
 parbegin deeper line ts = and_then (then_mark mark.Parend (arms_part deeper ts)) (λ a rest.
     Found (single (tree.parbegin line a)) rest)

@@ -62,7 +62,7 @@ pub trait Builder: Drop {
         ensures made { IfOk result (λ x. is_expr x (tree.variable (record { text = text.now; at = at }))) }
         ensures fault { IfErr result (λ _. wants) };
 
-    /// Returns an operand behind a prefix operator.
+    /// Returns an operand after a prefix operator.
     fn unary(&self, op: UnaryOp, operand: Self::Expr) -> Result<Self::Expr, NoMemory>
         ensures made { (e : ExprSyntax) → is_expr operand e → IfOk result (λ x. is_expr x (tree.unary op e)) }
         ensures fault { IfErr result (λ _. wants) };

@@ -7,7 +7,7 @@ pub enum Level {
     Disjunction,
     /// Negations joined by `and`.
     Conjunction,
-    /// A comparison behind any number of `not`.
+    /// A comparison after any number of `not`.
     Negation,
     /// One sum, or two joined by a relation.
     Comparison,
@@ -15,6 +15,6 @@ pub enum Level {
     Sum,
     /// Factors joined by `*`, `div` and `mod`.
     Term,
-    /// A number, a name or an expression in brackets, behind any number of `-`.
+    /// A number, a name or an expression in brackets, after any number of `-`.
     Factor,
 }

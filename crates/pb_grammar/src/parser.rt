@@ -169,7 +169,7 @@ impl<'a, 't, B: Builder> Parser<'a, 't, B> {
         }
     }
 
-    /// Returns an operand behind a number of prefix operators.
+    /// Returns an operand after a number of prefix operators.
     fn signed(&self, op: UnaryOp, count: usize, operand: B::Expr) -> Result<B::Expr, ParseFault>
         ensures { Signs B.wants B.is_expr result count op operand }
     {
@@ -227,7 +227,7 @@ impl<'a, 't, B: Builder> Parser<'a, 't, B> {
         Ok(first)
     }
 
-    /// Returns the rest of a disjunction or conjunction behind its first negation.
+    /// Returns the rest of a disjunction or conjunction after its first negation.
     #[inline(always)]
     #[cycle(expression)]
     fn after_negation(
@@ -250,7 +250,7 @@ impl<'a, 't, B: Builder> Parser<'a, 't, B> {
         }
     }
 
-    /// Returns the rest of a disjunction behind its first conjunction.
+    /// Returns the rest of a disjunction after its first conjunction.
     #[inline(always)]
     #[cycle(expression)]
     fn after_conjunction(
@@ -288,7 +288,7 @@ impl<'a, 't, B: Builder> Parser<'a, 't, B> {
         Ok(first)
     }
 
-    /// Returns the rest of a comparison, sum or term behind its first factor.
+    /// Returns the rest of a comparison, sum or term after its first factor.
     #[inline(never)]
     #[cycle(expression)]
     fn after_factor(
@@ -311,7 +311,7 @@ impl<'a, 't, B: Builder> Parser<'a, 't, B> {
         }
     }
 
-    /// Returns the rest of a comparison or sum behind its first term.
+    /// Returns the rest of a comparison or sum after its first term.
     #[inline(always)]
     #[cycle(expression)]
     fn after_term(
@@ -334,7 +334,7 @@ impl<'a, 't, B: Builder> Parser<'a, 't, B> {
         }
     }
 
-    /// Returns the rest of a comparison behind its first sum.
+    /// Returns the rest of a comparison after its first sum.
     #[inline(always)]
     #[cycle(expression)]
     fn after_sum(
@@ -353,7 +353,7 @@ impl<'a, 't, B: Builder> Parser<'a, 't, B> {
         }
     }
 
-    /// Parts joined by the operators of a level behind the first, grouped to the left.
+    /// Parts joined by the operators of a level after the first, grouped to the left.
     #[inline(always)]
     #[cycle(expression)]
     fn chain(

@@ -102,7 +102,7 @@ impl<'a, 't, B: Builder> Parser<'a, 't, B> {
         self.after_first(depth - 1, next.kind(), next, out)
     }
 
-    /// Reads the rest of a statement behind its first token, which is of the kind.
+    /// Reads the rest of a statement after its first token, which is of the kind.
     #[cycle(statement)]
     fn after_first(
         &mut self,

@@ -201,6 +201,6 @@ spread_take xs i c h =
     ap spread (take_next xs i c h)
     ∙ (spread_append (take i xs) (c ∷ []) ∙ ap (λ (ps : List Pick). spread (take i xs) ++ ps) (append-nil (replicate c.count c.pick)))
 
--- and those behind it
+-- and those after it
 pub spread_whole : (xs : List CountedPick) (i : ℕ) → spread xs ≡ spread (take i xs) ++ spread (drop i xs)
 spread_whole xs i = ap spread (sym (take_drop i xs)) ∙ spread_append (take i xs) (drop i xs)

@@ -14,7 +14,7 @@ early [] ys i d lt = absurd (omega arith)
 early (x ∷ xs) ys zero d lt = refl
 early (x ∷ xs) ys (suc i) d lt = early xs ys i d (omega arith)
 
--- the bundle behind the others
+-- the bundle after the others
 pub last_bundle : (bundles : List (List Pair)) (b : List Pair) → slice_index_or (bundles ++ b ∷ []) (length bundles) [] ≡ b
 last_bundle [] b = refl
 last_bundle (x ∷ bundles) b = last_bundle bundles b

@@ -114,6 +114,6 @@ silent_span p n lt =
     ap spans_of (sym (append-nil (silent_picks p (n - 0)) ∙ ap (silent_picks p) (let e : n - 0 ≡ n = omega arith in e)))
     ∙ spans_of_run p n false [] lt refl
 
--- silent picks behind entries
+-- silent picks after entries
 pub silent_added : SilentPicksAddOneSpan
 silent_added entries p n lt = spans_of_append entries (silent_picks p n) (record { pick = p; count = n; shows = false }) (silent_span p n lt)

@@ -51,7 +51,7 @@ IsStoppedBy lending code picks NoMemory = ⊤
 abbrev pub IsStopped : Code → List Pick → ReplayFault → Type 0
 IsStopped code = IsStoppedBy ByBanker code
 
--- behind the entries there were, a pick was made at most as often as its count says, and all of them lead to
+-- after the entries there were, a pick was made at most as often as its count says, and all of them lead to
 -- this state
 pub record MakesSome (lending : Lending) (code : Code) (before after : List Entry) (counted : CountedPick)
     (end : State CodeProcess) : Type 0 where

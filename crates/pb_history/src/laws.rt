@@ -19,7 +19,7 @@ pub fn replays_reach_positions()
     ensures { ReplaysReachPositions }
 {}
 
-/// Picks of one arm that show nothing, behind others, make one span more, or none if the last span is of that
+/// Picks of one arm that show nothing, after others, make one span more, or none if the last span is of that
 /// arm and shows nothing.
 pub fn silent_picks_add_one_span()
     ensures { SilentPicksAddOneSpan }

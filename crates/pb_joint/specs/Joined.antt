@@ -23,7 +23,7 @@ pub data AddsResources (there : List ResourceSyntax) : (declared added : List Re
   new : (declared added : List ResourceSyntax) (resource : ResourceSyntax) → AddsResources there declared added
       → ¬ IsDeclared resource there → AddsResources there (declared ++ resource ∷ []) (added ++ resource ∷ [])
 
--- a tree behind others that are joined: its new resources, and all its processes
+-- a tree after others that are joined: its new resources, and all its processes
 pub record Joins (before tree whole : ProgramSyntax) : Type 0 where
   pub added : List ResourceSyntax
   pub adds : AddsResources before.resources tree.resources added

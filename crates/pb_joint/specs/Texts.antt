@@ -34,7 +34,7 @@ pub record AreReadAs (texts : List (List ℕ)) (trees : List ProgramSyntax) (pro
 abbrev pub are_several : {T : Type 0} → List T → Bool
 are_several texts = nat_lt 1 (length texts)
 
--- behind the name of a process: the number of its text, if there are several
+-- after the name of a process: the number of its text, if there are several
 abbrev pub of_words : (several : Bool) → (number : ℕ) → List ℕ
 of_words several number = cond several (codes " of text " ++ decimal number) []
 

@@ -9,7 +9,7 @@ use pb_base::NoMemory;
 use pb_tree::{Process, Program, Resource};
 use std::alloc::Allocator;
 
-/// Adds a tree behind others that are joined: all its processes, and those of its resources that are not declared
+/// Adds a tree after others that are joined: all its processes, and those of its resources that are not declared
 /// there with the same capital. The error comes only if out of memory.
 pub(crate) fn join<A: Allocator>(whole: &mut Program<A>, tree: Program<A>) -> Result<(), NoMemory>
     ensures { OnOk result (Joins (program_view whole.old) (program_view tree) (program_view whole.new)) }
@@ -41,7 +41,7 @@ fn is_declared<A: Allocator>(resource: &Resource<A>, there: &[Resource<A>]) -> b
     false
 }
 
-/// Adds a resource behind others, unless it is declared among the first `count`.
+/// Adds a resource after others, unless it is declared among the first `count`.
 fn add_resource<A: Allocator>(
     all: &mut Vec<Resource<A>, A>,
     count: usize,
@@ -59,7 +59,7 @@ fn add_resource<A: Allocator>(
     Ok(())
 }
 
-/// Adds the resources of a tree behind those of others: those that are not declared there.
+/// Adds the resources of a tree after those of others: those that are not declared there.
 fn add_resources<A: Allocator>(
     all: &mut Vec<Resource<A>, A>,
     resources: Vec<Resource<A>, A>,
@@ -75,7 +75,7 @@ fn add_resources<A: Allocator>(
     Ok(())
 }
 
-/// Adds the processes of a tree behind those of others.
+/// Adds the processes of a tree after those of others.
 fn add_processes<A: Allocator>(
     all: &mut Vec<Process<A>, A>,
     processes: Vec<Process<A>, A>,

@@ -24,7 +24,7 @@ use std::alloc::Global;
 pub struct Joint {
     pub program: Resolved<Global>,
     pub claims: Claims,
-    /// What each process is called: its name, and behind it the number of its text if there are several.
+    /// What each process is called: its name, and after it the number of its text if there are several.
     pub names: Vec<Vec<u8>>,
 }
 

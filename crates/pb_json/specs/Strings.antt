@@ -26,7 +26,7 @@ string_text bytes = 34 ∷ (flat_map escaped bytes ++ 34 ∷ [])
 -- ---- what a reader of JSON makes of the inside of a string
 
 -- what stands between the quotes says these bytes. All of it is ASCII from the space on, but not `<`; a quote
--- stands behind a backslash alone
+-- stands after a backslash alone
 pub data Says : List ℕ → List ℕ → Type 0 where
   nothing : Says [] []
   itself : (b : ℕ) → 32 ≤ b → b < 127 → b ≢ 34 → b ≢ 92 → b ≢ 60 → (inside bytes : List ℕ) → Says inside bytes

@@ -49,7 +49,7 @@ found_at : (n at : ℕ) (t : Bool) → Some at ≡ cond t (Some n) None → (n �
 found_at n at true h = (cc, refl)
 found_at n at false h = absurd cc
 
--- the first line of a text that has a line feed, whatever is behind it
+-- the first line of a text that has a line feed, whatever is after it
 pub cut_ended : (text more : List ℕ) (at : ℕ) → Some at ≡ position (λ b. eqb b 10) text
     → lines_of (take (suc at) text ++ more) ≡ take at text ∷ lines_of more
 cut_ended text more at found =
@@ -108,7 +108,7 @@ module _ (dialect : Dialect) (text before : List ℕ) where
             ∙ ap (λ t. before ++ t) (sym (told_more front rest at ended found dialect) ∙ ap (told_alone dialect) (sym joined)))),
       )
 
--- a text behind one that ends with a line
+-- a text after one that ends with a line
 pub told_both : (dialect : Dialect) (front rest : List ℕ) → EndsLine front
     → told_alone dialect (front ++ rest) ≡ told_alone dialect front ++ told_alone dialect rest
 unfolding told_alone

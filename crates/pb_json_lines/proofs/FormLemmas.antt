@@ -34,7 +34,7 @@ module _ (line : List ℕ) where
       let none : find is (map plain_form (drop i all)) ≡ None = ap (λ (fs : List Form). find is (map plain_form fs)) (drop_all i all (omega (arith, ends))) in
       ap (or_else otherwise) (sym none ∙ rest)
 
-  -- behind the line of an outcome or a deadlock, and elsewhere
+  -- after the line of an outcome or a deadlock, and elsewhere
   pub open_form : (dialect : Dialect) (is_open : Bool) (alone : PlainForm) → is_open ≡ true → alone ≡ alone_form dialect line
       → first_of parts alone line ≡ form_of dialect is_open line
   unfolding form_of

@@ -33,7 +33,7 @@ cut_step b (c ∷ cs) false rest =
     ∙ (ap (λ k. take k (b ∷ bs) ∷ lines_of (drop (n + 1) bs)) (sym one)
     ∙ ap (λ k. take (1 + n) (b ∷ bs) ∷ lines_of (drop k (b ∷ bs))) (sym two))
 
--- a text is its first line, and those behind the first line feed
+-- a text is its first line, and those after the first line feed
 cut_line : (bs : List ℕ) → 0 < length bs → lines_of bs ≡ take (before_feed bs) bs ∷ lines_of (drop (before_feed bs + 1) bs)
 cut_line [] some = absurd (omega (arith, some))
 cut_line (b ∷ bs) some = cut_step b bs (eqb b 10) (cut_line bs)

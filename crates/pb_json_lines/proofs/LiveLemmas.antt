@@ -17,7 +17,7 @@ use Rattle.pb_json_lines.specs.declared.telling.Telling.{Telling}
 use Rattle.pb_json_lines.specs.declared.telling.Telling.TheVariants.{Whole, Failed, NoMemory}
 use Rattle.pb_json_lines.proofs.AloneLemmas.{ends_none, told_both}
 
--- ---- texts behind what was written
+-- ---- texts after what was written
 
 pub none_more : (written : Option (List ℕ)) → written ≡ appended written []
 none_more None = refl
@@ -50,7 +50,7 @@ pub told_parts : (dialect : Dialect) (text : List ℕ) (n : ℕ) → EndsLine (t
 told_parts dialect text n ended =
     ap (told_alone dialect) (sym (take-append-drop n text)) ∙ told_both dialect (take n text) (drop n text) ended
 
--- a text that ends with a line, behind another one
+-- a text that ends with a line, after another one
 ends_both : (front text : List ℕ) → EndsLine front → EndsLine text → EndsLine (front ++ text)
 ends_both front text ended too more =
     ap lines_of (append_assoc front text more)

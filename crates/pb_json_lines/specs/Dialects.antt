@@ -44,7 +44,7 @@ dialect_for command words status =
     cond (bytes_eq command (codes "explain")) Explain (
     cond (writes_picks command words && is_recorded status) Record Program)))
 
--- the command is the word behind the program's name
+-- the command is the word after the program's name
 abbrev pub dialect_of : List (List ℕ) → Status → Dialect
 dialect_of [] status = Program
 dialect_of (name ∷ []) status = Program

@@ -72,7 +72,7 @@ place_of Picks = 8
 abbrev pub is_of : Section → List ℕ → Bool
 is_of section text = place_of (section_of Program true text) == place_of section
 
--- the objects of those parts that are of a section, behind n others, with commas between them
+-- the objects of those parts that are of a section, after n others, with commas between them
 abbrev pub items : Section → (n : ℕ) → List (List ℕ) → List ℕ
 items section n [] = []
 items section n (text ∷ lines) =
@@ -93,11 +93,11 @@ lists_of lines =
     ++ list_of (codes "holds") Holds lines ++ list_of (codes "asks") Asks lines
     ++ list_of (codes "prints") Prints lines ++ list_of (codes "picks") Picks lines
 
--- the object of an outcome or a deadlock, by its line and the lines behind it
+-- the object of an outcome or a deadlock, by its line and the lines after it
 unfoldable pub block_of : Dialect → (is_open : Bool) → List ℕ → List (List ℕ) → List ℕ
 block_of dialect is_open first lines = codes "{" ++ said_by (form_of dialect is_open first) first ++ lists_of (parts_of lines) ++ codes "}"
 
--- what is written for a line, by the lines behind it: nothing, if it belongs to what is before it
+-- what is written for a line, by the lines after it: nothing, if it belongs to what is before it
 abbrev pub said_of : Dialect → (is_open : Bool) → List ℕ → List (List ℕ) → List ℕ
 said_of dialect is_open text lines =
     cond (opens dialect is_open text) (line (block_of dialect is_open text lines))

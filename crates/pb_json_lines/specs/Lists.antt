@@ -19,7 +19,7 @@ at_number Shares b = cond (b == 48) Zero (cond (is_ascii_digit b) Digits Wrong)
 at_number Pairs b = cond (is_ascii_digit b && not (b == 48)) Digits Wrong
 at_number Numbers b = cond (is_ascii_digit b && not (b == 48)) Digits Wrong
 
--- at a byte behind a number: a space, and then a name if the list is of pairs
+-- at a byte after a number: a space, and then a name if the list is of pairs
 abbrev pub behind_number : Shape → ℕ → Mode
 behind_number Numbers b = cond (b == 32) FirstDigit Wrong
 behind_number Pairs b = cond (b == 32) FirstLetter Wrong
@@ -31,13 +31,13 @@ at_name Shares b = cond (is_label_byte b) Letters Wrong
 at_name Pairs b = cond (is_ascii_alphabetic b) Letters Wrong
 at_name Numbers b = cond (is_ascii_alphabetic b) Letters Wrong
 
--- at a byte behind one of a name
+-- at a byte after one of a name
 abbrev pub behind_name : Shape → ℕ → Mode
 behind_name Shares b = cond (is_label_byte b) Letters (cond (b == 44) Comma Wrong)
 behind_name Pairs b = cond (is_name_byte b) Letters (cond (b == 32) FirstDigit Wrong)
 behind_name Numbers b = cond (is_name_byte b) Letters (cond (b == 32) FirstDigit Wrong)
 
--- where a reader of such a list is behind one byte more
+-- where a reader of such a list is after one byte more
 abbrev pub next : Shape → Mode → ℕ → Mode
 next shape Begin b = cond (b == 32) FirstDigit Wrong
 next shape FirstDigit b = at_number shape b
@@ -54,7 +54,7 @@ are_numbers Numbers = true
 are_numbers Pairs = false
 are_numbers Shares = false
 
--- a list ends behind a name if it is of pairs, and else behind a number
+-- a list ends after a name if it is of pairs, and else after a number
 abbrev pub may_end : Shape → Mode → Bool
 may_end shape Digits = are_numbers shape
 may_end shape Letters = not (are_numbers shape)
@@ -69,7 +69,7 @@ may_end shape Wrong = false
 abbrev pub is_list : Shape → List ℕ → Bool
 is_list shape word = may_end shape (fold (next shape) Begin word)
 
--- what stands for a space before a pair, behind its number, and before the next pair
+-- what stands for a space before a pair, after its number, and before the next pair
 abbrev pub parting_pairs : Mode → List ℕ
 parting_pairs Begin = codes "{\"amount\":"
 parting_pairs Digits = codes ",\"resource\":\""

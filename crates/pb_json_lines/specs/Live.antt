@@ -22,7 +22,7 @@ unfoldable pub told_alone : Dialect → List ℕ → List ℕ
 told_alone dialect text = lines_alone dialect (lines_of text)
 
 -- an output that passes on what it is given, or tells the lines of it as JSON lines: what is written to the output
--- behind it, and how many writes have failed; and if it tells lines, in whose forms, the bytes that it was given,
+-- after it, and how many writes have failed; and if it tells lines, in whose forms, the bytes that it was given,
 -- how it went, and how many writes it has refused
 pub record LiveSink : Type 0 where
   pub written : Option (List ℕ)
@@ -54,7 +54,7 @@ failures_of_writers s = failed_in s.dialect s.writes s.refused
 abbrev pub EndsLine : List ℕ → Type 0
 EndsLine front = (more : List ℕ) → lines_of (front ++ more) ≡ lines_of front ++ lines_of more
 
--- of these bytes the first are told, behind what was written before: all lines that have ended
+-- of these bytes the first are told, after what was written before: all lines that have ended
 pub record TellsFront (dialect : Dialect) (heard : List ℕ) (told : ℕ) (before written : Option (List ℕ)) : Type 0 where
   pub front : List ℕ
   pub rest : List ℕ
@@ -63,7 +63,7 @@ pub record TellsFront (dialect : Dialect) (heard : List ℕ) (told : ℕ) (befor
   pub ended : EndsLine front
   pub written_so : written ≡ appended before (told_alone dialect front)
 
--- what is told so far, behind what was written before, when this many writes had failed: if a write failed, or there
+-- what is told so far, after what was written before, when this many writes had failed: if a write failed, or there
 -- was no memory, some first part
 abbrev pub IsToldSoFar : Telling → Dialect → (heard : List ℕ) → (told : ℕ) → (before : Option (List ℕ)) → (failed : ℕ)
     → (written : Option (List ℕ)) → (writes : ℕ) → Type 0
@@ -80,7 +80,7 @@ IsLive None heard told telling written writes = told ≡ 0
 IsLive (Some dialect) heard told telling written writes =
     (before : Option (List ℕ)) × (failed : ℕ) × IsToldSoFar telling dialect heard told before failed written writes
 
--- what is told of a text in the end, behind what was written before: its JSON lines, with the status of its command;
+-- what is told of a text in the end, after what was written before: its JSON lines, with the status of its command;
 -- or a write failed, or memory did not suffice, and some first part of them
 pub data EndsTelling (dialect : Dialect) (text : List ℕ) (given : Status) (before : Option (List ℕ)) (failed : ℕ)
     : Option (List ℕ) → ℕ → Status → Type 0 where

@@ -107,7 +107,7 @@ abbrev pub begins_with_letter : List ℕ → Bool
 begins_with_letter [] = false
 begins_with_letter (b ∷ bytes) = is_ascii_alphabetic b
 
--- a number in decimal, behind a minus sign or not
+-- a number in decimal, after a minus sign or not
 abbrev pub is_integer : List ℕ → Bool
 is_integer [] = false
 is_integer (b ∷ bytes) = cond (b == 45) (is_numeral bytes) (is_numeral (b ∷ bytes))
@@ -170,7 +170,7 @@ member_by Code p word = member_text p (string_text word)
 abbrev pub member : ℕ → List ℕ → List ℕ
 member p word = member_by (marker_of p) p word
 
--- the bytes that it takes of a line, and those behind them
+-- the bytes that it takes of a line, and those after them
 abbrev pub word_of : ℕ → List ℕ → List ℕ
 word_of p line = take (taken p line) line
 

@@ -3,7 +3,7 @@ use Rattle.std.specs.Prelude.{List, [], ◌∷◌, codes}
 use Rattle.pb_json_lines.specs.PlainForms.{PlainForm, form}
 use Rattle.pb_json_lines.specs.declared.form.Section.TheVariants.{Alone}
 
--- a recorded run: behind the text, a line that parts it from the picks, and pick lines
+-- a recorded run: after the text, a line that parts it from the picks, and pick lines
 unfoldable pub record_forms : List PlainForm
 record_forms =
     form Alone (codes "picks follow") (codes "%%")

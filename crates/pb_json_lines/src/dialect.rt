@@ -84,7 +84,7 @@ pub fn dialect_of(words: &[&str], status: Status) -> Dialect
 }
 
 /// Returns whether the lines of a command are told as they come, each by itself: no object of theirs has a list of
-/// the lines behind it.
+/// the lines after it.
 pub fn comes_live(dialect: Dialect) -> bool
     ensures { result ≡ spec.comes_live dialect }
 {

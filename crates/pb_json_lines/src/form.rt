@@ -31,7 +31,7 @@ pub enum Section {
     Alone,
     /// Its first line.
     Opens,
-    /// A line that says what those behind it are.
+    /// A line that says what those after it are.
     Heading,
     /// How a process ended, or that it waits.
     Processes,

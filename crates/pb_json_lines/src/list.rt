@@ -61,7 +61,7 @@ fn only_if(test: bool, mode: Mode) -> Mode
     if test { mode } else { Mode::Wrong }
 }
 
-/// Returns where a reader is behind a byte that may be the first digit of a number.
+/// Returns where a reader is after a byte that may be the first digit of a number.
 fn at_number(shape: Shape, byte: u8) -> Mode
     ensures { result ≡ spec.at_number shape byte }
 {
@@ -74,7 +74,7 @@ fn at_number(shape: Shape, byte: u8) -> Mode
     }
 }
 
-/// Returns where a reader is behind a number, at a byte that is no digit.
+/// Returns where a reader is after a number, at a byte that is no digit.
 fn behind_number(shape: Shape, byte: u8) -> Mode
     ensures { result ≡ spec.behind_number shape byte }
 {
@@ -84,7 +84,7 @@ fn behind_number(shape: Shape, byte: u8) -> Mode
     }
 }
 
-/// Returns where a reader is behind a byte that may be the first of a name.
+/// Returns where a reader is after a byte that may be the first of a name.
 fn at_name(shape: Shape, byte: u8) -> Mode
     ensures { result ≡ spec.at_name shape byte }
 {
@@ -94,7 +94,7 @@ fn at_name(shape: Shape, byte: u8) -> Mode
     }
 }
 
-/// Returns where a reader is behind a name, at one byte more.
+/// Returns where a reader is after a name, at one byte more.
 fn behind_name(shape: Shape, byte: u8) -> Mode
     ensures { result ≡ spec.behind_name shape byte }
 {
@@ -106,7 +106,7 @@ fn behind_name(shape: Shape, byte: u8) -> Mode
     }
 }
 
-/// Returns where a reader is behind one byte more.
+/// Returns where a reader is after one byte more.
 fn next(shape: Shape, mode: Mode, byte: u8) -> Mode
     ensures { result ≡ spec.next shape mode byte }
 {

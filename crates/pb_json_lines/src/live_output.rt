@@ -196,7 +196,7 @@ impl<O: Output> LiveOutput<O> {
         }
     }
 
-    /// Returns the output behind it.
+    /// Returns the output after it.
     pub fn behind(&self) -> &O
         ensures { O.written result.now ≡ self.now.written }
     {

@@ -160,7 +160,7 @@ fn begins_with_letter(word: &[u8]) -> bool
     }
 }
 
-/// Returns whether a word is a number, behind a minus sign or not.
+/// Returns whether a word is a number, after a minus sign or not.
 fn is_integer(word: &[u8]) -> bool
     ensures { result ≡ spec.is_integer word.now }
 {

@@ -103,7 +103,7 @@ fn is_part(dialect: Dialect, is_open: bool, text: &[u8]) -> bool
     }
 }
 
-/// Appends the object of a part behind others, with the comma before it.
+/// Appends the object of a part after others, with the comma before it.
 fn put_item(out: &mut Vec<u8>, before: usize, text: &[u8]) -> Result<(), NoMemory>
     ensures { OnOk result (out.new.items ≡ out.old.items ++ (comma before ++ spec.object_of Dialect.Program true text.now)) }
 {

@@ -6,7 +6,7 @@ ghost use Rattle.pb_json_lines.specs.TextForms.{explain_forms, record_forms};
 
 use crate::form::{Form, Section};
 
-/// The forms of the lines behind the text of a recorded run.
+/// The forms of the lines after the text of a recorded run.
 static RECORD: [Form; 2] = [
     Form {
         section: Section::Alone,
@@ -27,7 +27,7 @@ static EXPLAIN: [Form; 1] = [Form {
     pattern: "8: W",
 }];
 
-/// Returns the forms of the lines behind the text of a recorded run.
+/// Returns the forms of the lines after the text of a recorded run.
 pub(crate) fn record_forms() -> &'static [Form]
     ensures { map plain_form result.now ≡ record_forms }
 {

@@ -65,7 +65,7 @@ const OUTCOMES: [Case; 3] = [
     },
 ];
 
-/// What `plan` writes behind `no order`, and of several texts.
+/// What `plan` writes after `no order`, and of several texts.
 const CIRCLES: [Case; 2] = [
     Case {
         text: b"no order\norder holds tape line 7 around disk line 8\nb holds disk line 11 around tape line 12\norder tape disk\n",

@@ -12,7 +12,7 @@ use std::marker::Model;
 /// that a run can have them as one slice.
 #[derive(Drop)]
 pub struct Stack {
-    /// The operands, the lowest first, and behind them whatever was left there.
+    /// The operands, the lowest first, and after them whatever was left there.
     pub(crate) slots: SmallVec<i64, 8>,
     /// How many operands there are.
     pub(crate) depth: usize,

@@ -25,7 +25,7 @@ same_more ts us i d e l m same h =
     take_more_same (texts (tokens ts)) (texts (tokens us)) i [] inside_these inside_those h
     (text_at ts i d l ∙ same ∙ sym (text_at us i e m))
 
--- tokens that are the same before one of them and behind it
+-- tokens that are the same before one of them and after it
 pub keeps : (ts us : List Given) (number behind left : ℕ) → number ≤ length ts
     → behind ≡ min (length ts) (number + 1) → left ≡ length ts - behind → number + left ≤ length us
     → texts (tokens (take number ts)) ≡ texts (tokens (take number us))

@@ -42,7 +42,7 @@ abbrev pub texts : List Token → List (List ℕ)
 texts ts = map (λ t. t.text) ts
 
 -- of two lists of tokens the second is the first, with others in the place of one token at most: those before it and
--- those behind it are there, in their order
+-- those after it are there, in their order
 pub record KeepsTokens (ts after : List Token) : Type 0 where
   pub number : ℕ
   pub to : ℕ
@@ -80,8 +80,8 @@ cause_offset (Some cause) = cause.at
 abbrev pub offset : CompileFault → Option ℕ
 offset fault = cause_offset (text_cause fault)
 
--- how many tokens are just behind this word before one that has this name: the number of what the name declares, counted
--- from 0. The first token may be behind such a word
+-- how many tokens are just after this word before one that has this name: the number of what the name declares, counted
+-- from 0. The first token may be after such a word
 unfoldable pub number_from : (word name : List ℕ) → (is_behind : Bool) → List Token → (number : ℕ) → ℕ
 number_from word name is_behind [] number = number
 number_from word name is_behind (t ∷ ts) number =
@@ -101,7 +101,7 @@ IsLaterClaim ts over other_ts other =
     (process_number ts over < process_number other_ts other)
     ⊎ ((process_number ts over ≡ process_number other_ts other) × (resource_number ts over < resource_number other_ts other))
 
--- of two texts with their faults the second has the later one: both have an offset and less is behind the second, or both
+-- of two texts with their faults the second has the later one: both have an offset and less is after the second, or both
 -- are claims over a capital and the second is a later claim. So no fault without an offset is later but a claim
 pub data IsLater (text : List ℕ) (fault : CompileFault) (other_text : List ℕ) (other : CompileFault) : Type 0 where
   nearer : (at other_at : ℕ) → offset fault ≡ Some at → offset other ≡ Some other_at

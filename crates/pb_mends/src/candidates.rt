@@ -6,7 +6,7 @@ use pb_codegen::ClaimsFault;
 use pb_lexer::{Kind, Mark, Token};
 use std::alloc::Global;
 
-/// What may be missing behind a token.
+/// What may be missing after a token.
 const MISSING: [&str; 9] = [
     ";", " of", " then", " do", " skip", " fi", " od", " end", " parend",
 ];
@@ -21,7 +21,7 @@ fn insertion(title: String, at: usize, bytes: String) -> Mend {
     }
 }
 
-/// Returns the offset behind the last token that ends at an offset or before it; 0 if none does.
+/// Returns the offset after the last token that ends at an offset or before it; 0 if none does.
 fn end_before(tokens: &[Token<'_>], at: usize) -> usize {
     let mut end = 0;
     for token in tokens {
@@ -86,7 +86,7 @@ fn is(token: &Token<'_>, mark: Mark) -> bool {
     token.kind() == Kind::Mark(mark)
 }
 
-/// The parts of a process that stand before a name: where its `begin` ends, and the `;` behind its integers.
+/// The parts of a process that stand before a name: where its `begin` ends, and the `;` after its integers.
 #[derive(Clone, Copy)]
 struct Head {
     begin: Option<usize>,
@@ -95,7 +95,7 @@ struct Head {
 }
 
 impl Head {
-    /// Returns the parts of a process behind the word `process`.
+    /// Returns the parts of a process after the word `process`.
     fn new() -> Head {
         Head {
             begin: None,

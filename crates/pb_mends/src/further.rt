@@ -36,7 +36,7 @@ fn offset(fault: &CompileFault) -> Option<usize>
     }
 }
 
-/// Returns whether of two texts with their faults both have an offset, and less is behind that of the second.
+/// Returns whether of two texts with their faults both have an offset, and less is after that of the second.
 fn is_nearer(text: &[u8], fault: &CompileFault, other_text: &[u8], other: &CompileFault) -> bool
     ensures { result ≡ true → IsLater text.now fault.now other_text.now other.now }
 {
@@ -48,7 +48,7 @@ fn is_nearer(text: &[u8], fault: &CompileFault, other_text: &[u8], other: &Compi
     }
 }
 
-/// Returns how many tokens are just behind a word before one that has this name.
+/// Returns how many tokens are just after a word before one that has this name.
 #[tactic(auto, unfolding(crate::specs::Mends::number_from))]
 fn number_of(tokens: &[Token<'_>], word: &[u8], name: &[u8]) -> usize
     ensures { result ≡ spec.number_from word.now name.now false (tokens_view tokens.now) 0 }

@@ -13,7 +13,7 @@ pub struct Mend {
     pub title: String,
     /// The offset of the first byte that is replaced.
     pub start: usize,
-    /// The offset behind the last byte that is replaced.
+    /// The offset after the last byte that is replaced.
     pub end: usize,
     /// The bytes in their place.
     pub bytes: String,

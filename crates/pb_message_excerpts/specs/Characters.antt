@@ -9,7 +9,7 @@ byte_at bytes number = slice_index bytes number
 abbrev pub is_between : (low high number : ℕ) → Bool
 is_between low high number = nat_le low number && nat_le number high
 
--- whether a byte is one of a character behind its first
+-- whether a byte is one of a character after its first
 abbrev pub is_later : ℕ → Bool
 is_later byte = is_between 128 191 byte
 
@@ -54,7 +54,7 @@ character_at bytes =
     else if is_seen (of_four bytes) && nat_le 0x10000 (of_four bytes) then of_four bytes
     else 0
 
--- how many bytes a character has behind its first
+-- how many bytes a character has after its first
 abbrev pub later_bytes : ℕ → ℕ
 later_bytes number = if nat_lt number 0x80 then 0 else if nat_lt number 0x800 then 1 else if nat_lt number 0x10000 then 2 else 3
 
@@ -91,11 +91,11 @@ below_byte b = if b == 9 then 9 else 32
 abbrev pub shown_first : (character byte : ℕ) → ℕ
 shown_first character byte = if character == 0 then shown_byte byte else byte
 
--- the first of some bytes as it is shown, behind a character of which some bytes are still to come
+-- the first of some bytes as it is shown, after a character of which some bytes are still to come
 abbrev pub shown_next : (later : ℕ) → List ℕ → (byte : ℕ) → ℕ
 shown_next later bytes byte = if later == 0 then shown_first (character_at bytes) byte else byte
 
--- how many bytes are still to come behind the first of them
+-- how many bytes are still to come after the first of them
 abbrev pub later_next : (later : ℕ) → List ℕ → ℕ
 later_next later bytes = if later == 0 then later_bytes (character_at bytes) else later - 1
 
@@ -109,7 +109,7 @@ shown_bytes later (byte ∷ bytes) =
 abbrev pub below_first : (character byte : ℕ) → List ℕ
 below_first character byte = if character == 0 then below_byte byte ∷ [] else replicate (columns character) 32
 
--- what is below the first of some bytes, behind a character of which some bytes are still to come
+-- what is below the first of some bytes, after a character of which some bytes are still to come
 abbrev pub below_next : (later : ℕ) → List ℕ → (byte : ℕ) → List ℕ
 below_next later bytes byte = if later == 0 then below_first (character_at bytes) byte else []
 

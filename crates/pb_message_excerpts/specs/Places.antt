@@ -20,7 +20,7 @@ pub record IsPlace (text : List ℕ) (offset : ℕ) (place : Place) : Type 0 whe
   pub first : (place.begin ≡ 0) ⊎ ((0 < place.begin) × (slice_index text (place.begin - 1) ≡ 10))
   pub last : (place.end ≡ length text) ⊎ (slice_index text place.end ≡ 10)
 
--- the part of a line that is shown: up to 100 bytes before the place, and up to 100 behind it
+-- the part of a line that is shown: up to 100 bytes before the place, and up to 100 after it
 abbrev pub shown_from : Place → ℕ
 shown_from place = place.at - min 100 (place.at - place.begin)
 
@@ -37,7 +37,7 @@ arrow_line label place =
     margin_of place ++ codes "--> " ++ label ++ codes "line " ++ decimal place.line
     ++ codes ", column " ++ decimal place.column ++ codes "\n"
 
--- a line with nothing behind the margin
+-- a line with nothing after the margin
 abbrev pub bar_line : Place → List ℕ
 bar_line place = margin_of place ++ codes "|\n"
 

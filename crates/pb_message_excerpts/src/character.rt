@@ -14,7 +14,7 @@ fn byte_at(bytes: &[u8], number: usize) -> u32
     }
 }
 
-/// Returns whether a byte is one of a character behind its first.
+/// Returns whether a byte is one of a character after its first.
 fn is_later(byte: u32) -> bool
     ensures { result ≡ spec.is_later byte }
 {
@@ -91,7 +91,7 @@ pub(crate) fn first_character(bytes: &[u8]) -> u32
     }
 }
 
-/// Returns how many bytes a character has behind its first.
+/// Returns how many bytes a character has after its first.
 pub(crate) fn later_bytes(number: u32) -> usize
     ensures { result ≡ spec.later_bytes number }
 {

@@ -15,7 +15,7 @@ pub struct Place {
     pub column: usize,
     /// The offset at which the line begins.
     pub begin: usize,
-    /// The offset behind its last byte, that of its line feed if it has one.
+    /// The offset after its last byte, that of its line feed if it has one.
     pub end: usize,
 }
 

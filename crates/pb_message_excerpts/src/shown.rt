@@ -51,7 +51,7 @@ fn character_from(bytes: &[u8], at: usize) -> u32
     first_character(&bytes[at..])
 }
 
-/// Returns the byte at an offset as a message shows it, behind a character of which some bytes are still to come.
+/// Returns the byte at an offset as a message shows it, after a character of which some bytes are still to come.
 fn shown_next(later: usize, bytes: &[u8], at: usize) -> u8
     requires { at < length bytes.now }
     ensures { result ≡ spec.shown_next later (drop at bytes.now) (slice_index bytes.now at) }
@@ -63,7 +63,7 @@ fn shown_next(later: usize, bytes: &[u8], at: usize) -> u8
     }
 }
 
-/// Returns how many bytes of a character are still to come behind the byte at an offset.
+/// Returns how many bytes of a character are still to come after the byte at an offset.
 fn later_next(later: usize, bytes: &[u8], at: usize) -> usize
     requires { at < length bytes.now }
     ensures { result ≡ spec.later_next later (drop at bytes.now) }
@@ -117,7 +117,7 @@ fn put_below_first(out: &mut Vec<u8>, character: u32, byte: u8) -> Result<(), No
     Ok(())
 }
 
-/// Appends to `out` what is below the byte at an offset, behind a character of which some bytes are still to come.
+/// Appends to `out` what is below the byte at an offset, after a character of which some bytes are still to come.
 fn put_below_next(out: &mut Vec<u8>, later: usize, bytes: &[u8], at: usize) -> Result<(), NoMemory>
     requires { at < length bytes.now }
     ensures { OnOk result (out.new.items

@@ -7,7 +7,7 @@ use Rattle.pb_history.specs.declared.counted.CountedPick.{CountedPick}
 use Rattle.pb_picks.specs.PickLines.{IsFirstLine, Lacks, ReadsPicks}
 use Rattle.pb_picks.proofs.PickParts.{never_lacks, one_line_more, same_parts}
 
--- what is behind the first line is one thing
+-- what is after the first line is one thing
 same_behind : (text a x b y : List ℕ) → IsFirstLine text a x → IsFirstLine text b y → x ≡ y
 same_behind text a x b y first second = elim first.1 [
   | inl e ↦ elim second.1 [
@@ -20,11 +20,11 @@ same_behind text a x b y first second = elim first.1 [
   ]
 ]
 
--- the lines up to one say the first picks, and that one and those behind it the others
+-- the lines up to one say the first picks, and that one and those after it the others
 abbrev pub AreParted : Code → (lines : List ℕ) → List CountedPick → (i : ℕ) → (rest : List ℕ) → Type 0
 AreParted code lines picks i rest = ReadsPicks code lines (take i picks) rest × ReadsPicks code rest (drop i picks) []
 
--- the same behind one more line
+-- the same after one more line
 pub parted_next : (code : Code) (lines : List ℕ) (picks : List CountedPick) (i : ℕ) (c : CountedPick) (rest line after : List ℕ)
     → slice_get picks i ≡ Some c → drop i picks ≡ c ∷ drop (i + 1) picks → IsFirstLine rest line after
     → AreParted code lines picks i rest → AreParted code lines picks (i + 1) after

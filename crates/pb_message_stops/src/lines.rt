@@ -100,7 +100,7 @@ enum Kind<'t> {
     NoProcess { name: &'t [u8] },
     // The process with this number has no such arm.
     NoArm { process: usize, arm: &'t [u8] },
-    // What is behind the blank is no count.
+    // What is after the blank is no count.
     NoCount { count: &'t [u8] },
     // Anything else, in words.
     Other { summary: &'static str },

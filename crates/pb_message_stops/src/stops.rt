@@ -123,7 +123,7 @@ fn made_wording(alloc: Global, stop: &Stop, arm: &String) -> Wording
     wording
 }
 
-/// Returns in words that an arm cannot make its pick, behind those that were made.
+/// Returns in words that an arm cannot make its pick, after those that were made.
 fn summary(alloc: Global, stop: &Stop, arm: &String) -> Result<String, AllocError>
     ensures { IfOk result (λ words. string_bytes words ≡ string_bytes arm.now ++ made_before stop.now.number) }
 {
@@ -148,7 +148,7 @@ fn made_note(alloc: Global, stop: &Stop) -> Result<String, AllocError>
     }
 }
 
-/// Returns the machine behind the picks of pick lines; none if out of memory.
+/// Returns the machine after the picks of pick lines; none if out of memory.
 fn machine_after(
     alloc: Global,
     lending: Lending,

@@ -75,7 +75,7 @@ fn named_token(tokens: &[Token], number: usize, told: &Told<'_>) -> usize {
     }
 }
 
-/// Returns the number of the token at an offset, if there is one; behind the last one, if that is a word with which no
+/// Returns the number of the token at an offset, if there is one; after the last one, if that is a word with which no
 /// statement begins.
 fn faulty_token(tokens: &[Token], at: Option<usize>) -> Option<usize> {
     match token_at(tokens, at?) {
@@ -85,7 +85,7 @@ fn faulty_token(tokens: &[Token], at: Option<usize>) -> Option<usize> {
     }
 }
 
-/// Returns whether the type of a lock is behind a `:`, or a mistake is that of a name just before a `.`, and the word behind
+/// Returns whether the type of a lock is after a `:`, or a mistake is that of a name just before a `.`, and the word after
 /// that says something else.
 fn is_known_by_what_follows(tokens: &[Token], rest: &[u8], cause: &Told<'_>) -> bool {
     if rest.starts_with(b":") && is_lock(behind_blanks(rest, 1)) {
@@ -116,7 +116,7 @@ fn byte_in_words(alloc: Global, byte: u8) -> Result<String, AllocError> {
     }
 }
 
-/// Returns what is usually meant by the first byte of the rest of a text, behind these tokens.
+/// Returns what is usually meant by the first byte of the rest of a text, after these tokens.
 fn meaning_of(tokens: &[Token], open: Option<&Open>, rest: &[u8]) -> &'static str {
     match rest.first().copied().unwrap_or(0) {
         b':' => meaning_of_colon(tokens, open, rest),
@@ -178,7 +178,7 @@ fn meaning_of_bars(open: Option<&Open>, rest: &[u8]) -> &'static str {
     }
 }
 
-/// Returns whether what is behind two bytes seems to be an operand, and no statement: up to the end of its line it does not
+/// Returns whether what is after two bytes seems to be an operand, and no statement: up to the end of its line it does not
 /// assign, and no reserved word begins it.
 fn is_operand(rest: &[u8]) -> bool {
     for i in 2..rest.len() {
@@ -197,7 +197,7 @@ fn is_operand(rest: &[u8]) -> bool {
 /// The words with which statements begin that are often arms.
 const STATEMENTS: [&str; 6] = ["print", "begin", "hold", "while", "if", "skip"];
 
-/// Returns bytes without the first ones and the blanks behind them.
+/// Returns bytes without the first ones and the blanks after them.
 fn behind_blanks(bytes: &[u8], count: usize) -> &[u8] {
     for i in count..bytes.len() {
         if !matches!(bytes[i], b' ' | b'\t' | b'\n' | b'\r') {
@@ -207,7 +207,7 @@ fn behind_blanks(bytes: &[u8], count: usize) -> &[u8] {
     b""
 }
 
-/// Returns what is usually meant by `:` behind these tokens.
+/// Returns what is usually meant by `:` after these tokens.
 fn meaning_of_colon(tokens: &[Token], open: Option<&Open>, rest: &[u8]) -> &'static str {
     let last = tokens.len().saturating_sub(1);
     let behind = behind_blanks(rest, 1);
@@ -232,7 +232,7 @@ fn meaning_of_colon(tokens: &[Token], open: Option<&Open>, rest: &[u8]) -> &'sta
     }
 }
 
-/// Returns whether a print or an assignment may end behind some tokens.
+/// Returns whether a print or an assignment may end after some tokens.
 fn ends_value(tokens: &[Token]) -> bool {
     let number = tokens.len();
     match statement_before(tokens, number) {
@@ -285,7 +285,7 @@ fn meaning_of_line_end(tokens: &[Token], open: Option<&Open>) -> Option<&'static
     }
 }
 
-/// Returns what is usually meant by `.` behind these tokens.
+/// Returns what is usually meant by `.` after these tokens.
 fn meaning_of_point(tokens: &[Token], rest: &[u8]) -> &'static str {
     let last = tokens.len().saturating_sub(1);
     if is_at(tokens, last, Mark::End) {
@@ -301,7 +301,7 @@ fn meaning_of_point(tokens: &[Token], rest: &[u8]) -> &'static str {
     }
 }
 
-/// Returns what is usually meant by a name with a point behind it.
+/// Returns what is usually meant by a name with a point after it.
 fn meaning_of_member(name: &[u8], rest: &[u8]) -> &'static str {
     if let Some(hint) = member_hint(rest) {
         return hint;
@@ -334,7 +334,7 @@ fn words_with_points(bytes: &[u8]) -> &[u8] {
     bytes
 }
 
-/// Returns what is usually meant by `{` behind these tokens.
+/// Returns what is usually meant by `{` after these tokens.
 fn meaning_of_brace(tokens: &[Token], open: Option<&Open>, rest: &[u8]) -> &'static str {
     if tokens.is_empty() || is_remark(rest) {
         return "a comment begins with // and goes to the end of its line; there is no { }";

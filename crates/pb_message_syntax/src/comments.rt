@@ -1,4 +1,4 @@
-//! Code that stands in a comment: behind a `//` that is meant as a division, or an `end`.
+//! Code that stands in a comment: after a `//` that is meant as a division, or an `end`.
 
 use pb_base::NoMemory;
 use pb_lexer::{Kind, LexFault, Mark, Token, lex};
@@ -6,7 +6,7 @@ use pb_mistakes::tokens::{declares, ends_expression, is_at, is_name, is_number, 
 use pb_mistakes::{Told, telling};
 use std::alloc::Global;
 
-/// Returns the mistake of the comment just behind the token before the one with a number, in the same line, if code seems to
+/// Returns the mistake of the comment just after the token before the one with a number, in the same line, if code seems to
 /// stand in it.
 pub fn comment_mistake<'t>(
     alloc: Global,
@@ -45,7 +45,7 @@ fn end_of(tokens: &[Token], number: usize) -> usize {
     }
 }
 
-/// Returns the offset of the comment that is behind an offset of a text, with only blanks between them, if there is one.
+/// Returns the offset of the comment that is after an offset of a text, with only blanks between them, if there is one.
 fn comment_behind(text: &[u8], from: usize) -> Option<usize> {
     for at in from..text.len() {
         if !matches!(text[at], b' ' | b'\t') {

@@ -16,7 +16,7 @@ pub struct Misspelt<'t> {
     pub number: usize,
     /// The word that is meant.
     pub word: &'t [u8],
-    /// What is meant behind that word and a blank; nothing if it is empty.
+    /// What is meant after that word and a blank; nothing if it is empty.
     pub rest: &'t [u8],
 }
 
@@ -106,7 +106,7 @@ fn end_of(tokens: &[Token], number: usize) -> usize {
     }
 }
 
-/// Returns how many bytes of a text are behind the token with a number; none if no token has it.
+/// Returns how many bytes of a text are after the token with a number; none if no token has it.
 fn behind(text: &[u8], tokens: &[Token], number: usize) -> Option<usize> {
     let token = tokens.get(number)?;
     Some(text.len().saturating_sub(token.end()))
@@ -119,7 +119,7 @@ struct Trial<'t> {
     // Where the word is that is replaced.
     start: usize,
     end: usize,
-    // How many bytes are behind the token that cannot come where it is, if there is one.
+    // How many bytes are after the token that cannot come where it is, if there is one.
     behind: Option<usize>,
 }
 
@@ -249,7 +249,7 @@ fn split_word<'t>(
     Ok(None)
 }
 
-/// Returns whether this may be a token behind a reserved word: a number, or else a name.
+/// Returns whether this may be a token after a reserved word: a number, or else a name.
 fn is_rest(rest: &[u8], is_number: bool) -> bool {
     if is_number {
         !rest.is_empty() && rest.iter().all(|byte| byte.is_ascii_digit())
@@ -259,7 +259,7 @@ fn is_rest(rest: &[u8], is_number: bool) -> bool {
 }
 
 /// Returns the name that is probably meant by the name that the token with a number is and that is not declared: that of
-/// a resource behind `of`, and else that of an integer of the process.
+/// a resource after `of`, and else that of an integer of the process.
 pub fn meant_name<'t>(
     alloc: Global,
     tokens: &[Token<'t>],

@@ -19,7 +19,7 @@ use pb_mistakes::values::value_mistake;
 use pb_mistakes::{Told, telling, usual};
 use std::alloc::Global;
 
-/// Returns the mistake that was probably made in a text, if the token with a number cannot come where it is (behind the
+/// Returns the mistake that was probably made in a text, if the token with a number cannot come where it is (after the
 /// last token: if the text cannot end there); nothing if none of them is likely.
 pub fn likely_mistake<'t>(
     alloc: Global,
@@ -368,7 +368,7 @@ fn assign_mistake<'t>(tokens: &[Token<'t>], number: usize) -> Option<Told<'t>> {
     )
 }
 
-/// Returns the mistake of a comparison that cannot be here: one behind another, or one with no left side.
+/// Returns the mistake of a comparison that cannot be here: one after another, or one with no left side.
 fn comparison_mistake<'t>(tokens: &[Token<'t>], number: usize) -> Option<Told<'t>> {
     let before = number.checked_sub(1)?;
     let begins = is_statement_start(tokens, before) && is_name(tokens, before);

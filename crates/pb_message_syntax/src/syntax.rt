@@ -187,7 +187,7 @@ fn syntax_wording(alloc: Global, text: &[u8], at: usize) -> Result<Wording, NoMe
     }
 }
 
-/// Returns the wording that says what may come behind the first part of a text, in the place of the token with a number.
+/// Returns the wording that says what may come after the first part of a text, in the place of the token with a number.
 fn unexpected(
     alloc: Global,
     text: &[u8],
@@ -214,7 +214,7 @@ fn unexpected_in_words(
     }
 }
 
-/// Returns the line that says what may come behind the first part of a text; nothing if no token may.
+/// Returns the line that says what may come after the first part of a text; nothing if no token may.
 fn expected(alloc: Global, text: &[u8]) -> Result<Option<String>, NoMemory> {
     let phrases = phrases_behind(alloc, text)?;
     let mut line = String::from_str(alloc, "expected: ")?;
@@ -226,7 +226,7 @@ fn expected(alloc: Global, text: &[u8]) -> Result<Option<String>, NoMemory> {
     Ok(Some(line))
 }
 
-/// Returns which phrases may begin behind the first part of a text.
+/// Returns which phrases may begin after the first part of a text.
 fn phrases_behind(alloc: Global, text: &[u8]) -> Result<Phrases, NoMemory> {
     Ok(Phrases {
         statement: may_follow(alloc, text, STATEMENT)?,
@@ -235,7 +235,7 @@ fn phrases_behind(alloc: Global, text: &[u8]) -> Result<Phrases, NoMemory> {
     })
 }
 
-/// Appends to `line`, the beginning of a line, what may come behind the first part of a text.
+/// Appends to `line`, the beginning of a line, what may come after the first part of a text.
 fn put_choices(
     alloc: Global,
     line: &mut String,
@@ -252,7 +252,7 @@ fn put_choices(
     Ok(())
 }
 
-/// Appends to `line`, a line that was `empty` bytes long, what a probe tries, if it may come behind the first part of
+/// Appends to `line`, a line that was `empty` bytes long, what a probe tries, if it may come after the first part of
 /// a text and is shown beside these phrases.
 fn put_probe(
     alloc: Global,
@@ -289,7 +289,7 @@ fn is_told(part_of: Part, phrases: Phrases) -> bool {
     }
 }
 
-/// Returns whether a token may come behind the first part of a text: some program begins so.
+/// Returns whether a token may come after the first part of a text: some program begins so.
 fn may_follow(alloc: Global, text: &[u8], token: &str) -> Result<bool, NoMemory> {
     let mut longer = Vec::from_slice(alloc, text)?;
     longer.push(b' ')?;

@@ -136,7 +136,7 @@ fn nothing(alloc: Global) -> Result<ProcessCode, NoMemory> {
     })
 }
 
-/// Makes the instructions behind the first ones jump to themselves, except forks and joins.
+/// Makes the instructions after the first ones jump to themselves, except forks and joins.
 fn cut(code: &mut ProcessCode, kept: usize) {
     for (place, instr) in code.instrs.iter_mut().enumerate() {
         if place >= kept && !is_fork_or_join(*instr) {

@@ -22,7 +22,7 @@ pub enum Advice {
     Edit {
         /// The offset of the first byte that is replaced.
         start: usize,
-        /// The offset behind the last byte that is replaced.
+        /// The offset after the last byte that is replaced.
         end: usize,
         /// The bytes in their place.
         bytes: Vec<u8>,
@@ -96,7 +96,7 @@ fn replacing(tokens: &[Token], number: usize, bytes: Vec<u8>) -> Advice {
     }
 }
 
-/// Returns the offset behind the token before the one with a number.
+/// Returns the offset after the token before the one with a number.
 fn end_before(tokens: &[Token], number: usize) -> usize {
     match number.checked_sub(1) {
         Some(before) => match tokens.get(before) {

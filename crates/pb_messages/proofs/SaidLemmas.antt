@@ -105,7 +105,7 @@ module _ {W E : Type 0} (seen : W → List ℕ) where
   text_picked lending before source lines (Ok told) none says = inr (none, says)
   text_picked lending before source lines (Err e) none says = says
 
-  -- what is said of either, with no commands behind the pick lines, and with commands
+  -- what is said of either, with no commands after the pick lines, and with commands
   pub source_shown : (lending : Lending) (before : ℕ) (bytes source lines : List ℕ) (made : Result W E) → AreTwoParts bytes source lines
       → before ≡ line_at bytes (min (length source) (length bytes))
       → IfOk made (λ told. SaysOfPickedSource lending before source lines (seen told))

@@ -1,4 +1,4 @@
--- What a message shows of a wording: its summary, and behind the place of the fault the other places and the notes.
+-- What a message shows of a wording: its summary, and after the place of the fault the other places and the notes.
 use Rattle.std.specs.Prelude.{◌≡◌, ℕ, List, [], ◌∷◌, ◌++◌, Option, None, Some, codes, length, map, min, replicate, string_bytes}
 use Rattle.std.specs.List.{flat_map}
 use Rattle.std.specs.Fmt.{decimal}
@@ -23,7 +23,7 @@ pub data AreSpots (label text : List ℕ) : List Spot → List ℕ → Type 0 wh
       → AreSpots label text spots shown → IsSpot label text spot one
       → AreSpots label text (spots ++ spot ∷ []) (shown ++ one)
 
--- a note, which has a line, behind a margin of this width
+-- a note, which has a line, after a margin of this width
 abbrev pub note_row : (width : ℕ) → (note : List ℕ) → List ℕ
 note_row width note = replicate width 32 ++ (codes " = " ++ (note ++ codes "\n"))
 
@@ -36,7 +36,7 @@ abbrev pub first_offset : Option ℕ → List Spot → ℕ
 first_offset (Some at) spots = at
 first_offset None spots = first_spot spots
 
--- what is behind the place of a fault: each other place of the wording, and each of its notes, whose margin is as wide as
+-- what is after the place of a fault: each other place of the wording, and each of its notes, whose margin is as wide as
 -- the number of the line at which the message points first
 pub record AreDetails (label text : List ℕ) (cause : Cause) (wording : Wording) (details : List ℕ) : Type 0 where
   pub shown : List ℕ

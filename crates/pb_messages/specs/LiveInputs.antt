@@ -10,7 +10,7 @@ use Rattle.pb_messages.specs.declared.message.Reading.TheVariants.{Debugged}
 abbrev pub long_part : List ℕ
 long_part = codes "error input: the text or the pick lines, with the line %% behind them, are longer than 4194304 bytes\n"
 
--- what is before the rest of some bytes, with the line `%%` behind it, is over 4,194,304 bytes
+-- what is before the rest of some bytes, with the line `%%` after it, is over 4,194,304 bytes
 abbrev pub IsLongBefore : (bytes rest : List ℕ) → Type 0
 IsLongBefore bytes rest = MAX_INPUT < length bytes - length rest
 

@@ -8,7 +8,7 @@ use Rattle.pb_codegen.specs.declared.fault.CompileFault.{CompileFault}
 use Rattle.pb_options.specs.Codes.{code_name}
 use Rattle.pb_message_excerpts.specs.declared.place.Place.{Place}
 
--- the place of a fault as it is shown: nothing if it has none; one behind the text is that of its end
+-- the place of a fault as it is shown: nothing if it has none; one after the text is that of its end
 abbrev pub IsShown : (label text : List ℕ) → Option ℕ → List ℕ → Type 0
 IsShown label text None shown = shown ≡ []
 IsShown label text (Some at) shown =

@@ -72,7 +72,7 @@ SaysOfFirstFormat text told =
 abbrev pub HasNoMark : List ℕ → Type 0
 HasNoMark text = (at : ℕ) → ¬ IsMarkAt text at
 
--- a message behind others: a line feed is between
+-- a message after others: a line feed is between
 abbrev pub behind : (others more : List ℕ) → List ℕ
 behind [] more = more
 behind (b ∷ bs) more = b ∷ bs ++ 10 ∷ more
@@ -99,7 +99,7 @@ pub data AreSaid (bytes : List ℕ) : (number : ℕ) → (rest told : List ℕ) 
       → AreSaid bytes number rest before → IsCutAt rest text left → SaysMore (text_label number) text before told
       → AreSaid bytes (number + 1) left told
 
--- of texts: what is said of all of them, behind the last of which is no line `%%`; or of the first ones, if
+-- of texts: what is said of all of them, after the last of which is no line `%%`; or of the first ones, if
 -- that has over 4,096 bytes
 pub data SaysOfTexts (bytes : List ℕ) : List ℕ → Type 0 where
   all : (number : ℕ) (label text before told : List ℕ)
@@ -156,7 +156,7 @@ SaysOfPickedSource lending before source lines told =
     (IsObjectPart source × SaysOfPickedObject lending before source lines told)
     ⊎ ((¬ IsObjectPart source) × SaysOfPickedText lending before source lines told)
 
--- how many lines of an input are before its pick lines: those up to the line `%%` behind its source
+-- how many lines of an input are before its pick lines: those up to the line `%%` after its source
 abbrev pub lines_before : (bytes source : List ℕ) → ℕ
 lines_before bytes source = line_at bytes (length source)
 

@@ -14,7 +14,7 @@ const LONG_PART: &[u8] =
     b"error input: the text or the pick lines, with the line %% behind them, are longer than 4194304 bytes\n";
 
 /// Returns the message of a refused input whose commands are read as they come: each of the two parts before
-/// them may have 4,194,304 bytes, with the line `%%` behind it. Its picks are made under a lending.
+/// them may have 4,194,304 bytes, with the line `%%` after it. Its picks are made under a lending.
 pub fn live_message(alloc: Global, lending: Lending, bytes: &[u8]) -> Result<Vec<u8>, NoMemory>
     ensures { IfOk result (λ message. SaysOfLiveInput lending bytes.now message.items) }
 {

@@ -45,9 +45,9 @@ pub enum Reading {
     Texts,
     /// An object.
     Object,
-    /// A text, and pick lines behind the first line `%%`, made under this lending.
+    /// A text, and pick lines after the first line `%%`, made under this lending.
     Replayed(Lending),
-    /// A text or an object, and pick lines behind the first line `%%`, made under this lending.
+    /// A text or an object, and pick lines after the first line `%%`, made under this lending.
     Shown(Lending),
     /// A text or an object, and pick lines between the first two lines `%%`. What follows is not looked at.
     Debugged(Lending),
@@ -195,7 +195,7 @@ fn part_label(alloc: Global, number: u64, is_last: bool) -> Result<String, Alloc
     format!(in alloc; "text {number}, ")
 }
 
-/// Returns the message of a text and the pick lines behind it.
+/// Returns the message of a text and the pick lines after it.
 fn replayed_message(alloc: Global, lending: Lending, bytes: &[u8]) -> Result<Vec<u8>, NoMemory>
     ensures { IfOk result (λ message. SaysByReading (Replayed lending) bytes.now message.items) }
 {
@@ -212,7 +212,7 @@ fn replayed_message(alloc: Global, lending: Lending, bytes: &[u8]) -> Result<Vec
     )
 }
 
-/// Returns the message of a text or an object and the pick lines behind it, made under a lending.
+/// Returns the message of a text or an object and the pick lines after it, made under a lending.
 fn shown_message(alloc: Global, lending: Lending, bytes: &[u8]) -> Result<Vec<u8>, NoMemory>
     ensures { IfOk result (λ message. SaysByReading (Shown lending) bytes.now message.items) }
 {
@@ -221,7 +221,7 @@ fn shown_message(alloc: Global, lending: Lending, bytes: &[u8]) -> Result<Vec<u8
     picked_message(alloc, lending, source, Lines { text, before })
 }
 
-/// Returns the message of a text or an object and the pick lines behind it, with commands behind them.
+/// Returns the message of a text or an object and the pick lines after it, with commands after them.
 pub(crate) fn debugged_message(
     alloc: Global,
     lending: Lending,

@@ -58,7 +58,7 @@ fn show_cause(alloc: Global, label: &str, text: &[u8], cause: &Cause) -> Result<
     }
 }
 
-/// Returns the lines behind the place of a fault.
+/// Returns the lines after the place of a fault.
 fn details(
     alloc: Global,
     label: &str,

@@ -64,7 +64,7 @@ pub fn idle_closer<'t>(tokens: &[Token<'t>], number: usize, open: &[Open]) -> Op
     )
 }
 
-/// Returns the mistake of an `end` with a word behind it that says what ends.
+/// Returns the mistake of an `end` with a word after it that says what ends.
 fn end_of_a_kind<'t>(tokens: &[Token<'t>], number: usize, last: &Open) -> Option<Told<'t>> {
     let behind = number.saturating_add(1);
     let kind = text_at(tokens, behind);
@@ -163,7 +163,7 @@ fn not_closed<'t>(tokens: &[Token<'t>], open: &Open) -> Told<'t> {
         .inserting(spelled(closer(open.word)))
 }
 
-/// Returns whether what is open is an `if` with another one just behind its `else`.
+/// Returns whether what is open is an `if` with another one just after its `else`.
 fn is_else_if(tokens: &[Token], open: &Open) -> bool {
     if open.word != Mark::If || open.part != Some(Mark::Else) {
         return false;
@@ -256,7 +256,7 @@ fn part_mistake<'t>(tokens: &[Token<'t>], number: usize) -> Option<Told<'t>> {
     None
 }
 
-/// Returns the mistake of a token behind the end of a process.
+/// Returns the mistake of a token after the end of a process.
 fn behind_mistake<'t>(tokens: &[Token<'t>], number: usize) -> Option<Told<'t>> {
     if !is_at(tokens, number.checked_sub(1)?, Mark::End) {
         return None;

@@ -83,7 +83,7 @@ fn called<'t>(tokens: &[Token<'t>], number: usize) -> Option<Told<'t>> {
     Some(told.naming(word))
 }
 
-/// Returns whether the token with a number is a name at which a statement begins, and behind which no operator is.
+/// Returns whether the token with a number is a name at which a statement begins, and after which no operator is.
 pub fn is_head(tokens: &[Token], number: usize) -> bool {
     let behind = number.saturating_add(1);
     is_name(tokens, number)
@@ -128,7 +128,7 @@ fn word_at<'t>(tokens: &[Token<'t>], number: usize, open: Option<&Open>) -> Opti
     placed_word(tokens, number)
 }
 
-/// Returns what is told of the word `loop` behind the test of a while.
+/// Returns what is told of the word `loop` after the test of a while.
 fn loop_word<'t>(tokens: &[Token<'t>], number: usize, open: Option<&Open>) -> Option<Told<'t>> {
     let open = open?;
     let text = text_at(tokens, number);
@@ -178,7 +178,7 @@ fn placed_word<'t>(tokens: &[Token<'t>], number: usize) -> Option<Told<'t>> {
     }
 }
 
-/// Returns whether a token is a word that is behind the name with which a statement begins, and that means `:=`.
+/// Returns whether a token is a word that is after the name with which a statement begins, and that means `:=`.
 fn is_assigning(tokens: &[Token], number: usize) -> bool {
     let text = text_at(tokens, number);
     match number.checked_sub(1) {
@@ -191,7 +191,7 @@ fn is_assigning(tokens: &[Token], number: usize) -> bool {
     }
 }
 
-/// Returns what is told of a word that begins a statement and has a resource of the text behind it, maybe with its amount
+/// Returns what is told of a word that begins a statement and has a resource of the text after it, maybe with its amount
 /// and in parentheses.
 pub fn thing_word<'t>(tokens: &[Token<'t>], number: usize) -> Option<Told<'t>> {
     let behind = number.saturating_add(1);

@@ -45,7 +45,7 @@ fn ends_test(tokens: &[Token], number: usize) -> bool {
         )
 }
 
-/// Returns whether the name of a resource is here, behind `of`.
+/// Returns whether the name of a resource is here, after `of`.
 fn is_pair(tokens: &[Token], number: usize) -> bool {
     match number.checked_sub(1) {
         Some(before) => is_at(tokens, before, Mark::Of),

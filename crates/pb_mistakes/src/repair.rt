@@ -15,7 +15,7 @@ pub enum Repair<'t> {
         number: usize,
         /// What is written.
         word: &'t [u8],
-        /// What is written behind that and a blank; nothing if it is empty.
+        /// What is written after that and a blank; nothing if it is empty.
         rest: &'t [u8],
     },
     /// The name that is not declared becomes an integer of its process.

@@ -59,7 +59,7 @@ fn shared_integer<'t>() -> Told<'t> {
     )
 }
 
-/// Returns the mistake of a declaration that ends at a token, behind the name of its resource.
+/// Returns the mistake of a declaration that ends at a token, after the name of its resource.
 fn missing_capital<'t>(tokens: &[Token<'t>], number: usize) -> Told<'t> {
     if is_at(tokens, number, Mark::Comma) {
         return two_resources();

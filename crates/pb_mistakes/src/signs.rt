@@ -67,7 +67,7 @@ fn is_pair(tokens: &[Token], number: usize, first: Mark, second: Mark) -> bool {
     is_at(tokens, number, first) && is_at(tokens, next, second) && is_joined(tokens, next)
 }
 
-/// Returns the mistake of a number with letters just behind it.
+/// Returns the mistake of a number with letters just after it.
 fn number_mistake<'t>(tokens: &[Token<'t>], number: usize) -> Option<Told<'t>> {
     let before = number.checked_sub(1)?;
     if !is_number(tokens, before) || !is_name(tokens, number) || !is_joined(tokens, number) {
@@ -87,7 +87,7 @@ fn number_mistake<'t>(tokens: &[Token<'t>], number: usize) -> Option<Told<'t>> {
     Some(telling(summary, hint).with_words(digits, letters, b""))
 }
 
-/// Returns whether letters behind a number are its exponent in other languages.
+/// Returns whether letters after a number are its exponent in other languages.
 fn is_exponent(letters: &[u8]) -> bool {
     match letters.split_first() {
         Some((first, digits)) => {
@@ -133,7 +133,7 @@ fn plus_mistake<'t>(tokens: &[Token<'t>], number: usize) -> Option<Told<'t>> {
     .removing(number))
 }
 
-/// Returns the mistake of a sign behind another one.
+/// Returns the mistake of a sign after another one.
 fn two_signs<'t>(first: Mark, second: Mark) -> Option<Told<'t>> {
     match first {
         Mark::Equal => behind_equal(second),
@@ -143,7 +143,7 @@ fn two_signs<'t>(first: Mark, second: Mark) -> Option<Told<'t>> {
     }
 }
 
-/// Returns the mistake of a sign behind `=`.
+/// Returns the mistake of a sign after `=`.
 fn behind_equal<'t>(second: Mark) -> Option<Told<'t>> {
     match second {
         Mark::Less => usual("there is no `=<`", "at most is written a <= b"),
@@ -152,7 +152,7 @@ fn behind_equal<'t>(second: Mark) -> Option<Told<'t>> {
     }
 }
 
-/// Returns the mistake of a sign behind `<`.
+/// Returns the mistake of a sign after `<`.
 fn behind_less<'t>(second: Mark) -> Option<Told<'t>> {
     match second {
         Mark::Less => usual(
@@ -167,7 +167,7 @@ fn behind_less<'t>(second: Mark) -> Option<Told<'t>> {
     }
 }
 
-/// Returns the mistake of a sign behind `>`.
+/// Returns the mistake of a sign after `>`.
 fn behind_greater<'t>(second: Mark) -> Option<Told<'t>> {
     match second {
         Mark::Less => usual("there is no `><`", "not equal is written a <> b"),

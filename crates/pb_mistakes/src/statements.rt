@@ -91,7 +91,7 @@ pub fn named_mistake<'t>(
     None
 }
 
-/// Returns whether a name is wanted behind a token.
+/// Returns whether a name is wanted after a token.
 fn wants_name(tokens: &[Token], number: usize) -> bool {
     matches!(
         mark_at(tokens, number),
@@ -220,7 +220,7 @@ fn no_amount<'t>(tokens: &[Token<'t>], number: usize) -> Told<'t> {
     telling("a hold begins with an amount, a number", hint).naming(text_at(tokens, resource))
 }
 
-/// Returns the mistake of a hold whose amount and resource are in parentheses, with the first token behind `(`.
+/// Returns the mistake of a hold whose amount and resource are in parentheses, with the first token after `(`.
 fn hold_in_parentheses<'t>(tokens: &[Token<'t>], first: usize) -> Told<'t> {
     let second = first.saturating_add(1);
     let of = if is_at(tokens, second, Mark::Close) {

@@ -119,7 +119,7 @@ pub fn ends_list(tokens: &[Token], number: usize) -> bool {
     closes(tokens, number) || is_at(tokens, number, Mark::Else)
 }
 
-/// Returns whether a list of statements begins behind this token.
+/// Returns whether a list of statements begins after this token.
 pub fn begins_list(tokens: &[Token], number: usize) -> bool {
     matches!(
         mark_at(tokens, number),
@@ -223,7 +223,7 @@ pub fn is_resource(tokens: &[Token], name: &[u8]) -> bool {
     is_named(tokens, Mark::Resource, name)
 }
 
-/// Returns whether a name is just behind a reserved word somewhere.
+/// Returns whether a name is just after a reserved word somewhere.
 fn is_named(tokens: &[Token], word: Mark, name: &[u8]) -> bool {
     for i in 0..tokens.len() {
         if is_at(tokens, i, word) && text_at(tokens, i.saturating_add(1)) == name {
@@ -233,7 +233,7 @@ fn is_named(tokens: &[Token], word: Mark, name: &[u8]) -> bool {
     false
 }
 
-/// Returns whether this token is behind the word `integer` of a declaration that has not ended.
+/// Returns whether this token is after the word `integer` of a declaration that has not ended.
 pub fn is_declaration(tokens: &[Token], number: usize) -> bool {
     let mut is_in = false;
     for i in 0..number.min(tokens.len()) {

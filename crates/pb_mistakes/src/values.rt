@@ -1,4 +1,4 @@
-//! Mistakes in an expression, or just behind one.
+//! Mistakes in an expression, or just after one.
 
 use crate::open::Open;
 use crate::tokens::{
@@ -105,7 +105,7 @@ fn ends_value(tokens: &[Token], number: usize) -> bool {
         )
 }
 
-/// Returns the mistake of an `if` behind a value, as other languages choose between two.
+/// Returns the mistake of an `if` after a value, as other languages choose between two.
 fn choice_mistake<'t>(tokens: &[Token<'t>], number: usize) -> Option<Told<'t>> {
     let part = part_behind(tokens, number);
     if part == Some(Mark::Then) {
@@ -123,7 +123,7 @@ fn choice_mistake<'t>(tokens: &[Token<'t>], number: usize) -> Option<Told<'t>> {
     )
 }
 
-/// Returns the first word or symbol behind an `if` that ends its test.
+/// Returns the first word or symbol after an `if` that ends its test.
 fn part_behind(tokens: &[Token], number: usize) -> Option<Mark> {
     for i in number.saturating_add(1)..tokens.len() {
         let mark = mark_at(tokens, i);
@@ -134,7 +134,7 @@ fn part_behind(tokens: &[Token], number: usize) -> Option<Mark> {
     None
 }
 
-/// Returns the mistake of a name or a number behind a value, where an operator is wanted.
+/// Returns the mistake of a name or a number after a value, where an operator is wanted.
 fn operator_mistake<'t>(tokens: &[Token<'t>], number: usize) -> Option<Told<'t>> {
     let is_assigned = is_at(tokens, number.saturating_add(1), Mark::Assign);
     let is_word = is_name(tokens, number) && !is_assigned && !is_declaration(tokens, number);

@@ -237,7 +237,7 @@ impl<'t> Told<'t> {
         self.replacing_by_two(number, word, b"")
     }
 
-    /// Returns the same with the edit that writes a word in the place of the token with a number, and the other one behind
+    /// Returns the same with the edit that writes a word in the place of the token with a number, and the other one after
     /// that and a blank, if it is not empty.
     pub fn replacing_by_two(self, number: usize, word: &'t [u8], rest: &'t [u8]) -> Told<'t> {
         Told {
@@ -289,7 +289,7 @@ impl<'t> Told<'t> {
         }
     }
 
-    /// Returns a text with the words of the input in it, behind a beginning.
+    /// Returns a text with the words of the input in it, after a beginning.
     fn filled(&self, alloc: Global, begin: &str, text: &str) -> Result<String, AllocError> {
         let mut out = String::from_str(alloc, begin)?;
         let mut is_slot = false;
@@ -306,7 +306,7 @@ impl<'t> Told<'t> {
         Ok(out)
     }
 
-    /// Appends to `out` what a letter behind `@` stands for.
+    /// Appends to `out` what a letter after `@` stands for.
     fn put_slot(&self, out: &mut String, letter: char) -> Result<(), AllocError> {
         match letter {
             '1' => put_word(out, self.words[0]),

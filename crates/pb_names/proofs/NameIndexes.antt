@@ -115,7 +115,7 @@ pub record IsReached (names : List Name) (greatest : ℕ) (name : Name) (i : ℕ
   pub none : (k : ℕ) → k < i → slice_get names k ≢ Some name
   pub here : (other : Name) → slice_get names i ≡ Some other → slot greatest other ≡ slot greatest name
 
--- one name further, behind another name, as the index is read
+-- one name further, after another name, as the index is read
 pub reached_next : (names : List Name) (name other : Name) (firsts nexts : List ℕ) (greatest i to : ℕ)
     → slice_get names i ≡ Some other → other ≢ name → to ≡ get_or nexts i to → IsLinked names greatest 0 firsts nexts
     → IsReached names greatest name i → (i < to) × IsReached names greatest name to

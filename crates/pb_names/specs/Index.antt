@@ -23,7 +23,7 @@ pub record IsNext (names : List Name) (greatest s from to : ℕ) : Type 0 where
   pub none : (k : ℕ) (name : Name) → from ≤ k → k < to → slice_get names k ≡ Some name → slot greatest name ≢ s
   pub here : (name : Name) → slice_get names to ≡ Some name → slot greatest name ≡ s
 
--- the names from a number on: the first of each slot, and behind each name the next of its slot
+-- the names from a number on: the first of each slot, and after each name the next of its slot
 pub record IsLinked (names : List Name) (greatest from : ℕ) (firsts nexts : List ℕ) : Type 0 where
   pub slots : length firsts ≡ suc greatest
   pub links : length nexts ≡ length names

@@ -76,7 +76,7 @@ left_small text f h =
     let left = s.left in
     omega (arith, long, left, length-append s.done s.rest)
 
--- behind an object no line goes on
+-- after an object no line goes on
 after_all : (text : List ℕ) (o : Object) (rest : List ℕ) → object_at text ≡ Ok (o, rest) → IsOutOfRange text (length text - length rest) → ⊥
 after_all text o rest h out =
     let d = object_both.0.finds text o rest h in

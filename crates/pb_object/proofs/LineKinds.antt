@@ -44,7 +44,7 @@ beyond_range = Beyond
 
 -- ---- a keyword
 
--- behind the keyword something is beyond a range
+-- after the keyword something is beyond a range
 only_beyond : {A : Type 0} (b : Bool) (v : Verdict A) → cond b v Malformed ≡ Beyond → (b ≡ true) × (v ≡ Beyond)
 only_beyond true v e = (refl, e)
 only_beyond false v e = absurd cc

@@ -22,7 +22,7 @@ use Rattle.pb_object.specs.Reading.{says_number}
 use Rattle.pb_object.specs.Renumbered.{is_below, AreAlike, AllAlike, lends}
 use Rattle.pb_object.proofs.Verdicts.{mapped_read}
 
--- Words behind a keyword that are not malformed are those that some words that are read become by other numbers, and
+-- Words after a keyword that are not malformed are those that some words that are read become by other numbers, and
 -- such words are not malformed. Kept is known of words that are not malformed; Needed has to be known of words that are not to be.
 pub record IsKind {X : Type 0} (Kept Needed : List Word → Type 0) (form : List Word → Verdict X) : Type 0 where
   pub stands : (ws : List Word) → (form ws ≡ Malformed → ⊥) → (x : X) × (vs : List Word) × (form vs ≡ Read x) × AllAlike vs ws × Kept ws

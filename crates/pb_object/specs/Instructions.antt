@@ -61,7 +61,7 @@ abbrev pub line_number : Option ℕ → ℕ
 line_number None = 0
 line_number (Some n) = n
 
--- the words of a place: its instruction, in the second format behind the source line
+-- the words of a place: its instruction, in the second format after the source line
 abbrev pub place_words : Format → Option ℕ × Instr → List Word
 place_words One p = instr_words p.1
 place_words Two p = decimal (line_number p.0) ∷ instr_words p.1

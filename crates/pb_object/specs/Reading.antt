@@ -71,7 +71,7 @@ named_integers count names =
     (cond (nat_lt MAX_INTEGERS (length names)) verdict.Beyond (cond (are_new [] names) (verdict.Read names) verdict.Malformed))
     verdict.Malformed
 
--- `vars V`, in the second format with V names behind it
+-- `vars V`, in the second format with V names after it
 abbrev pub integers : Format → List Word → Verdict (List Word)
 integers One ws = mapped plain_names (counted (codes "vars") 0 MAX_INTEGERS ws)
 integers Two [] = verdict.Malformed

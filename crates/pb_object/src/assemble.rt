@@ -43,7 +43,7 @@ struct Processes {
 }
 
 impl Processes {
-    /// Adds a process behind the others.
+    /// Adds a process after the others.
     fn add(&mut self, row: ProcessRow) -> Result<(), NoMemory>
         ensures names { OnOk result (self.new.names.items ≡ self.old.names.items ++ row.name ∷ []) }
         ensures claims { OnOk result (self.new.claims.items ≡ self.old.claims.items ++ row.claims ∷ []) }

@@ -59,7 +59,7 @@ fn counted(key: &str, low: u64, high: u64, words: &[&[u8]]) -> Verdict<u64>
     }
 }
 
-/// Returns the number behind a keyword, and what follows the line.
+/// Returns the number after a keyword, and what follows the line.
 #[tactic(auto, unfolding(crate::specs::Lines::line_by))]
 pub(crate) fn counted_at<'t>(
     alloc: Global,

@@ -1,4 +1,4 @@
-//! The lines of places: an instruction, in the second format behind its source line.
+//! The lines of places: an instruction, in the second format after its source line.
 
 ghost use Rattle.std.specs.Prelude.{◌≡◌, ◌≢◌, ◌<◌, ◌≤◌, ◌+◌, ◌++◌, ◌∷◌, [], length, map, All, IfOk, OnOk};
 ghost use Rattle.pb_object.specs.Instructions as spec;

@@ -6,7 +6,7 @@ use Rattle.pb_options.specs.declared.code.Code.TheVariants.{O1, O2, V1}
 use Rattle.pb_options.specs.declared.code.Code.TheVariants.{V2, V3, V4, V5, V6, V7, V8, V9, K1, K2, H1, G1, G2, G3}
 use Rattle.pb_options.specs.declared.code.Code.TheVariants.{G4, B1, B2, B3, B4, B5, B6, B7, B8, B9, B10, B11, B12, B13, Input, Output}
 
--- the word behind `refused`
+-- the word after `refused`
 abbrev pub code_name : Code → List ℕ
 code_name L1 = codes "L1"
 code_name L2 = codes "L2"

@@ -5,7 +5,7 @@ ghost use Rattle.pb_options.specs.Codes.{code_name, IsCodeOf};
 use std::fmt;
 use std::str::FromStr;
 
-/// The code of a refusal: the word behind `refused` in the line of a refused input.
+/// The code of a refusal: the word after `refused` in the line of a refused input.
 // To add one: specs/Codes, proofs/CodeLemmas, pb_explain, the wording of messages; docs/CHANGING.md.
 #[derive(Clone, Copy, Debug, PartialEq, Eq)]
 pub enum Code {

@@ -153,7 +153,7 @@ pub struct OutcomesOptions {
     pub first_deadlock: bool,
     /// Whether outcomes with different prints are different ones, and are shown with them.
     pub prints: bool,
-    /// Whether it is said behind all else if some fair run never ends.
+    /// Whether it is said after all else if some fair run never ends.
     pub fair: bool,
     /// Whether the prints of every run are compared with lines that follow the text.
     pub expect: bool,

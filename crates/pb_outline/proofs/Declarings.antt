@@ -7,7 +7,7 @@ use Rattle.pb_outline.specs.Declares.{behind_token, declared_from, declared_here
 use Rattle.pb_outline.specs.declared.reading.Reading.{Reading}
 use Rattle.std.proofs.Common.{◌++◌}
 
--- the tokens from a number on declare what the first does, and what those behind it do
+-- the tokens from a number on declare what the first does, and what those after it do
 pub one_token_more : (before : Reading) (ts : List Given) (i : ℕ) (d : Given) → i < length ts
     → declared_from before (map token (drop i ts))
     ≡ declared_here before (token (get_or ts i d)) (token (get_or ts i d)).lexeme

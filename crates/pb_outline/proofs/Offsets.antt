@@ -14,7 +14,7 @@ pub ends_length : (text : List ℕ) → length (line_ends text) ≡ length text
 ends_length [] = refl
 ends_length (b ∷ bs) = ap suc (ends_length bs)
 
--- a byte with one behind it
+-- a byte with one after it
 pub ends_at : (text : List ℕ) (i : ℕ) → i < length text
     → ends_line (get_or text i 0) (get_or text (i + 1) 0) ≡ get_or (line_ends text) i false
 ends_at [] i lt = absurd (omega (arith, lt))
@@ -23,7 +23,7 @@ ends_at (b ∷ bs) (suc i) lt =
     let later : suc i + 1 ≡ suc (i + 1) = omega arith in
     ap (λ (k : ℕ). ends_line (get_or bs i 0) (get_or (b ∷ bs) k 0)) later ∙ ends_at bs i (omega (arith, lt))
 
--- nothing stands behind the last byte
+-- nothing stands after the last byte
 past : (text : List ℕ) (i : ℕ) → length text ≤ i → get_or text i 0 ≡ 0
 past [] i le = refl
 past (b ∷ bs) zero le = absurd (omega (arith, le))
@@ -36,7 +36,7 @@ ends_last text i lt le = ap (λ (next : ℕ). ends_line (get_or text i 0) next) 
 
 -- ---- positions
 
--- the position behind one more byte
+-- the position after one more byte
 pub position_more : (text : List ℕ) (i : ℕ) (here next : Position) → i < length text → here ≡ position_of text i
     → next ≡ behind here (get_or (line_ends text) i false) → next ≡ position_of text (i + 1)
 position_more text i here next within at is =
@@ -49,9 +49,9 @@ pub position_min : (text : List ℕ) (n : ℕ) → position_of text (min n (leng
 position_min text n =
     ap (λ (k : ℕ). position_of text (min n k)) (sym (ends_length text)) ∙ ap (fold behind beginning) (take_min n (line_ends text))
 
--- ---- the last offset that is not behind a position
+-- ---- the last offset that is not after a position
 
--- whether an offset is in the line of a position, and not behind it
+-- whether an offset is in the line of a position, and not after it
 abbrev pub reaches : (text : List ℕ) → Position → ℕ → Bool
 reaches text position at = is_up_to position (position_of text at)
 

@@ -1,5 +1,5 @@
--- What the tokens of a text declare, whether or not they are a program: the name behind `resource`, that behind `process`,
--- and the names of a list behind `integer`, which are of the process that was named last.
+-- What the tokens of a text declare, whether or not they are a program: the name after `resource`, that after `process`,
+-- and the names of a list after `integer`, which are of the process that was named last.
 use Rattle.std.specs.Prelude.{ℕ, zero, suc, ◌+◌, true, List, [], ◌∷◌, ◌++◌, Option, None, Some}
 use Rattle.pb_lexer.specs.declared.token.Mark.{Mark}
 use Rattle.pb_lexer.specs.declared.token.Mark.TheVariants as mark
@@ -15,12 +15,12 @@ use Rattle.pb_outline.specs.declared.place.Kind.TheVariants.{Resource, Process, 
 abbrev pub unread : Reading
 unread = record { coming = coming.Nothing; processes = 0 }
 
--- what a name declares behind a comma: one more integer of a list
+-- what a name declares after a comma: one more integer of a list
 abbrev pub behind_comma : Coming → Coming
 behind_comma coming.Integers = coming.Integers
 behind_comma _ = coming.Nothing
 
--- what a name declares behind a symbol or a reserved word
+-- what a name declares after a symbol or a reserved word
 abbrev pub behind_mark : Mark → Coming → Coming
 behind_mark mark.Resource _ = coming.Resource
 behind_mark mark.Process _ = coming.Process
@@ -28,13 +28,13 @@ behind_mark mark.Integer _ = coming.Integers
 behind_mark mark.Comma before = behind_comma before
 behind_mark _ _ = coming.Nothing
 
--- what is known behind a name, by what it declares
+-- what is known after a name, by what it declares
 abbrev pub behind_name : Coming → (processes : ℕ) → Reading
 behind_name coming.Process processes = record { coming = coming.Nothing; processes = processes + 1 }
 behind_name coming.Integers processes = record { coming = coming.Integers; processes = processes }
 behind_name _ processes = record { coming = coming.Nothing; processes = processes }
 
--- what is known behind a token
+-- what is known after a token
 abbrev pub behind_lexeme : Reading → Lexeme → Reading
 behind_lexeme before (Name name) = behind_name before.coming before.processes
 behind_lexeme before (Number n) = record { coming = coming.Nothing; processes = before.processes }
@@ -48,7 +48,7 @@ behind_token before token = behind_lexeme before token.lexeme
 abbrev pub declared_at : Kind → Token → List Place
 declared_at kind token = record { kind = kind; text = token.text; at = token.start; declares = true } ∷ []
 
--- what a name declares: an integer only behind the name of a process
+-- what a name declares: an integer only after the name of a process
 abbrev pub kind_named : Coming → (processes : ℕ) → Option Kind
 kind_named coming.Nothing _ = None
 kind_named coming.Resource _ = Some Resource

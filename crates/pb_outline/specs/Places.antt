@@ -92,6 +92,6 @@ is_same_name one other = same_kind one.kind other.kind && bytes_eq one.text othe
 abbrev pub declares_name : Place → Place → Bool
 declares_name one other = other.declares && is_same_name one other
 
--- the offset is in the name, or right behind it
+-- the offset is in the name, or right after it
 abbrev pub is_at : ℕ → Place → Bool
 is_at offset place = nat_le place.at offset && nat_le (offset - place.at) (length place.text)

@@ -8,7 +8,7 @@ use Rattle.pb_outline.specs.declared.position.Position.{Position}
 abbrev pub beginning : Position
 beginning = record { line = 0; character = 0 }
 
--- whether a byte ends its line: a line feed does, and a carriage return with no line feed behind it
+-- whether a byte ends its line: a line feed does, and a carriage return with no line feed after it
 abbrev pub ends_line : (byte next : ℕ) → Bool
 ends_line byte next = byte == 10 || (byte == 13 && not (next == 10))
 
@@ -17,17 +17,17 @@ abbrev pub line_ends : List ℕ → List Bool
 line_ends [] = []
 line_ends (b ∷ bs) = ends_line b (slice_index_or bs 0 0) ∷ line_ends bs
 
--- the position behind a byte, which ends its line or not
+-- the position after a byte, which ends its line or not
 abbrev pub behind : Position → Bool → Position
 behind position ends = cond ends
     (record { line = position.line + 1; character = 0 })
     (record { line = position.line; character = position.character + 1 })
 
--- the position of an offset: that behind all bytes before it, all bytes of the text if it is past the end
+-- the position of an offset: that after all bytes before it, all bytes of the text if it is past the end
 abbrev pub position_of : List ℕ → ℕ → Position
 position_of text at = fold behind beginning (take at (line_ends text))
 
--- whether a position is in the line of another one, and not behind that
+-- whether a position is in the line of another one, and not after that
 abbrev pub is_up_to : Position → Position → Bool
 is_up_to position here = here.line == position.line && not (nat_lt position.character here.character)
 

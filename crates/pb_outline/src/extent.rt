@@ -6,7 +6,7 @@ ghost use Rattle.pb_outline.specs.Extents as spec;
 
 use pb_lexer::{Kind, Mark, Token};
 
-/// A part of a text, by the offsets of its first byte and behind its last.
+/// A part of a text, by the offsets of its first byte and after its last.
 #[derive(Clone, Copy, Debug, PartialEq, Eq)]
 pub struct Extent {
     pub start: usize,

@@ -25,7 +25,7 @@ fn keep_same<'t>(
 }
 
 impl<'t> Outline<'t> {
-    /// Returns the name in which an offset is, or right behind which it is.
+    /// Returns the name in which an offset is, or right after which it is.
     pub fn place_at(&self, offset: usize) -> Option<Place<'t>>
         ensures { option_map spec.place result ≡ find (spec.is_at offset) (spec.places self.now) }
     {

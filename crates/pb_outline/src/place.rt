@@ -53,7 +53,7 @@ pub(crate) fn declares_name(one: &Place<'_>, other: &Place<'_>) -> bool
     other.declares && is_same_name(one, other)
 }
 
-/// Returns whether an offset is in the name, or right behind it.
+/// Returns whether an offset is in the name, or right after it.
 pub(crate) fn is_at(offset: usize, place: &Place<'_>) -> bool
     ensures { result ≡ spec.is_at offset (spec.place place.now) }
 {

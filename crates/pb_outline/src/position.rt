@@ -16,7 +16,7 @@ const BEGINNING: Position = Position {
     character: 0,
 };
 
-/// Returns whether a byte ends its line, with this one behind it.
+/// Returns whether a byte ends its line, with this one after it.
 fn ends_with(byte: u8, next: u8) -> bool
     ensures { result ≡ spec.ends_line byte next }
 {
@@ -36,7 +36,7 @@ fn ends_line(text: &[u8], i: usize) -> bool
     }
 }
 
-/// Returns the position behind a byte, which ends its line or not.
+/// Returns the position after a byte, which ends its line or not.
 fn behind(position: Position, ends: bool) -> Position
     requires line { position.line < 2 ^ 63 }
     requires character { position.character < 2 ^ 63 }
@@ -68,7 +68,7 @@ pub fn position_of(text: &[u8], offset: usize) -> Position
     position
 }
 
-/// Returns whether a position is in the line of another one, and not behind that.
+/// Returns whether a position is in the line of another one, and not after that.
 fn is_up_to(position: Position, here: Position) -> bool
     ensures { result ≡ spec.is_up_to position here }
 {

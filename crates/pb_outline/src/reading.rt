@@ -16,18 +16,18 @@ pub enum Coming {
     Nothing,
     Resource,
     Process,
-    /// An integer, and what comes behind a comma too.
+    /// An integer, and what comes after a comma too.
     Integers,
 }
 
-/// What is known behind some tokens: what the next name declares, and how many processes were named.
+/// What is known after some tokens: what the next name declares, and how many processes were named.
 #[derive(Clone, Copy, Debug)]
 pub struct Reading {
     pub coming: Coming,
     pub processes: usize,
 }
 
-/// Returns what the next name declares behind a symbol or a reserved word.
+/// Returns what the next name declares after a symbol or a reserved word.
 fn behind_mark(mark: Mark, before: Coming) -> Coming
     ensures { result ≡ spec.behind_mark mark before }
 {
@@ -43,7 +43,7 @@ fn behind_mark(mark: Mark, before: Coming) -> Coming
     }
 }
 
-/// Returns what is known behind a name.
+/// Returns what is known after a name.
 fn behind_name(before: Reading) -> Reading
     requires { before.processes < 18446744073709551615 }
     ensures { result ≡ spec.behind_name before.coming before.processes }
@@ -61,7 +61,7 @@ fn behind_name(before: Reading) -> Reading
     }
 }
 
-/// Returns what is known behind a token.
+/// Returns what is known after a token.
 fn behind_token(before: Reading, token: &Token<'_>) -> Reading
     requires { before.processes < 18446744073709551615 }
     ensures { result ≡ spec.behind_token before (token_view token.now) }

@@ -16,7 +16,7 @@ parts_next {X = X} part n old mid new before more =
     ∙ (append_assoc old (parts_below part n) (part n)
     ∙ ap (λ k. old ++ parts_below part k) next))
 
--- a list with a part for each number has one more behind a further part
+-- a list with a part for each number has one more after a further part
 pub one_part_more : {X : Type 0} (IsPart : ℕ → List X → Type 0) (n : ℕ) (all last : List X) → ArePartsBelow IsPart n all → IsPart n last
     → ArePartsBelow IsPart (n + 1) (all ++ last)
 one_part_more {X = X} IsPart n all last are is =
@@ -43,7 +43,7 @@ pub if_ok : {A E : Type 0} (r : Result A E) (P Q : A → Type 0) → IfOk r P �
 if_ok (Ok x) P Q h f = f x h
 if_ok (Err e) P Q h f = tt
 
--- four parts that are put one behind another
+-- four parts that are put one after another
 pub four_parts : (o a b r e one two three four : List ℕ) → o ≡ [] → one ≡ o ++ a → two ≡ one ++ b → three ≡ two ++ r
     → four ≡ three ++ e → four ≡ a ++ (b ++ (r ++ e))
 four_parts o a b r e one two three four none first second third fourth =

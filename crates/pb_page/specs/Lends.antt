@@ -8,6 +8,6 @@ abbrev pub lend_text : Lending → List ℕ
 lend_text ByBanker = codes "banker"
 lend_text ByCash = codes "cash"
 
--- who lends, behind a comma
+-- who lends, after a comma
 abbrev pub lend_part : Lending → List ℕ
 lend_part lending = codes ",\"lend\":\"" ++ (lend_text lending ++ codes "\"")

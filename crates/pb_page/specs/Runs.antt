@@ -25,7 +25,7 @@ first_of picks from = min from (length picks)
 abbrev pub rows_of : List Pick → (from most : ℕ) → ℕ
 rows_of picks from most = min most (length picks - first_of picks from)
 
--- what is behind the last row, at position `last`: further picks; or how the run has ended, by its word
+-- what is after the last row, at position `last`: further picks; or how the run has ended, by its word
 pub data IsEnd (picks : List Pick) (ending : List ℕ) (last : ℕ) : List ℕ → Type 0 where
   cut : last < length picks → IsEnd picks ending last (codes "more")
   whole : last ≡ length picks → IsEnd picks ending last ending
@@ -48,7 +48,7 @@ head_text source object lending picks from =
 abbrev pub start_text : List (List ℕ) → List ℕ
 start_text start = codes ",\"start\":" ++ (state_text start ++ codes ",\"rows\":[")
 
--- and what is behind the last row
+-- and what is after the last row
 abbrev pub end_text : List ℕ → List ℕ
 end_text end = codes "],\"end\":\"" ++ (end ++ codes "\"}\n")
 
@@ -59,7 +59,7 @@ document_text source object lending picks from start rows end =
 
 -- the document of the run that picks make under this lending, which has ended by this word: its text and its object;
 -- who lends; how many picks there are; the state at the first position that is shown, and a row for each pick from
--- there on, at most so many; and what is behind the last row
+-- there on, at most so many; and what is after the last row
 pub record IsRunDocument (lending : Lending) (code : Code) (picks : List Pick) (source object : List ℕ) (from most : ℕ) (ending : List ℕ)
     (document : List ℕ) : Type 0 where
   pub start : List (List ℕ)

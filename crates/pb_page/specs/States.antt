@@ -47,7 +47,7 @@ place_text false Ended = codes "-2"
 abbrev pub operands_text : Thread → List ℕ
 operands_text t = integers_text (reverse (operands_of_thread t))
 
--- processes, each behind a comma
+-- processes, each after a comma
 abbrev pub numbers_text : List ℕ → List ℕ
 numbers_text ps = each_below (λ k. codes "," ++ decimal (slice_index ps k)) (length ps)
 

@@ -90,7 +90,7 @@ pub(crate) fn add_operands(
     Ok(())
 }
 
-/// Appends processes, each behind a comma.
+/// Appends processes, each after a comma.
 fn put_numbers(out: &mut Vec<u8>, numbers: &[u8]) -> Result<(), NoMemory>
     ensures { OnOk result (out.new.items ≡ out.old.items ++ spec.numbers_text numbers.now) }
 {

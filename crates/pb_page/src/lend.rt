@@ -16,7 +16,7 @@ fn lend_word(lending: Lending) -> &'static [u8]
     }
 }
 
-/// Appends who lends, behind a comma.
+/// Appends who lends, after a comma.
 pub fn put_lend(out: &mut Vec<u8>, lending: Lending) -> Result<(), NoMemory>
     ensures { OnOk result (out.new.items ≡ out.old.items ++ lend_part lending) }
 {

@@ -53,7 +53,7 @@ pub fn put_state(out: &mut Vec<u8>, entries: &[Vec<u8>]) -> Result<(), NoMemory>
     put(out, b"]")
 }
 
-/// Appends a text behind words.
+/// Appends a text after words.
 fn put_text(out: &mut Vec<u8>, words: &[u8], text: &[u8]) -> Result<(), NoMemory>
     ensures { OnOk result (out.new.items ≡ out.old.items ++ (words.now ++ string_text text.now)) }
 {
@@ -88,7 +88,7 @@ fn put_start(out: &mut Vec<u8>, state: &[Vec<u8>]) -> Result<(), NoMemory>
     put(out, b",\"rows\":[")
 }
 
-/// Appends what is behind the last row.
+/// Appends what is after the last row.
 fn put_end(out: &mut Vec<u8>, end: &[u8]) -> Result<(), NoMemory>
     ensures { OnOk result (out.new.items ≡ out.old.items ++ spec.end_text end.now) }
 {
@@ -145,7 +145,7 @@ fn put_rows(
     Ok(())
 }
 
-/// Returns what is behind the last row, which is at position `last`: `ending`, if no pick is behind it.
+/// Returns what is after the last row, which is at position `last`: `ending`, if no pick is after it.
 fn end_word<'a>(trace: &Trace, last: u32, ending: &'a [u8]) -> &'a [u8]
     requires { last ≤ length (picks_of trace.now.entries) }
     ensures { IsEnd (picks_of trace.now.entries) ending.now last result.now }

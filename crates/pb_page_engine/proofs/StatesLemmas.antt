@@ -62,7 +62,7 @@ no_code_told lending shown bytes source lines (Ok r) old new given short cut obj
 no_code_told lending shown bytes source lines (Err e) old new given short cut object is says memory =
     (memory_line, Memory, not_read input.no_memory, memory)
 
--- code that the first part gives, and what is said of the lines behind it
+-- code that the first part gives, and what is said of the lines after it
 pub lines_told : (lending : Lending) (shown : Shown) (bytes source lines : List ℕ) (code : Code) (labels : List ProcessLabels) (text : Option (List ℕ))
     (old new : Option (List ℕ)) (answered : Status) → length bytes ≤ 4194304 → AreTwoParts bytes source lines → GivesCode source code labels text
     → Tells (SaysOfStatesLines lending shown (text_shown text) code labels lines) old new answered

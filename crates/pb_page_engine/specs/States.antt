@@ -28,7 +28,7 @@ pub record IsDocument (lending : Lending) (shown : Shown) (source : List ℕ) (c
   pub written : IsRunDocument lending code (picks_of entries) source object shown.from shown.rows (last_line ending) document
   pub told : IsEndStatus end ending status
 
--- what is said of the lines behind what gave this code: their picks are refused under this lending; or all
+-- what is said of the lines after what gave this code: their picks are refused under this lending; or all
 -- are made, and the document of their run is written
 pub data SaysOfStatesLines (lending : Lending) (shown : Shown) (source : List ℕ) (code : Code) (labels : List ProcessLabels) (lines : List ℕ)
     : List ℕ → Status → Type 0 where
@@ -44,7 +44,7 @@ abbrev pub text_shown : Option (List ℕ) → List ℕ
 text_shown (Some text) = text
 text_shown None = []
 
--- what is said of an input, which is a text or an object and pick lines behind it: the first part gives no code; or
+-- what is said of an input, which is a text or an object and pick lines after it: the first part gives no code; or
 -- it gives some
 pub data SaysOfStates (lending : Lending) (shown : Shown) (bytes : List ℕ) : List ℕ → Status → Type 0 where
   no_source : (source lines : List ℕ) → AreTwoParts bytes source lines

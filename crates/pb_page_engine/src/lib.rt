@@ -1,4 +1,4 @@
-//! The engines behind the data of a page in a browser: the states of a run, and all schedules of a text.
+//! The engines after the data of a page in a browser: the states of a run, and all schedules of a text.
 #![tactic(auto)]
 
 mod object;

@@ -27,7 +27,7 @@ use pb_sources::is_object;
 use pb_verifier::Verified;
 use std::alloc::Global;
 
-/// Makes the picks that the pick lines behind the text or the object of the input say, from its start, under whoever
+/// Makes the picks that the pick lines after the text or the object of the input say, from its start, under whoever
 /// decides on requests, and writes a document of that run: a line of JSON with the text, its object, the state at the
 /// first position that is shown, and a row for each pick from there on. A line `%%` separates the text from the pick
 /// lines. If the text, a line or a pick is refused, only the refusal line is written, as by `replay`.

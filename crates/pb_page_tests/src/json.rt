@@ -4,7 +4,7 @@ use pb_base::NoMemory;
 use pb_json::{put_integer, put_integers, put_string};
 use std::alloc::Global;
 
-/// Returns some strings, integers and lists, one behind another.
+/// Returns some strings, integers and lists, one after another.
 fn written(alloc: Global) -> Result<Vec<u8>, NoMemory> {
     let mut out = Vec::new(alloc);
     put_string(&mut out, b"")?;

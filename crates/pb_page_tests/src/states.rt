@@ -37,7 +37,7 @@ const PART: Case = Case {
     status: Status::Done,
 };
 
-/// A run that stops early, from behind its end.
+/// A run that stops early, from after its end.
 const OPEN: Case = Case {
     input: b"resource tape = 1;\nresource disk = 1;\nprocess a begin hold 1 of tape do hold 1 of disk do print 1 od od end\nprocess b begin hold 1 of disk do hold 1 of tape do print 2 od od end\n%%\na.0 6\n",
     lending: Lending::ByBanker,

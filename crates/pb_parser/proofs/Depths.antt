@@ -20,7 +20,7 @@ use Rattle.pb_grammar.proofs.Expressions.{brackets, home, home_is, rank_pos}
 use Rattle.pb_grammar.proofs.StatementLaws.{stmt_depth, list_depth, arms_depth}
 use Rattle.pb_grammar.proofs.ProgramLaws.{process_depth, processes_depth, program_depth}
 
--- at most 256 are open behind each of the tokens, if n are open before them
+-- at most 256 are open after each of the tokens, if n are open before them
 abbrev pub Shallow : ℕ → List Token → Type 0
 Shallow n [] = Unit {0}
 Shallow n (t ∷ ts) = (open_after n t.lexeme ≤ 256) × Shallow (open_after n t.lexeme) ts

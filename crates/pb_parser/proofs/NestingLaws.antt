@@ -90,7 +90,7 @@ row-later : (t : Token) (ts before signs after : List Token) → t ∷ ts ≡ be
 row-later t ts [] signs after e all many = inl (sign-later 0 t ts signs after (omega arith) e all (omega arith))
 row-later t ts (b ∷ bs) signs after e all many = inr (bs, signs, after, cc, all, many)
 
--- the count of signs behind a token
+-- the count of signs after a token
 abbrev pub Counts : ℕ → ℕ → Token → Type 0
 Counts n now t = MatchBool (is_sign t.lexeme) (now ≡ n + 1) (now ≡ 0)
 

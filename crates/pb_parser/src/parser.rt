@@ -21,7 +21,7 @@ use std::alloc::Allocator;
 ///
 /// Tokens that nest too deep are refused before the grammar is looked at, and a program over a limit after:
 /// first its height, then its nodes. All this takes no memory: the tree is made of a program that is within
-/// the limits, and of no other. An error leaves nothing behind.
+/// the limits, and of no other. An error leaves nothing after.
 pub fn parse<A: Allocator + Clone>(alloc: A, tokens: &[Token<'_>]) -> Result<Program<A>, ParseFault>
     ensures found { IfOk result (λ p. ReadsProgram (spec_tokens.tokens tokens.now) (program_view p)) }
     ensures limits { IfOk result (λ p. IsSmallTree (program_view p)) }

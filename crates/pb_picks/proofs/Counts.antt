@@ -28,7 +28,7 @@ apart_grown [] c d same some h = some
 apart_grown (x ∷ []) c d same some h = (h.0, λ e. h.1 (e ∙ same), some)
 apart_grown (x ∷ (y ∷ xs)) c d same some h = (h.0, h.1, apart_grown (y ∷ xs) c d same some h.2)
 
--- a count of another arm behind the last
+-- a count of another arm after the last
 pub apart_more : (xs : List CountedPick) (c d : CountedPick) → c.pick ≢ d.pick → 0 < d.count → AreApart (xs ++ c ∷ []) → AreApart ((xs ++ c ∷ []) ++ d ∷ [])
 apart_more [] c d other some h = (h, other, some)
 apart_more (x ∷ []) c d other some h = (h.0, h.1, (h.2, other, some))

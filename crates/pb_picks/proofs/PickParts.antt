@@ -26,7 +26,7 @@ pub behind_is : (line name rest : List ℕ) (r : Option (Bor (List ℕ))) → li
 behind_is line name rest None e h = λ after f. h after (append_cancel_left name rest (46 ∷ after) (sym e ∙ f))
 behind_is line name rest (Some x) e h = e ∙ ap (λ (t : List ℕ). name ++ t) h
 
--- what is before and behind the first such byte is one thing
+-- what is before and after the first such byte is one thing
 pub same_parts : (m : ℕ) (a b x y : List ℕ) → Lacks m a → Lacks m x → a ++ (m ∷ b) ≡ x ++ (m ∷ y) → (a ≡ x) × (b ≡ y)
 same_parts m [] b [] y la lx e = (refl, cc)
 same_parts m [] b (d ∷ x) y la lx e = let h : m ≡ d = cc in absurd (All-head (λ (n : ℕ). n ≢ m) d x lx (sym h))

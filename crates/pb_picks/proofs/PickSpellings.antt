@@ -93,7 +93,7 @@ lines_spell code picks limits all few = record {
   few = few;
 }
 
--- one more line, behind the others
+-- one more line, after the others
 pub one_line_written : (names : List (List ℕ)) (picks : List CountedPick) (c : CountedPick)
     → pick_lines names (picks ++ c ∷ []) ≡ pick_lines names picks ++ (pick_line names c ++ (10 ∷ []))
 one_line_written names [] c = refl
@@ -153,7 +153,7 @@ same_says code line c d limits s t =
     (decimal_injective c.pick.arm d.pick.arm (omega (arith, few_c)) (omega (arith, few_d)) numbers.0)
     (decimal_injective c.count d.count (omega (arith, most_c)) (omega (arith, most_d)) numbers.1)
 
--- the first line of a text says one pick, and one rest is behind it
+-- the first line of a text says one pick, and one rest is after it
 same_line : (code : Code) (text a x b y : List ℕ) (c d : CountedPick) → KeepsLimits code → IsFirstLine text a x → SpellsPick code a c
     → IsFirstLine text b y → SpellsPick code b d → (c ≡ d) × (x ≡ y)
 same_line code text a x b y c d limits first s second t =

@@ -24,7 +24,7 @@ pub fn write_picks(text: &mut Vec<u8>, names: &Names, picks: &[CountedPick]) -> 
     written
 }
 
-/// Appends the lines of these picks to a text. Out of memory leaves a first part of them behind it.
+/// Appends the lines of these picks to a text. Out of memory leaves a first part of them after it.
 fn put_picks(text: &mut Vec<u8>, names: &Names, picks: &[CountedPick]) -> Result<(), NoMemory>
     requires { All (λ c. HasProcess (names_view names.now) c.pick.process) picks.now }
     ensures ok { OnOk result
@@ -37,7 +37,7 @@ fn put_picks(text: &mut Vec<u8>, names: &Names, picks: &[CountedPick]) -> Result
     Ok(())
 }
 
-/// Appends the line of a pick to a text. Out of memory leaves a first part of it behind it.
+/// Appends the line of a pick to a text. Out of memory leaves a first part of it after it.
 fn put_pick(text: &mut Vec<u8>, names: &Names, counted: CountedPick) -> Result<(), NoMemory>
     requires { HasProcess (names_view names.now) counted.pick.process }
     ensures ok { OnOk result

@@ -63,7 +63,7 @@ place_in (x ∷ order) (suc k) d u = ⊎_elim
     omega (arith, e, rest))
     (bool_cases (eqb x (get_or order k d)))
 
--- behind one more resource at the end
+-- after one more resource at the end
 record IsPushed (order : List ℕ) (r x : ℕ) : Type 0 where
   old : place order x < length order → place (order ++ r ∷ []) x ≡ place order x
   own : length order ≤ place order x → x ≡ r → place (order ++ r ∷ []) x ≡ length order

@@ -157,7 +157,7 @@ says_refused reply lending changes bytes texts it text refusal several cut (inr 
     (sym (is ∙ ap (λ (b : Bool). text_words b (it.index + 1) ++ refusal) same))
     (refused texts it.index it.fault refusal cut first has)) said
 
--- a text with the lines of a circle behind it
+-- a text with the lines of a circle after it
 pub closed_plan : (result : Result (Vec ℕ Global) NoMemory) (Is : List ℕ → Type 0) (Closed : List Edge → Type 0)
     (Makes : List ℕ → List Edge → Type 0) → IfOk result (λ whole. (circle : List Edge) × Closed circle × Makes whole.items circle)
     → ((circle : List Edge) (whole : List ℕ) → Closed circle → Makes whole circle → Is whole)

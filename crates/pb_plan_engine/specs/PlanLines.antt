@@ -38,7 +38,7 @@ use Rattle.pb_command_io.specs.declared.status.Status.TheVariants.{Deadlock, Don
 abbrev pub resource_name : List Name → ℕ → Name
 resource_name names r = slice_index_or names r []
 
--- the source line of each part, behind a blank
+-- the source line of each part, after a blank
 abbrev pub numbers_text : List Part → List ℕ
 numbers_text parts = flat_map (λ part. codes " " ++ decimal part.line) parts
 
@@ -88,7 +88,7 @@ abbrev pub order_line : List Name → Option (List ℕ) → List ℕ
 order_line resources None = line (codes "no order")
 order_line resources (Some order) = line (codes "order" ++ flat_map (λ r. codes " " ++ resource_name resources r) order)
 
--- behind a word, a resource and the line of a hold that asks for it
+-- after a word, a resource and the line of a hold that asks for it
 abbrev pub hold_text : (word : List ℕ) → Name → (line : ℕ) → List ℕ
 hold_text word resource at = word ++ resource ++ codes " line " ++ decimal at
 
@@ -167,7 +167,7 @@ pub record IsOfTree (program : Program) (claims : Table) : Type 0 where
   pub numbered : Resolves tree program
   pub claimed : AreClaims program claims
 
--- this text is the plan of the program with these claims, whose processes are called so: behind `no order` come the
+-- this text is the plan of the program with these claims, whose processes are called so: after `no order` come the
 -- lines of a circle of scarce resources
 pub record IsPlan (processes : List Name) (program : Program) (claims : Table) (said : List ℕ) : Type 0 where
   pub found : Option ℕ

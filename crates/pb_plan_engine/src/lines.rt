@@ -23,7 +23,7 @@ fn name_of<A: Allocator>(resources: &[Resource<A>], r: usize) -> &[u8]
     &resources[r].name
 }
 
-/// Appends the source line of each part to a text, behind a blank.
+/// Appends the source line of each part to a text, after a blank.
 fn put_numbers(text: &mut Vec<u8>, parts: &[Part]) -> Result<(), NoMemory>
     ensures { OnOk result (text.new.items ≡ text.old.items ++ numbers_text parts.now) }
 {
@@ -140,7 +140,7 @@ pub(crate) fn put_last<A: Allocator>(
     put(text, b"\n")
 }
 
-/// Appends the names of the resources of an order to a text, each behind a blank.
+/// Appends the names of the resources of an order to a text, each after a blank.
 fn put_names<A: Allocator>(
     text: &mut Vec<u8>,
     resources: &[Resource<A>],
@@ -182,7 +182,7 @@ pub(crate) fn process_name(processes: &[Vec<u8>], p: usize) -> &[u8]
     &processes[p]
 }
 
-/// Appends the name of a resource and the line of a hold that asks for it to a text, behind a word.
+/// Appends the name of a resource and the line of a hold that asks for it to a text, after a word.
 fn put_hold(text: &mut Vec<u8>, word: &[u8], resource: &[u8], line: u32) -> Result<(), NoMemory>
     ensures { OnOk result (text.new.items ≡ text.old.items ++ hold_text word.now resource.now line) }
 {

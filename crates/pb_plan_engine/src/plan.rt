@@ -87,7 +87,7 @@ fn status<A: Allocator>(
     }
 }
 
-/// Returns a text with the lines of a circle behind it, of a program that follows no order of these resources.
+/// Returns a text with the lines of a circle after it, of a program that follows no order of these resources.
 fn with_circle<A: Allocator>(
     alloc: Global,
     text: Vec<u8>,

@@ -15,7 +15,7 @@ use pb_joint::TextFault;
 use pb_names::{Kind, NameFault};
 use std::alloc::Global;
 
-/// Returns the line of the fault of a text: behind its number, if there are several.
+/// Returns the line of the fault of a text: after its number, if there are several.
 pub(crate) fn refusal_text(
     alloc: Global,
     several: bool,
@@ -66,7 +66,7 @@ fn fault_text(alloc: Global, fault: &CompileFault) -> Result<Vec<u8>, NoMemory>
     Ok(line)
 }
 
-/// Returns the line of the cause of a fault, without words behind it.
+/// Returns the line of the cause of a fault, without words after it.
 fn plain_text(alloc: Global, fault: &CompileFault) -> Result<Vec<u8>, NoMemory>
     ensures { IfOk result (λ line. option_map cause_line (causes.text_cause fault.now) ≡ Some line.items) }
 {
@@ -76,7 +76,7 @@ fn plain_text(alloc: Global, fault: &CompileFault) -> Result<Vec<u8>, NoMemory>
     }
 }
 
-/// Returns the words behind the code of a fault of names: of what there are too many, if that is the fault.
+/// Returns the words after the code of a fault of names: of what there are too many, if that is the fault.
 fn limit_words(fault: NameFault) -> &'static [u8]
     ensures { result.now ≡ words_of_limit fault }
 {

@@ -202,7 +202,7 @@ counts_go_on picks (pick ∷ rest) apart =
       omega (arith, first, longer),
     )
 
--- the picks behind those of the first spans
+-- the picks after those of the first spans
 picks_behind : (n : ℕ) (spans : List Span) → (rest : List Pick) × (all_picks (take n spans) ++ rest ≡ all_picks spans)
 picks_behind zero spans = (all_picks spans, refl)
 picks_behind (suc n) [] = ([], refl)

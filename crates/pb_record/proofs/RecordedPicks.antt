@@ -131,7 +131,7 @@ some_silent lending code before after next pick made same step =
     let moves : StepsSome lending code before (Silent pick made) after = subst (λ (n : Next). StepsSome lending code before n after) same step in
     moves.0
 
--- the picks of a run behind which none is enabled
+-- the picks of a run after which none is enabled
 pub stopped_is_recorded : (lending : Lending) (code : Code) (steps left : ℕ) (seed : Option ℕ) (picks : List CountedPick) (before after : State CodeProcess)
     (next : Next) → next ≡ NotEnabled → StepsSome lending code before next after → LeadTo lending code picks before
     → length (spread picks) + left ≡ steps → AreApart picks → IfSome seed (λ number. IsDrawnRun lending code number (spread picks))
@@ -164,7 +164,7 @@ module _ (lending : Lending) (code : Code) (faultless : IsFaultless code) where
         ]
   ]
 
-  -- behind some picks of one arm the others are made
+  -- after some picks of one arm the others are made
   abbrev Behind : List Pick → State CodeProcess → Type 0
   Behind picks end =
       (mid : State CodeProcess) × (events : List Event) × CodeReachesBy lending code mid

@@ -112,7 +112,7 @@ fn find_candidates(
     Ok(())
 }
 
-/// Adds the candidates of a process behind those of the processes before it.
+/// Adds the candidates of a process after those of the processes before it.
 fn push_candidates(
     machine: &Machine,
     verified: &Verified,

@@ -19,7 +19,7 @@ pub enum Next {
     NotEnabled,
 }
 
-/// Makes a pick, and if that shows nothing, those behind it of the same arm that show nothing either, at most
+/// Makes a pick, and if that shows nothing, those after it of the same arm that show nothing either, at most
 /// `max` in all.
 pub fn step_arm(machine: &mut Machine, verified: &Verified, pick: Pick, max: u32) -> Next
     requires machine { IsMachine verified.now machine.old }

@@ -1,4 +1,4 @@
-//! A book behind a lock: what is committed is made, and whoever finds nothing to do waits.
+//! A book after a lock: what is committed is made, and whoever finds nothing to do waits.
 
 ghost use Rattle.std.specs.Prelude.{◌≡◌};
 
@@ -12,7 +12,7 @@ use std::sync::atomic::{AtomicBool, Ordering};
 use std::thread;
 use std::thread::Threads;
 
-/// Returns a book of this code behind a lock.
+/// Returns a book of this code after a lock.
 fn share<C: CodeBrand>(alloc: Global, code: &Verified) -> Option<Shared<'_, C>>
     requires { code.now ≡ C.code }
 {

@@ -248,7 +248,7 @@ module _ (fair : Bool) (lending : Lending) (any_order : Bool) (requirements : Li
       met (subst (λ (c : Code). AreMet c requirements) same (subst (λ (l : List Requirement). AreMet seen l) is all)) text status
       (subst (λ (ps : List Print). SaysOfRuns fair lending any_order ps code labels states text status) same_prints says)
 
--- a refused text, behind which there are lines
+-- a refused text, after which there are lines
 pub text_refused : (fair : Bool) (lend : Lend) (any_order : Bool) (states : ℕ) (bytes text lines : List ℕ) (old new : Option (List ℕ)) (given : Status)
     → length bytes ≤ 4194304 → length text ≤ 4194304 → AreTwoParts bytes text lines → Tells (SaysOfInput SaysOfRefusedText text) old new given
     → Tells (SaysOfInput (SaysOfExpected fair lend any_order states) bytes) old new given

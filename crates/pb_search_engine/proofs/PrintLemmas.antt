@@ -60,7 +60,7 @@ arm_whole text arm_text rest more last arm value point parts is word same =
     ∙ (ap (λ (t : List ℕ). decimal arm ++ t) (word ∙ ap (λ (t : List ℕ). codes " print " ++ t) same)
     ∙ sym (append_assoc (decimal arm) (codes " print ") (signed_decimal value)))))
 
--- the value behind the word is that of the whole
+-- the value after the word is that of the whole
 pub value_told : (text arm_text rest more last : List ℕ) (arm : ℕ) (r : Option ℤ) → text ≡ 46 ∷ rest → rest ≡ arm_text ++ more
     → arm_text ≡ decimal arm → more ≡ codes " print " ++ last
     → MatchOption r ((value : ℤ) → IsSigned value → last ≡ signed_decimal value → ⊥) (λ value. IsSigned value × (last ≡ signed_decimal value))
@@ -70,7 +70,7 @@ value_told text arm_text rest more last arm None point parts is word told = λ v
 value_told text arm_text rest more last arm (Some value) point parts is word told =
     (told.0, arm_whole text arm_text rest more last arm value point parts is word told.1)
 
--- and the arm and the value behind the name of a process
+-- and the arm and the value after the name of a process
 pub process_told : (line name rest : List ℕ) (arms : ℕ) (r : Option (ℕ × ℤ)) → line ≡ name ++ rest
     → MatchOption r ((arm : ℕ) (value : ℤ) → arm < arms → IsSigned value → rest ≡ arm_print_text arm value → ⊥)
     (λ x. (x.0 < arms) × IsSigned x.1 × (rest ≡ arm_print_text x.0 x.1))

@@ -84,10 +84,10 @@ module _ (lending : Lending) (program : Program) (claims : Table) (numbered : Al
             subst (λ e. IsGranted bank ss.loans pick.process e) by_is (subst (λ l. IsGranted bank l pick.process effect) h.loans leave) in
             (ss', (by, s, leave'))
 
-  -- ---- the run of the code: behind each pick of the source all those that it does not see
+  -- ---- the run of the code: after each pick of the source all those that it does not see
 
   module _ (run : HasFairRunOfProgram lending program claims) where
-    -- where the code is: these picks, which the source does not see, lead to where the source is behind so many of its own
+    -- where the code is: these picks, which the source does not see, lead to where the source is after so many of its own
     record Position : Type 0 where
       pub index : ℕ
       pub state : State CodeProcess
@@ -97,7 +97,7 @@ module _ (lending : Lending) (program : Program) (claims : Table) (numbered : Al
       pub alike : StatesAlike program.processes end (run.at index)
       pub none : (pick : Pick) → is_skipped (generated program.processes) end pick ≡ false
 
-    -- behind a pick of the source
+    -- after a pick of the source
     abbrev behind : (index : ℕ) (state : State CodeProcess) → StatesAlike program.processes state (run.at index) → Position
     behind index state alike = record {
       index = index;
@@ -148,7 +148,7 @@ module _ (lending : Lending) (program : Program) (claims : Table) (numbered : Al
     position zero = first
     position (suc k) = (step (position k)).next
 
-    -- a later position at which nothing is left, behind so many picks of the source
+    -- a later position at which nothing is left, after so many picks of the source
     record Settled (k index : ℕ) : Type 0 where
       pub at : ℕ
       pub later : k ≤ at

@@ -60,7 +60,7 @@ module _ (part : Part) where
       list_any-append (is_of part) (expr_code a) (expr_code b ++ (Compute2 op ∷ []))
       ∙ or_both (list_any (is_of part) (expr_code a)) (list_any (is_of part) (expr_code b ++ (Compute2 op ∷ []))) false false (in_expr a) right
 
-  -- behind an expression
+  -- after an expression
   behind : (e : Expr) (is : List Instr) → list_any (is_of part) (expr_code e ++ is) ≡ list_any (is_of part) is
   behind e is =
       list_any-append (is_of part) (expr_code e) is

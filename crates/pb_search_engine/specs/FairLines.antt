@@ -1,4 +1,4 @@
--- What `outcomes --fair` says of fair runs, behind all else.
+-- What `outcomes --fair` says of fair runs, after all else.
 use Rattle.std.specs.Prelude.{ℕ, List, ◌++◌, codes}
 use Rattle.std.specs.Fmt.{decimal}
 use Rattle.pb_base.specs.Lines.{line}

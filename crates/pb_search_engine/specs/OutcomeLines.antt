@@ -26,7 +26,7 @@ integer_names labels p = (slice_index_or labels p (record { lines = []; integers
 abbrev pub outcome_at : List ProcessOutcome → ℕ → ProcessOutcome
 outcome_at outcome p = slice_index_or outcome p (record { integers = []; faulted = false })
 
--- how a process ended, behind its name
+-- how a process ended, after its name
 abbrev pub end_text : Bool → List ℕ
 end_text true = codes " faulted"
 end_text false = codes " ended"
@@ -50,7 +50,7 @@ abbrev pub end_lines : List (List ℕ) → List ProcessLabels → List ProcessOu
 end_lines names labels outcome =
     each_below (λ p. outcome_lines_of (name_of names p) (integer_names labels p) (outcome_at outcome p)) (length outcome)
 
--- `.a print V`: the print of an arm, behind the name of its process
+-- `.a print V`: the print of an arm, after the name of its process
 abbrev pub arm_print_text : (arm : ℕ) → (value : ℤ) → List ℕ
 arm_print_text arm value = codes "." ++ decimal arm ++ codes " print " ++ signed_decimal value
 

@@ -115,7 +115,7 @@ abbrev pub SpellsAsked : Code → (text : List ℕ) → List Requirement → Lis
 SpellsAsked code text requirements prints =
     (rest : List ℕ) × AreRequirements text requirements rest × SpellsPrints code rest prints
 
--- behind the first lines, which say requirements, lines say prints up to this place of the text, and the line that begins
+-- after the first lines, which say requirements, lines say prints up to this place of the text, and the line that begins
 -- there says none
 abbrev pub IsBadAsked : Code → (text : List ℕ) → PrintFault → Type 0
 IsBadAsked code text (NotPrint at) =

@@ -26,7 +26,7 @@ circle_lines names lead round =
     line (codes "endless") ++ line (codes "reached by") ++ pick_lines names.processes lead
     ++ line (codes "round") ++ pick_lines names.processes round
 
--- the last line behind them, by whether only fair runs count
+-- the last line after them, by whether only fair runs count
 abbrev pub endless_line : (fair : Bool) → List ℕ
 endless_line true = line (codes "some fair runs do not end")
 endless_line false = line (codes "some runs do not end")

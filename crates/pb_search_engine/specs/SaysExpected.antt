@@ -104,7 +104,7 @@ pub data SaysOfAsked (fair : Bool) (lending : Lending) (any_order : Bool) (requi
       → (said : List ℕ) (status : Status) → SaysOfRuns fair lending any_order wanted code labels states said status
       → SaysOfAsked fair lending any_order requirements wanted code labels states said status
 
--- what is said of the lines behind an accepted text, by its code: one says no print behind those that say requirements;
+-- what is said of the lines after an accepted text, by its code: one says no print after those that say requirements;
 -- or all say requirements and then prints, which are asked of the code
 pub data SaysOfLines (fair : Bool) (lending : Lending) (any_order : Bool) (code : Code) (labels : List ProcessLabels) (states : ℕ)
     (lines : List ℕ) : List ℕ → Status → Type 0 where
@@ -115,7 +115,7 @@ pub data SaysOfLines (fair : Bool) (lending : Lending) (any_order : Bool) (code 
       → SaysOfAsked fair lending any_order requirements wanted code labels states said status
       → SaysOfLines fair lending any_order code labels states lines said status
 
--- what is said of an input, which is a text and lines behind it: its text is refused; or it is accepted, and
+-- what is said of an input, which is a text and lines after it: its text is refused; or it is accepted, and
 -- it is said what is said of its lines
 pub data SaysOfExpected (fair : Bool) (lend : Lend) (any_order : Bool) (states : ℕ) (bytes : List ℕ) : List ℕ → Status → Type 0 where
   no_text : (text lines : List ℕ) → AreTwoParts bytes text lines

@@ -124,7 +124,7 @@ fn put_circle(
     Ok(())
 }
 
-/// Appends the last line behind a circle, by whether only fair runs count.
+/// Appends the last line after a circle, by whether only fair runs count.
 fn put_endless(text: &mut Vec<u8>, is_fair: bool) -> Result<(), NoMemory>
     ensures { OnOk result (text.new.items ≡ text.old.items ++ endless_line is_fair) }
 {

@@ -34,7 +34,7 @@ pub fn runs_are_those_of_the_program()
 {}
 
 /// If some fair run of the program of a text never ends, some fair run of its code does not, whoever lends: pushes and
-/// jumps, which are no picks of the program, are made at once behind each of its picks. So if it is told that every fair
+/// jumps, which are no picks of the program, are made at once after each of its picks. So if it is told that every fair
 /// run of the code ends, every fair run of the program does.
 pub fn fair_runs_of_programs_end()
     ensures { FairRunsOfProgramsEnd }

@@ -38,7 +38,7 @@ use std::alloc::Global;
 /// If more than `options.states` configurations are reached, or if more than 10,000,000 picks lead to an outcome,
 /// what was found by then is written, and the last line says that there may be others; the status is `Limit`, and
 /// else `Deadlock` if a deadlock was found. With `options.first_deadlock` the search ends at the first deadlock,
-/// which the last line says. With `options.prints` what was printed is shown too, behind a line `printed`, and
+/// which the last line says. With `options.prints` what was printed is shown too, after a line `printed`, and
 /// outcomes and deadlocks with different prints are different ones. With `options.fair` a last line says whether some
 /// run never ends in which no arm that is enabled from some point on is never picked again (weak fairness), or that
 /// more than `options.states` configurations are reached by single picks, with the status `Limit`. Of a text that is
@@ -46,7 +46,7 @@ use std::alloc::Global;
 ///
 /// With `options.run` or `options.deadlock` the text is written with the picks that lead to the one with this
 /// number, as `replay` reads it, or that there is none. With `options.expect` the input is a text and print lines
-/// behind it, and it is written whether all runs of the text are as these lines say, as `tell_expected` does. With
+/// after it, and it is written whether all runs of the text are as these lines say, as `tell_expected` does. With
 /// `options.endless` a run that never ends is written in place of all outcomes, as `tell_endless` does. With
 /// `options.graph` the document of all its schedules is written in place of all else, as `tell_schedules` does.
 ///
@@ -222,7 +222,7 @@ fn fair_told(
     )
 }
 
-/// Returns the same with the line of what is told of fair runs behind all else.
+/// Returns the same with the line of what is told of fair runs after all else.
 fn with_fair_line(reply: Reply, told: FairRuns, states: u32) -> Result<Reply, NoMemory>
     ensures text { IfOk result (λ r. r.text.items ≡ reply.text.items ++ fair_line states told) }
     ensures status { IfOk result (λ r. r.status ≡ status_with reply.status told) }

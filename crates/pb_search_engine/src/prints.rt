@@ -10,7 +10,7 @@ use pb_base::writing::put_number;
 use pb_base::{Names, NoMemory};
 use pb_search_stages::Print;
 
-/// Appends what was printed to a text, behind a line `printed`, if something was.
+/// Appends what was printed to a text, after a line `printed`, if something was.
 pub fn put_printed(text: &mut Vec<u8>, names: &Names, prints: &[Print]) -> Result<(), NoMemory>
     ensures { OnOk result (text.new.items ≡ text.old.items ++ printed_lines (names_view names.now) prints.now) }
 {

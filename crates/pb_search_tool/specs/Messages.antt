@@ -38,13 +38,13 @@ pub data SaysOfPrintLines (code : Code) (before : ℕ) (lines : List ℕ) : List
       → IsMessage (codes "print ") lines (unsaid_at at) told → ShowsWording (codes "print ") lines (unsaid_at at) wording told
       → SaysOfPrintLines code before lines told
 
--- of a text and print lines behind this number of lines of the input
+-- of a text and print lines after this number of lines of the input
 abbrev pub SaysOfExpectedText : (before : ℕ) → (text lines told : List ℕ) → Type 0
 SaysOfExpectedText before text lines told =
     ((code : Code) × (labels : List ProcessLabels) × IsCompiled text code labels × SaysOfPrintLines code before lines told)
     ⊎ TellsRefusal [] text told
 
--- of a text, and print lines behind the first line `%%`
+-- of a text, and print lines after the first line `%%`
 abbrev pub SaysOfExpected : (bytes told : List ℕ) → Type 0
 SaysOfExpected bytes told =
     (text : List ℕ) × (lines : List ℕ) × AreTwoParts bytes text lines

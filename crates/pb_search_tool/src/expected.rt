@@ -30,7 +30,7 @@ pub(crate) fn outcomes_message(
     }
 }
 
-/// Returns the message of a text and the print lines behind it; nothing if there is nothing to be said of them.
+/// Returns the message of a text and the print lines after it; nothing if there is nothing to be said of them.
 pub fn expected_message(alloc: Global, bytes: &[u8]) -> Result<Vec<u8>, NoMemory>
     ensures { IfOk result (λ message. SaysWithin SaysOfExpected bytes.now message.items) }
 {

@@ -65,7 +65,7 @@ pub record TalksSome (Diagnoses : Diagnosing) (Finds : Finding) (s : Serving) (b
   pub talks : Talks Diagnoses Finds s bytes rest messages after
   pub written : WritesBefore why rest messages old new
 
--- the text is what is said to all messages that are whole in what was read; behind them stand at most some first bytes
+-- the text is what is said to all messages that are whole in what was read; after them stand at most some first bytes
 -- of a further one
 pub record AnswersRead (Diagnoses : Diagnosing) (Finds : Finding) (s : Serving) (read text : List ℕ) : Type 0 where
   pub part : List ℕ

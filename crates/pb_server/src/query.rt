@@ -19,6 +19,6 @@ pub enum Query {
     Actions,
     /// What stands at a position, in words.
     Hover,
-    /// What is shown behind names of the text.
+    /// What is shown after names of the text.
     Hints,
 }

@@ -1,4 +1,4 @@
--- No claim that is shown behind a name has a number that is no integer.
+-- No claim that is shown after a name has a number that is no integer.
 use Rattle.std.proofs.Common.{◌≡◌, ℕ, zero, suc, false, List, [], ◌∷◌, ◌==◌, Option, Some, None, cond, length, refl}
 use Rattle.std.specs.Prelude.{slice_index_or}
 use Rattle.std.specs.Str.{bytes_eq}

@@ -11,6 +11,6 @@ abbrev pub AnswersHover : (text : List ℕ) → Option Data → Data → Type 0
 AnswersHover text params d =
     (known : Option Known) × Knows text known × (d ≡ hover_asked text known (asked_offset text params))
 
--- the claims of each process behind its name
+-- the claims of each process after its name
 abbrev pub AnswersHints : (text : List ℕ) → Data → Type 0
 AnswersHints text d = (known : Option Known) × Knows text known × (d ≡ hints_data text known)

@@ -1,4 +1,4 @@
--- What is shown behind the name of a process where it is declared: each of its claims that is not 0.
+-- What is shown after the name of a process where it is declared: each of its claims that is not 0.
 use Rattle.std.specs.Prelude.{ℕ, ◌==◌, true, List, [], ◌∷◌, ◌++◌, Option, Some, None, codes, cond, length}
 use Rattle.std.specs.Fmt.{decimal}
 use Rattle.std.specs.List.{flat_map}
@@ -24,12 +24,12 @@ label_data position label = object (member (codes "label") (string label)
 abbrev pub amount_words : (amount : ℕ) → (resource : Name) → List ℕ
 amount_words amount resource = decimal amount ++ (codes " of " ++ resource)
 
--- a claim behind a name; nothing if it is 0
+-- a claim after a name; nothing if it is 0
 abbrev pub hint_if : (text : List ℕ) → Place → (amount : ℕ) → (resource : Name) → List Data
 hint_if text place amount resource =
     cond (amount == 0) [] (label_data (end_of_name text place) (utf8_lossy (amount_words amount resource)) ∷ [])
 
--- the claims of process p behind a name
+-- the claims of process p after a name
 abbrev pub hints_of : (text : List ℕ) → Numbered → Place → (p : ℕ) → List Data
 hints_of text n place p =
     each_below (λ r. hint_if text place (claim n p r) (resource_name n r)) (length n.program.resources)

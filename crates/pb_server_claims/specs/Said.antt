@@ -15,7 +15,7 @@ use Rattle.pb_tree.specs.Syntax.{ProgramSyntax}
 
 -- ---- a process
 
--- the lines of parts, each behind a comma
+-- the lines of parts, each after a comma
 abbrev pub further_lines : List Part → List ℕ
 further_lines parts = flat_map (λ part. codes ", " ++ decimal part.line) parts
 

@@ -1,4 +1,4 @@
-//! The claims of each process behind its name.
+//! The claims of each process after its name.
 
 ghost use Rattle.std.specs.Prelude.{◌≡◌, ◌++◌, IfOk, OnOk, map, option_map};
 ghost use Rattle.std.specs.Str.Lossy.{utf8_lossy};
@@ -36,7 +36,7 @@ fn label_value(alloc: Global, label: &str, position: Value) -> Result<Value, All
     json!(in alloc; {"label": label, "paddingLeft": true, "position": position})
 }
 
-/// Appends a claim behind a name; nothing if it is 0.
+/// Appends a claim after a name; nothing if it is 0.
 fn add_hint(
     alloc: Global,
     out: &mut Vec<Value>,
@@ -58,7 +58,7 @@ fn add_hint(
     Ok(())
 }
 
-/// Appends the claims of process p behind a name.
+/// Appends the claims of process p after a name.
 fn add_hints(
     alloc: Global,
     out: &mut Vec<Value>,
@@ -77,7 +77,7 @@ fn add_hints(
     Ok(())
 }
 
-/// Appends the claims of the process of this name behind it.
+/// Appends the claims of the process of this name after it.
 fn add_named(
     alloc: Global,
     out: &mut Vec<Value>,
@@ -114,7 +114,7 @@ fn add_at(
     }
 }
 
-/// Returns the claims of each process of a text behind its name, in the order of the text; none if there is no numbered
+/// Returns the claims of each process of a text after its name, in the order of the text; none if there is no numbered
 /// program, or if nothing is known of the text.
 #[tactic(auto, using(pb_server_names::proofs::Kept::flat_more))]
 pub(crate) fn hints_value(

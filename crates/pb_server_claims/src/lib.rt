@@ -1,5 +1,5 @@
 //! What a language server shows of a text beside the names: what stands at a position, and the claims of each process
-//! behind its name.
+//! after its name.
 #![tactic(auto)]
 
 mod hints;

@@ -25,7 +25,7 @@ pub fn answer_hover(alloc: Global, text: &str, params: Option<&Value>) -> Result
     hover_asked(alloc, text, &found, asked_offset(text, params))
 }
 
-/// Returns the claims of each process behind its name, those that are not 0, whether or not the capital is enough for
+/// Returns the claims of each process after its name, those that are not 0, whether or not the capital is enough for
 /// them; an empty list if the text is not read, or if its names have a fault.
 #[tactic(auto, using(crate::proofs::FloatFree::hints_free))]
 pub fn answer_hints(alloc: Global, text: &str) -> Result<Value, NoMemory>

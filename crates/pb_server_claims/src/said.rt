@@ -10,7 +10,7 @@ use pb_base::writing::{put, put_digits, put_name, put_number};
 use pb_plan::Part;
 use std::alloc::Global;
 
-/// Appends the lines of parts, each behind a comma.
+/// Appends the lines of parts, each after a comma.
 fn put_further(out: &mut Vec<u8>, parts: &[Part]) -> Result<(), NoMemory>
     ensures { OnOk result (out.new.items ≡ out.old.items ++ spec.further_lines parts.now) }
 {

@@ -19,7 +19,7 @@ range_data text start end = object (member (codes "end") (position_data (positio
 abbrev pub name_range : List ℕ → Place → Data
 name_range text place = range_data text place.at (place.at + length place.text)
 
--- the position right behind a name
+-- the position right after a name
 abbrev pub end_of_name : List ℕ → Place → Data
 end_of_name text place = position_data (position_of text (place.at + length place.text))
 

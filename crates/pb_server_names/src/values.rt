@@ -42,7 +42,7 @@ pub(crate) fn name_range(alloc: Global, text: &[u8], name: &Place<'_>) -> Result
     range_value(alloc, text, name.at, end)
 }
 
-/// Returns the position right behind a name.
+/// Returns the position right after a name.
 #[tactic(auto, using(crate::proofs::Ends::end_at))]
 pub fn end_of_name(alloc: Global, text: &[u8], name: &Place<'_>) -> Result<Value, AllocError>
     ensures { IfOk result (λ v. view v ≡ spec.end_of_name text.now (place name.now)) }

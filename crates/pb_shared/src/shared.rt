@@ -1,4 +1,4 @@
-//! A book behind a lock, with a condition on which those wait that find nothing to do.
+//! A book after a lock, with a condition on which those wait that find nothing to do.
 //!
 //! **No wake-up is lost.** A thread sleeps only if, with the lock, it found that the book is idle or that
 //! another thread makes turns for all (`driven`), and it is counted before it gives the lock back. Each call
@@ -42,7 +42,7 @@ pub struct Shared<'v, C: CodeBrand> {
 }
 
 impl<'v, C: CodeBrand> Shared<'v, C> {
-    /// Puts the book behind a lock. All that is lent is run with no lock held.
+    /// Puts the book after a lock. All that is lent is run with no lock held.
     pub fn new(book: Book<'v, C>) -> Shared<'v, C> {
         Shared {
             desk: Mutex::new(Desk::new(book, false)),
@@ -50,7 +50,7 @@ impl<'v, C: CodeBrand> Shared<'v, C> {
         }
     }
 
-    /// Puts the book behind a lock, for threads that do nothing between the run of a stretch and its commit.
+    /// Puts the book after a lock, for threads that do nothing between the run of a stretch and its commit.
     /// As long as stretches are short one thread makes their picks with the lock held, as turns of the book,
     /// which takes less time than the lock needs to go to another thread.
     pub fn open(book: Book<'v, C>) -> Shared<'v, C> {

@@ -63,7 +63,7 @@ impl<'v, C: CodeBrand> Book<'v, C> {
         Ok(made)
     }
 
-    /// Lets the turn pass to what is behind this arm.
+    /// Lets the turn pass to what is after this arm.
     #[inline(always)]
     fn pass_turn(&mut self, pick: Pick)
         ensures { self.new ≡ self.old }

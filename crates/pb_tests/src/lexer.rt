@@ -9,7 +9,7 @@ fn fault(alloc: Global, text: &[u8]) -> Option<LexFault> {
     lex(alloc, text).err()
 }
 
-/// Returns whether a text has these tokens, each with the offset at which it begins, the one behind its end,
+/// Returns whether a text has these tokens, each with the offset at which it begins, the one after its end,
 /// and its line.
 fn has_tokens(alloc: Global, text: &[u8], wanted: &[(Kind, usize, usize, u32)]) -> bool {
     let Ok(tokens) = lex(alloc, text) else {

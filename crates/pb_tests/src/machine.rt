@@ -551,7 +551,7 @@ fn shown_after_runs(verified: &Verified, machine: &mut Machine) -> Option<Seen>
     }
 }
 
-/// How many picks the group at each place of that code makes: behind the first test a round is one group,
+/// How many picks the group at each place of that code makes: after the first test a round is one group,
 /// with the test of the next round, and no group has the jump alone, the print or the end.
 const COUNTS: [u8; 14] = [4, 3, 2, 1, 9, 4, 3, 2, 0, 3, 2, 1, 0, 0];
 

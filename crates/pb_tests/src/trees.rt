@@ -12,7 +12,7 @@ pub fn read(alloc: Global, text: &[u8]) -> Option<Program<Global>> {
     parse(alloc, tokens.as_slice()).ok()
 }
 
-/// A part of a program, which comes behind the parts that it is made of. The line of a statement comes
+/// A part of a program, which comes after the parts that it is made of. The line of a statement comes
 /// first; a name or a number is followed by its place.
 #[derive(Clone, Copy)]
 pub enum Part {
@@ -20,7 +20,7 @@ pub enum Part {
     Variable(&'static [u8], usize),
     Unary(UnaryOp),
     Binary(BinaryOp),
-    /// Begins a list, which takes the statements behind it.
+    /// Begins a list, which takes the statements after it.
     List,
     Assign(u32, &'static [u8], usize),
     Print(u32),

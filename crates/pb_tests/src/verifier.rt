@@ -382,7 +382,7 @@ fn repeat(code: &mut Vec<Instr>, instrs: &[Instr], times: usize) -> Option<()> {
     Some(())
 }
 
-/// The place behind the jumps and the second list of bundles.
+/// The place after the jumps and the second list of bundles.
 const PRINTS: u16 = 2 + 256 + 2 * 9_500 + 1 + 256;
 
 /// Adds tests that jump to a print each.

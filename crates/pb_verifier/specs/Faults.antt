@@ -45,7 +45,7 @@ pub record HasArms (code : ProcessCode) : Type 0 where
 -- ---- forks: of later arms, each followed by its own join and by no other way to one; each arm is forked in
 -- one place
 
--- forks and joins go in pairs, one behind the other, and each arm but arm 0 is forked in one place
+-- forks and joins go in pairs, one after the other, and each arm but arm 0 is forked in one place
 pub record HasForks (code : ProcessCode) : Type 0 where
   pub later : (a place first count : ℕ) → IsInArm code a place → InstrAt code place (Fork first count)
       → (a < first) × (first + count ≤ arms code)
@@ -80,7 +80,7 @@ pushes (Compute1 op) = 1
 pushes (Compute2 op) = 1
 pushes i = 0
 
--- an instruction at this depth, of at most 256, finds its operands; the depth is `after` behind it
+-- an instruction at this depth, of at most 256, finds its operands; the depth is `after` after it
 abbrev pub TurnsDepth : Instr → ℕ → ℕ → Type 0
 TurnsDepth i depth after = (pops i ≤ depth) × (depth ≤ MAX_DEPTH) × (after + pops i ≡ depth + pushes i)
 

@@ -13,7 +13,7 @@ pub telling_then : {T S : Type 0} (tells : T → S → T → Type 0) (s m u : T)
     → tells m x u → Telling tells s (xs ++ x ∷ []) u
 telling_then tells s m u xs x first step = telling_more tells s m u xs (x ∷ []) first (u, step, refl)
 
--- a write failed behind what is told
+-- a write failed after what is told
 pub breaking_later : {T S : Type 0} (tells breaks : T → S → T → Type 0) (s m u : T) (xs ys : List S) → Telling tells s xs m
     → Breaking tells breaks m ys u → Breaking tells breaks s (xs ++ ys) u
 breaking_later {T} {S} tells breaks s m u xs ys first stop = record {

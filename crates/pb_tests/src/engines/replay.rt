@@ -1,4 +1,4 @@
-//! Picks behind texts, made again.
+//! Picks after texts, made again.
 
 use crate::calls::{Call, Case, Given, first_wrong};
 use pb_command_io::Status;
@@ -114,7 +114,7 @@ const FAULTS_AND_NO_PICKS: [Case; 3] = [
         Status::Fault,
         b"p.0 fault divide\nq.0 print 1\nq end\ndone\n",
     ),
-    // No mark is behind the text.
+    // No mark is after the text.
     (Call::Replay, Given::Text(DEVICES), Status::Done, b"open\n"),
 ];
 

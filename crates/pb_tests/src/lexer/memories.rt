@@ -5,7 +5,7 @@ use linked_list_allocator::LocalHeap;
 use pb_lexer::{Kind, LexFault, Mark, Token, lex};
 use std::alloc::Global;
 
-/// Returns whether the tokens are these brackets, one behind the other.
+/// Returns whether the tokens are these brackets, one after the other.
 fn are_brackets(tokens: &[Token<'_>], brackets: usize) -> bool {
     for (at, token) in tokens.iter().enumerate() {
         if token.kind() != Kind::Mark(Mark::Open) || token.start() != at {

@@ -14,14 +14,14 @@ use Rattle.pb_bank.proofs.request.bundle_of.Goals as goal
 seen : List (Vec ℕ Global) → List (List ℕ)
 seen names = map (λ (n : Vec ℕ Global). n.items) names
 
--- the words behind a comma
+-- the words after a comma
 comma_words : (rest comma behind : List ℕ) (b : Bool) → words_of rest ≡ before comma (words_of behind) → b ≡ eqb (length comma) 0 → b ≡ false
     → words_of rest ≡ comma ∷ words_of behind
 comma_words rest comma behind b words is some =
     let other : length comma ≡ 0 → ⊥ = eqb-false (length comma) 0 (sym is ∙ some) in
     words ∙ before_some comma (words_of behind) (omega (arith, other))
 
--- what is said of a pair behind so many others
+-- what is said of a pair after so many others
 placed : (names : List (List ℕ)) (pairs : List Pair) (n : ℕ) (amount resource : List ℕ) (one : Result Pair Refusal) → n ≡ length pairs
     → one ≡ pair_of names (3 * n + 2) amount resource → pair_of names (resource_place pairs) amount resource ≡ one
 placed names pairs n amount resource one is said = ap (λ k. pair_of names (3 * k + 2) amount resource) (sym is) ∙ sym said

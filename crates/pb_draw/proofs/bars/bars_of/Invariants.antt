@@ -5,7 +5,7 @@ use Rattle.pb_draw.specs.Bars as spec
 use Rattle.pb_draw.specs.declared.drawing.Mark.{Mark}
 use Rattle.pb_draw.proofs.bars.bars_of.Given as goal
 
--- the bars of the marks so far, and those of them that can be open behind these marks
+-- the bars of the marks so far, and those of them that can be open after these marks
 abbrev pub invariant-loop-i : goal.invariant-loop-i
 invariant-loop-i l = record {
   same : spec.bars_of l.marks ≡ l.bars.items ++ spec.bars_from l.bars.items (drop l.i l.marks);

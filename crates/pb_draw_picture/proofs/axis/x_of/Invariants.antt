@@ -3,7 +3,7 @@ use Rattle.std.specs.Prelude.{slice_get}
 use Rattle.pb_draw_picture.specs.declared.knot.Knot.{Knot}
 use Rattle.pb_draw_picture.proofs.axis.x_of.Given as goal
 
--- the last knot below `low` is not behind the position, and that at `high` is
+-- the last knot below `low` is not after the position, and that at `high` is
 abbrev pub invariant-loop-low : goal.invariant-loop-low
 invariant-loop-low l = record {
   order : l.low ≤ l.high;

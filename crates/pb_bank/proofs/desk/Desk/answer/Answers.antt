@@ -8,7 +8,7 @@ use Rattle.pb_bank.specs.declared.kind.Kind.TheVariants.{Hold, Why, Order, State
 use Rattle.pb_base.proofs.Results.{on_ok}
 use Rattle.pb_bank.proofs.desk.Desk.answer.Goals as goal
 
--- the first of the words, and those behind it
+-- the first of the words, and those after it
 first_is : (words : List (List ℕ)) (word : List ℕ) (rest : List (List ℕ)) → words ≡ before word rest
     → (length word ≡ 0 → words ≡ []) → (first_of words ≡ word) × (rest_of words ≡ rest)
 first_is words [] rest is none =

@@ -21,7 +21,7 @@ wholes_more bundles after events kept e same new =
     map-append (whole after) events (kept ∷ [])
     ∙ (ap (λ (xs : List Event). xs ++ whole after kept ∷ []) same ∙ ap (λ (x : Event). map (whole bundles) events ++ x ∷ []) new)
 
--- the bundle that was put behind the others is the one that the event names
+-- the bundle that was put after the others is the one that the event names
 named : (after bundles : List (List Pair)) (b : List Pair) (next : ℕ) → after ≡ bundles ++ b ∷ [] → next ≡ length bundles → slice_index_or after next [] ≡ b
 named after bundles b next is number =
     ap (λ (bs : List (List Pair)). slice_index_or bs next []) is

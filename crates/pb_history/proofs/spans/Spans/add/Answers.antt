@@ -20,7 +20,7 @@ overflow_add-self c =
     ] in
     omega (arith, fits, all, len)
 
--- the ends that are left, with the new one behind them
+-- the ends that are left, with the new one after them
 moved : (c : goal.After-push_reserved) → c.if-continues.self-inside.ends.items ++ end_for c.self.inside.len c.args.span ∷ []
     ≡ with_end c.self.inside.ends.items (end_for c.self.inside.len c.args.span)
 moved c =
