@@ -204,7 +204,7 @@ def advice(command: str, words: list[str], name: str, given: bytes) -> str | Non
             return f"{name} is an object with picks: debug and states read it"
         return f"{name} is an object: exec runs it, and debug and migrate read it"
     if command in OF_TEXTS and len(parts) > 1 and has_picks(parts):
-        return f"{name} has picks behind a line %%: replay makes them, and debug and draw read them"
+        return f"{name} has picks after a line %%: replay makes them, and debug and draw read them"
     if command in OF_TEXTS and command != "plan" and len(parts) > 1:
         return f"{name} has several texts, between lines %%: check reads these, and {command} one text"
     if command in OF_MESSAGES and given.strip() and not given.startswith(MESSAGE):

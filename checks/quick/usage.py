@@ -71,7 +71,7 @@ CALLS = [
     (["run", "cash"], DONE, "p end\n", None),
     (["run", "sum.pbo"], REFUSED, "refused ", "parbegin: sum.pbo is an object: exec runs it"),
     (["check", "sum.pbo"], REFUSED, "sum.pbo: refused ", "parbegin: sum.pbo is an object: exec runs it"),
-    (["run", "lost.run"], REFUSED, "refused L2 at 335", "parbegin: lost.run has picks behind a line %%: replay makes them"),
+    (["run", "lost.run"], REFUSED, "refused L2 at 335", "parbegin: lost.run has picks after a line %%: replay makes them"),
     (["claims", "two.pb"], REFUSED, "refused L2", "parbegin: two.pb has several texts, between lines %%: check reads these"),
     (["exec", "hello.pb"], REFUSED, "refused O1 at 0", "parbegin: hello.pb is no object"),
     (["lsp", "hello.pb"], REFUSED, "this is not the header of a message", "parbegin: hello.pb holds no messages: an editor starts lsp"),
