@@ -7,6 +7,7 @@ import stat
 import subprocess
 import sys
 import tempfile
+from collections.abc import Sequence
 from typing import BinaryIO, NamedTuple
 
 from script.places import DEVICE, say, shown
@@ -73,9 +74,11 @@ def named_unasked(command: str, words: list[str]) -> list[str]:
     return [word for word, is_value in zip(behind, values) if not word.startswith("-") and not is_value]
 
 
-def tell_too_many(command: str, names: list[str]) -> None:
+def tell_too_many(command: str, names: list[str], words: Sequence[str] = ()) -> None:
     """Says that a command reads one file, and not these."""
     several = "; `check --format json` tells of several" if command == "check" else ""
+    if "--expect" in words:
+        several = ": a text, a line %%, and the lines that are wanted; `grade FOLDER EXERCISE` judges texts by a file of lines"
     say(f"{command} reads one file, and here are {len(names)}: {', '.join(map(shown, names))}{several}")
 
 

@@ -207,7 +207,9 @@ fn declaration_mistake<'t>(tokens: &[Token<'t>], number: usize) -> Option<Told<'
             "integers begin at 0: write integer x; and assign below: x := 1",
         );
     }
-    if is_name(tokens, number) && !is_at(tokens, number.saturating_add(1), Mark::Assign) {
+    let next = number.saturating_add(1);
+    let is_assigned = is_at(tokens, next, Mark::Assign) || is_at(tokens, next, Mark::Equal);
+    if is_name(tokens, number) && !is_assigned {
         return inserted(
             "a comma is missing",
             "commas separate the names of integers: integer x, y;",
