@@ -237,7 +237,7 @@ async def write_batches(folder: str, rng: random.Random) -> tuple[list[list[str]
     """Writes batches, and returns them with the sizes of the log after each."""
     log, batches = f"{folder}/journal.db-wal", []
     with closing(Journal(folder)) as journal:
-        journal.load()
+        journal.read()
         sizes = [os.path.getsize(log)]
         for number in range(rng.randint(5, 40)):
             batches.append([f"C 1 {number} {'x' * rng.randint(0, 3000)}" for _ in range(rng.randint(1, 8))])
