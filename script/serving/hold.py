@@ -142,6 +142,8 @@ class Hold:
     def wait(self) -> bool:
         """Waits for the grant of a wish. Returns whether it came in time; if not, the wish is taken back."""
         while self.job not in self.client.granted:
+            if self.has_left():
+                raise Fault(f"{self.job} has left, with all that it held")
             if self.shown.is_wanted:
                 reason = self.client.tell(f"why {self.job} {spell(self.options.amounts)}")
                 if self.job not in self.client.granted:
@@ -164,7 +166,8 @@ class Hold:
         while (ended := ended_status(pid, 0.1 if is_lost else self.rest())) is None:
             left = self.left()
             if left < END_AT * self.options.lease and not is_lost:
-                say(f"the bank cannot be reached, and what {self.job} holds is no longer sure: the command is ended")
+                why = f"{self.job} has left" if self.has_left() else "the bank cannot be reached"
+                say(f"{why}, and what {self.job} holds is no longer sure: the command is ended")
                 os.kill(pid, signal.SIGTERM)
                 is_lost = True
             if left < KILL_AT * self.options.lease:
@@ -185,7 +188,11 @@ class Hold:
             except Fault:
                 # (another connection may be taken)
                 self.client.drop()
-        return self.client.left()
+        return 0.0 if self.has_left() else self.client.left()
+
+    def has_left(self) -> bool:
+        """Returns whether the job, within which this hold is, has left."""
+        return self.job in self.client.left_jobs
 
 
 def start(command: list[str], environment: dict[str, str]) -> int:
