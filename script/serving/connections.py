@@ -64,11 +64,10 @@ class Connection:
             return
         self.writer.write(text.encode("latin-1"))
         if self.writer.transport.get_write_buffer_size() > MAX_UNREAD:
-            # (who reads on after all finds why at the end)
+            # (who reads on after all finds why at the end; what it leaves unread is not more than that)
             last = answer_of(0, [refused("S14")]) if self.is_json else refused("S14")
             self.writer.write(f"{last}\n".encode())
             self.writer.close()
-            asyncio.get_running_loop().call_later(PATIENCE, self.cut_off)
 
     def cut_off(self) -> None:
         """Ends the connection at once."""
