@@ -63,11 +63,13 @@ async def chunks(reader: asyncio.StreamReader) -> AsyncGenerator[bytes, None]:
     """Yields the chunks of an answer."""
     while True:
         size = int(await reader.readline(), 16)
-        chunk = await reader.readexactly(size)
-        await reader.readline()
         if not size:
+            # (fields may come at the end: an answer that tells of a fault has some)
+            while (await reader.readline()).strip():
+                pass
             return
-        yield chunk
+        yield await reader.readexactly(size)
+        await reader.readline()
 
 
 class Gateway:
@@ -97,7 +99,7 @@ class Gateway:
     async def read_head(reader: asyncio.StreamReader) -> tuple[int, dict[str, str]]:
         """Reads the status of an answer and its fields."""
         first, *rest = (await reader.readuntil(b"\r\n\r\n")).decode("latin-1").split("\r\n")
-        return int(first.split(" ")[1]), dict(line.lower().split(": ", 1) for line in rest if ": " in line)
+        return int(first.split(" ")[1] if " " in first else "none"), dict(line.lower().split(": ", 1) for line in rest if ": " in line)
 
     async def once(self, path: str, body: dict[str, Any]) -> dict[str, Any]:
         """Makes a call over one member, and returns its answer."""
