@@ -27,6 +27,7 @@ Further commands, each with a help of its own:
 BANK = """
 Of a bank that is served:
       --connect <ADDRESS>  Answer the commands by the bank of `parbegin serve` at PATH, HOST:PORT or tls:HOST:PORT
+      --lease <SECONDS>    How long that one keeps what is lent if nothing is heard any more, 2 to 86400 [default: 30]
 """
 CHECK = """
 Of files:

@@ -5,9 +5,9 @@
 
 PROGRAM is the one that ./parbegin has built if none is given; all parts are tried if none is named. It needs etcd.
 
-    history     leaders are killed, paused and ended, members are killed and paused; then the journal is replayed over the model
+    history     leaders are killed and paused, members are killed and paused; then the journal is replayed over the model
                 of checks/lib/bank_model.py, and each answer that a client got has to be the one that comes of it
-    snapshots   the same with a snapshot at each few batches
+    snapshots   the same with a snapshot at each few batches, and leaders that are ended
     paused      a leader is paused, another one leads, and the old one goes on with requests in its sockets: it answers none
     behind      a follower that is behind a snapshot when it is elected does not lead from where it is
     secured     etcd wants TLS and a password
@@ -50,7 +50,9 @@ CLIENTS, ROUNDS, SERVERS, LEASE = 8, 10, 3, 2
 PARTS = ("history", "snapshots", "paused", "behind", "secured")
 # Answers that have to come between two things that go wrong, so that the clients have found their way.
 BETWEEN = 40
-KINDS = ("kill", "pause", "end", "kill-member", "pause-member")
+KINDS = ("kill", "pause", "kill-member", "pause-member")
+# The end of a leader leaves a snapshot, so that its log is not there to be replayed.
+WITH_ENDS = (*KINDS, "end")
 PAUSES = 4
 
 
@@ -120,7 +122,7 @@ class Nemesis:
 
     def __init__(self, tally: Tally, fleet: Fleet, members: Members, rng: random.Random) -> None:
         self.tally, self.fleet, self.members, self.rng = tally, fleet, members, rng
-        self.counts = dict.fromkeys(KINDS, 0)
+        self.counts = dict.fromkeys(WITH_ENDS, 0)
 
     def do(self, kind: str) -> None:
         """Lets something go wrong, and mends it once another server leads, or at once."""
@@ -171,14 +173,14 @@ def entries_of(members: Members) -> list[str]:
 def try_storm(tally: Tally, fleet: Fleet, members: Members, kind: str, rounds: int, seed: int) -> None:
     """Lets clients use the bank while things go wrong, and looks at what they saw."""
     rng, seen = random.Random(seed), Seen()
-    nemesis = Nemesis(tally, fleet, members, rng)
+    nemesis, kinds = Nemesis(tally, fleet, members, rng), KINDS if kind == "history" else WITH_ENDS
     workers = [Worker(at, fleet.addresses(), seen, seed) for at in range(CLIENTS)]
     for worker in workers:
         worker.start()
     for number in range(rounds):
         before = len(seen.answers)
         wait_for(lambda: len(seen.answers) > before + BETWEEN or seen.wrong)
-        nemesis.do(KINDS[number % len(KINDS)] if number < len(KINDS) else rng.choice(KINDS))
+        nemesis.do(kinds[number] if number < len(kinds) else rng.choice(kinds))
     seen.is_over.set()
     for worker in workers:
         worker.join(5 * PATIENCE)
