@@ -28,7 +28,11 @@ from script.serving.snapshots import restored, snapshot  # noqa: E402
 
 HISTORIES, COMMANDS, SESSIONS, MOST_COPIES = 3, 400, (1, 2, 3, 4), 4
 # What the drawn commands are not, in shares of them.
-USES, REPETITIONS, SNAPSHOTS, ENDS, CAPITALS, CLAIMS, OTHERS = 0.1, 0.05, 0.02, 0.01, 0.03, 0.05, 0.3
+USES, REPETITIONS, SNAPSHOTS, ENDS, CAPITALS, CLAIMS, GIVES, DROPS = 0.15, 0.05, 0.02, 0.01, 0.03, 0.05, 0.3, 0.1
+# Who says a command: who uses the job, or anybody; else its owner.
+BY_USER, BY_ANYBODY = 0.4, 0.1
+# Refusals that have to be among what was drawn.
+REFUSALS = ("S3", "S4", "S5", "S6", "S12", "S13")
 
 
 def new_desk() -> Desk:
@@ -82,15 +86,35 @@ class History:
     def draw(self) -> None:
         """Draws a history."""
         for line in drawn_commands(self.rng, COMMANDS):
-            owner = self.desk.owners.get(line.split(" ")[1])
-            other = self.rng.choice(SESSIONS)
-            self.say(owner if owner and self.rng.random() > OTHERS else other, line)
+            self.say(self.drawn_session(line.split(" ")[1]), line)
             for share, step in (
                 (USES, self.draw_use), (REPETITIONS, self.repeat), (SNAPSHOTS, self.copy), (ENDS, self.end), (CAPITALS, self.draw_capital),
-                (CLAIMS, self.draw_claim),
+                (CLAIMS, self.draw_claim), (GIVES, self.draw_give), (DROPS, self.draw_drop),
             ):
                 if self.rng.random() < share:
                     step()
+
+    def drawn_session(self, job: str) -> int:
+        """Returns a session that says something of a job."""
+        owner, drawn = self.desk.owners.get(job), self.rng.random()
+        users = [sid for sid, it in self.desk.sessions.items() if job in it.shares and sid != owner]
+        if users and drawn < BY_USER:
+            return self.rng.choice(users)
+        return owner if owner and drawn > BY_USER + BY_ANYBODY else self.rng.choice(SESSIONS)
+
+    def draw_give(self) -> None:
+        """Gives back what a job holds, whoever got it."""
+        rows = [line.split(" ") for line in self.desk.bank.say("state") if line.startswith("job ")]
+        held = [(row[1], f"{self.rng.randint(1, int(row[6]))} {row[2]}") for row in rows if row[6] != "0"]
+        if held:
+            job, amounts = self.rng.choice(held)
+            self.say(self.drawn_session(job), f"give {job} {amounts}")
+
+    def draw_drop(self) -> None:
+        """Takes a wish back, whosever it is."""
+        if self.desk.wishes:
+            job = self.rng.choice(list(self.desk.wishes))
+            self.say(self.drawn_session(job), f"drop {job}")
 
     def draw_use(self) -> None:
         """Lets a session use a job, mostly by the right key."""
@@ -139,8 +163,8 @@ class History:
             self.tally.expect(got == int(holds), job, "holds", holds, "of", resource, "and its sessions got", got)
 
 
-def try_history(tally: Tally, seed: int) -> None:
-    """Draws a history, and compares the desk with one that replays it, and with those that were made of snapshots."""
+def try_history(tally: Tally, seed: int) -> set[str]:
+    """Draws a history, and returns the codes that were refused. Compares the desk with one that replays it, and with those that were made of snapshots."""
     it = History(seed, tally)
     it.draw()
     it.compare_shares()
@@ -154,12 +178,14 @@ def try_history(tally: Tally, seed: int) -> None:
         it.desk.apply(f"D {it.desk.newest_mark} 0")
         tally.expect(False, "a desk goes on where other answers were given")
     it.desk.bank.close()
+    return {line.split(" ")[1] for done in it.done for line in done.answer if line.startswith("refused ")}
 
 
 def main() -> None:
-    tally = Tally()
+    tally, codes = Tally(), set[str]()
     for seed in range(int(sys.argv[2]) if len(sys.argv) > 2 else HISTORIES):
-        try_history(tally, seed)
+        codes |= try_history(tally, seed)
+    tally.expect(codes >= set(REFUSALS), "no history came to", *set(REFUSALS) - codes)
     tally.end("served_desk")
 
 
