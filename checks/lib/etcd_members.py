@@ -50,9 +50,10 @@ class Members:
         cluster = ",".join(f"e{number}={peer}" for number, peer in enumerate(self.peers))
         client, peer = f"{self.scheme}://{self.clients[at]}", self.peers[at]
         words = [
-            "etcd", "--name", f"e{at}", "--data-dir", f"{self.folder}/e{at}", "--listen-peer-urls", peer, "--initial-advertise-peer-urls",
-            peer, "--listen-client-urls", client, "--advertise-client-urls", client, "--initial-cluster", cluster,
-            "--initial-cluster-state", "new", "--auto-compaction-mode", "revision", "--auto-compaction-retention", "1000", *self.words,
+            "etcd", "--name", f"e{at}", "--data-dir", f"{self.folder}/e{at}", "--listen-peer-urls", peer,
+            "--initial-advertise-peer-urls", peer, "--listen-client-urls", client, "--advertise-client-urls", client,
+            "--initial-cluster", cluster, "--initial-cluster-state", "new", "--auto-compaction-mode", "revision",
+            "--auto-compaction-retention", "1000", *self.words,
         ]
         with open(self.folder / f"e{at}.log", "ab") as log:
             self.processes[at] = subprocess.Popen(words, stdin=subprocess.DEVNULL, stdout=log, stderr=log)

@@ -222,17 +222,21 @@ def try_uses(tally: Tally, served: Served) -> None:
         for wire in (user, other):
             wire.say("session 600")
         for wire, line, wanted in (
-            (user, f"1 use a {key}", ""), (user, "2 ask a 1 tape", "granted a 1 tape"), (user, "3 give a 2 tape", "refused S12"),
-            (owner, "3 give a 2 tape", "refused S12"), (user, "4 leave a", "refused S3"), (user, "5 claim a 1 tape", "refused S3"),
-            (other, "1 claim a 9 tape", "refused S3"), (other, "2 give a 1 tape", "refused S3"), (owner, "4 give a 3 tape", "refused B11"),
-            (other, "3 job b 1 tape", ""), (other, "4 ask b 1 tape", "granted b 1 tape"), (user, "6 want a 1 disk, 1 tape", "queued"),
-            (owner, "5 drop a", "refused S13"), (other, "5 drop a", "refused S3"), (user, "7 drop a", ""), (user, "8 drop a", "refused B13"),
-            (user, "9 want a 1 disk, 1 tape", "queued"), (other, "6 leave b", "granted a 1 disk, 1 tape"),
-            (owner, "6 give a 1 disk", "refused S12"), (owner, "7 give a 1 tape", ""), (user, "10 give a 2 tape", ""),
+            (user, f"1 use a {key}", ""), (user, "2 ask a 1 tape", "granted a 1 tape"),
+            (user, "3 give a 2 tape", "refused S12"), (owner, "3 give a 2 tape", "refused S12"),
+            (user, "4 leave a", "refused S3"), (user, "5 claim a 1 tape", "refused S3"),
+            (other, "1 claim a 9 tape", "refused S3"), (other, "2 give a 1 tape", "refused S3"),
+            (owner, "4 give a 3 tape", "refused B11"), (other, "3 job b 1 tape", ""),
+            (other, "4 ask b 1 tape", "granted b 1 tape"), (user, "6 want a 1 disk, 1 tape", "queued"),
+            (owner, "5 drop a", "refused S13"), (other, "5 drop a", "refused S3"), (user, "7 drop a", ""),
+            (user, "8 drop a", "refused B13"), (user, "9 want a 1 disk, 1 tape", "queued"),
+            (other, "6 leave b", "granted a 1 disk, 1 tape"), (owner, "6 give a 1 disk", "refused S12"),
+            (owner, "7 give a 1 tape", ""), (user, "10 give a 2 tape", ""),
         ):
             told = wire.say(line)
             before = f"{line.split(' ')[0]} {wanted}"
-            tally.expect(bool(wanted) and told[0].startswith(before) if told else not wanted, line, "is answered", told, "and not", wanted)
+            is_right = bool(wanted) and told[0].startswith(before) if told else not wanted
+            tally.expect(is_right, line, "is answered", told, "and not", wanted)
         tally.expect("job a disk claim 2 holds 1 needs 1" in user.say("state"), "what a session got by a wish is lost")
         owner.say("end")
         wanted = ["notice 1 granted a 1 disk, 1 tape", "notice 2 left a"]

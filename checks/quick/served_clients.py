@@ -41,7 +41,8 @@ OBJECTS: tuple[tuple[str, object], ...] = (
     ('{"id":7,"do":"order"}', {"order": ["a", "b"]}), ('{"id":8,"do":"order","jobs":["a","b"]}', {"finishes": True}),
     ('{"id":9,"do":"give","job":"a","amounts":{"tape":1}}', {"granted": [{"job": "b", "amounts": {"tape": 3}}]}),
     ('{"id":10,"do":"give","job":"a","amounts":{"tape":1}}', {"refused": "B11", "why": "the job does not hold as much: tape"}),
-    ('{"id":11,"do":"leave","job":"b"}', {"ok": True}), ('{"id":12,"do":"drop","job":"b"}', {"refused": "B5", "why": "no such job: b"}),
+    ('{"id":11,"do":"leave","job":"b"}', {"ok": True}),
+    ('{"id":12,"do":"drop","job":"b"}', {"refused": "B5", "why": "no such job: b"}),
     ('{"id":13,"do":"frob"}', {"refused": "B1", "why": "not a command"}), ('[1]', {"refused": "B1", "why": "not a command"}),
     ('{"id":14,"do":"ask","job":"a b","amounts":{}}', {"refused": "B1", "why": "not a command"}),
     ('{"id":15,"do":"ask","job":"a","amounts":{"tape":true}}', {"refused": "B1", "why": "not a command"}),
@@ -165,7 +166,10 @@ def try_json(tally: Tally, served: Served) -> None:
 
 def try_terminal(tally: Tally, script: str, served: Served) -> None:
     """Gives the same commands to `bank` and to `bank --connect`, with a kill of the server between two of them."""
-    text = "# none\n\njob a 2 tape\nask a 1 tape\nwhy a 2 tape\nfrob\nsession 60\njob b 3 tape\nwant b 3 tape\ngive a 1 tape\nstate\norder\ndrop b"
+    text = "\n".join((
+        "# none", "", "job a 2 tape", "ask a 1 tape", "why a 2 tape", "frob", "session 60", "job b 3 tape", "want b 3 tape",
+        "give a 1 tape", "state", "order", "drop b",
+    ))
     capital = "".join(f"resource {name} {amount}\n" for name, amount in CAPITAL.items())
     ran = subprocess.run([program(["bank"]), "bank"], input=(capital + text).encode(), capture_output=True, check=True)
     wanted = ran.stdout.decode().split("\n")[len(CAPITAL) :]
@@ -178,7 +182,10 @@ def try_terminal(tally: Tally, script: str, served: Served) -> None:
         first = [it.stdout.readline() for _ in range(3)]
         served.end(signal.SIGKILL)
         served.start()
-        rest = it.communicate(b"".join(lines[4:])[:-1], WATCHDOG)[0]
+        try:
+            rest = it.communicate(b"".join(lines[4:])[:-1], WATCHDOG)[0]
+        finally:
+            it.kill()
         told = (b"".join(first) + rest).decode().split("\n")
         notices = [line for line in told if line.startswith("notice")]
         tally.expect([line for line in told if line not in notices] == wanted, "--connect answers otherwise", told, wanted)

@@ -43,9 +43,8 @@ def new_desk() -> Desk:
 def seen(desk: Desk) -> tuple[object, ...]:
     """Returns all that later answers of a desk depend on."""
     bank = desk.bank.say("state"), desk.bank.say("order")
-    return (
-        *bank, desk.sessions, desk.owners, desk.wishes, desk.slots, desk.had_job, desk.declared, desk.digest, desk.marks, desk.counts,
-    )
+    of_desk = desk.sessions, desk.owners, desk.wishes, desk.slots, desk.had_job, desk.declared, desk.digest, desk.marks, desk.counts
+    return *bank, *of_desk
 
 
 class History:
@@ -88,8 +87,8 @@ class History:
         for line in drawn_commands(self.rng, COMMANDS):
             self.say(self.drawn_session(line.split(" ")[1]), line)
             for share, step in (
-                (USES, self.draw_use), (REPETITIONS, self.repeat), (SNAPSHOTS, self.copy), (ENDS, self.end), (CAPITALS, self.draw_capital),
-                (CLAIMS, self.draw_claim), (GIVES, self.draw_give), (DROPS, self.draw_drop),
+                (USES, self.draw_use), (REPETITIONS, self.repeat), (SNAPSHOTS, self.copy), (ENDS, self.end),
+                (CAPITALS, self.draw_capital), (CLAIMS, self.draw_claim), (GIVES, self.draw_give), (DROPS, self.draw_drop),
             ):
                 if self.rng.random() < share:
                     step()
@@ -164,7 +163,10 @@ class History:
 
 
 def try_history(tally: Tally, seed: int) -> set[str]:
-    """Draws a history, and returns the codes that were refused. Compares the desk with one that replays it, and with those that were made of snapshots."""
+    """Draws a history, and compares the desk with one that replays it, and with those that were made of snapshots.
+
+    Returns the codes of what was refused.
+    """
     it = History(seed, tally)
     it.draw()
     it.compare_shares()

@@ -9,7 +9,7 @@ PROGRAM is the one that ./parbegin has built if none is given; all parts are tri
                 of checks/lib/bank_model.py, and each answer that a client got has to be the one that comes of it
     snapshots   the same with a snapshot at each few batches, and leaders that are ended
     paused      a leader is paused, another one leads, and the old one goes on with requests in its sockets: it answers none
-    behind      a follower that is behind a snapshot when it is elected does not lead from where it is
+    missed      a follower that has missed a snapshot when it is elected does not lead from where it is
     secured     etcd wants TLS and a password
 
 In each, what clients surely held at each moment is added up, and has to be within the capital; and each client compares what
@@ -47,7 +47,7 @@ from script.serving.etcd import EtcdLog, Where  # noqa: E402
 from script.serving.gateway import Access  # noqa: E402
 
 CLIENTS, ROUNDS, SERVERS, LEASE = 8, 10, 3, 2
-PARTS = ("history", "snapshots", "paused", "behind", "secured")
+PARTS = ("history", "snapshots", "paused", "missed", "secured")
 # Answers that have to come between two things that go wrong, so that the clients have found their way.
 BETWEEN = 40
 KINDS = ("kill", "pause", "kill-member", "pause-member")
@@ -238,10 +238,10 @@ def try_paused(tally: Tally, fleet: Fleet) -> None:
             answer_of(it, "state")
 
 
-async def behind(members: Members) -> tuple[int, list[str]]:
+async def missed(members: Members) -> tuple[int, list[str]]:
     """Lets one follower miss a snapshot, and elects it. Returns where it leads from, and what it has."""
     got: dict[str, list[str]] = {"a": [], "b": []}
-    logs = {name: EtcdLog(Where(Access(members.clients), "/behind", name, name, 10)) for name in got}
+    logs = {name: EtcdLog(Where(Access(members.clients), "/missed", name, name, 10)) for name in got}
 
     def restore(name: str, body: str | None) -> None:
         got[name][:] = body.split(",") if body else []
@@ -261,16 +261,17 @@ async def behind(members: Members) -> tuple[int, list[str]]:
     return sequence, got["b"]
 
 
-def try_behind(tally: Tally, members: Members) -> None:
-    """Elects a follower that is behind a snapshot."""
-    sequence, got = asyncio.run(behind(members))
+def try_missed(tally: Tally, members: Members) -> None:
+    """Elects a follower that has missed a snapshot."""
+    sequence, got = asyncio.run(missed(members))
     tally.expect(sequence == 5 and got == [f"x{number}" for number in range(1, 6)], "a follower leads from", sequence, got)
 
 
 def etcdctl(members: Members, folder: pathlib.Path, *words: str) -> None:
     """Calls etcdctl over TLS."""
     where = {**os.environ, "ETCDCTL_API": "3"}
-    front = ["etcdctl", "--cacert", f"{folder}/cert", "--endpoints", f"https://{members.clients[0].replace('127.0.0.1', 'localhost')}"]
+    member = members.clients[0].replace("127.0.0.1", "localhost")
+    front = ["etcdctl", "--cacert", f"{folder}/cert", "--endpoints", f"https://{member}"]
     subprocess.run([*front, *words], env=where, check=True, stdout=subprocess.DEVNULL)
 
 
@@ -282,11 +283,13 @@ def try_secured(tally: Tally, start: Sequence[str], folder: pathlib.Path) -> Non
     try:
         for words in (("user", "add", "root:right"), ("user", "grant-role", "root", "root"), ("auth", "enable")):
             etcdctl(members, folder, *words)
-        where = ["--etcd", members.addresses().replace("127.0.0.1", "localhost"), "--etcd-ca", f"{folder}/cert", "--capital", AMOUNTS]
+        address = members.addresses().replace("127.0.0.1", "localhost")
+        where = ["--etcd", address, "--etcd-ca", f"{folder}/cert", "--capital", AMOUNTS]
         words = [*start, *where, "--advertise", "here", "--etcd-user", "root", "--etcd-password", f"{folder}/password"]
         (folder / "password").write_text("wrong\n")
         ran = subprocess.run([*words, "--socket", f"{folder}/socket"], capture_output=True, timeout=PATIENCE, check=False)
-        tally.expect(ran.returncode == DEVICE and b"authentication failed" in ran.stderr, "a wrong password", ran.returncode, ran.stderr)
+        is_refused = ran.returncode == DEVICE and b"authentication failed" in ran.stderr
+        tally.expect(is_refused, "a wrong password", ran.returncode, ran.stderr)
         (folder / "password").write_text("right\n")
         with subprocess.Popen([*words, "--socket", f"{folder}/socket"]) as served:
             try:
@@ -306,8 +309,8 @@ def try_fleet(tally: Tally, start: Sequence[str], folder: pathlib.Path, part: st
     members.start_all()
     fleet = Fleet(start, members, folder, "--snapshot-every", "20" if part == "snapshots" else "1000000")
     try:
-        if part == "behind":
-            try_behind(tally, members)
+        if part == "missed":
+            try_missed(tally, members)
             return
         fleet.start_all()
         if part == "paused":

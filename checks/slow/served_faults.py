@@ -93,9 +93,9 @@ FAULTS = (
     Fault("reads of a leader that was paused are answered", f"{ETCD} paused", [
         ("etcd", "return bool(self.term) and now() < self.deadline", "return bool(self.term)"),
     ]),
-    Fault("a follower leads from where it is", f"{ETCD} behind", [
+    Fault("a follower leads from where it is", f"{ETCD} missed", [
         ("etcd", "        if self.sequence != last:\n            await self.load(restore, replay)\n        if self.sequence != last:", "        if False:"),
-        ("etcd", '{**it, "target": "VALUE", "value": encoded(str(sequence))} if sequence else', "self.fence() if True else"),
+        ("etcd", "        if not sequence:\n", "        if True:\n            return self.fence()\n        if not sequence:\n"),
     ]),
 )
 

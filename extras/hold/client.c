@@ -261,7 +261,8 @@ static void take_line(struct client *client, const char *line) {
 
 /* Reads what has come, and takes its lines. */
 static void read_lines(struct client *client) {
-    ssize_t got = recv(client->socket, client->unread + client->unread_size, sizeof client->unread - 1 - client->unread_size, 0);
+    size_t room = sizeof client->unread - 1 - client->unread_size;
+    ssize_t got = recv(client->socket, client->unread + client->unread_size, room, 0);
     if (got <= 0) {
         snprintf(client->fault, sizeof client->fault, "no server answers at %s: it has gone", client->servers[0]);
         drop_server(client, "");
@@ -301,7 +302,10 @@ static double earlier(double one, double other) {
 /* Takes a signal, if one has come while the client waits for a grant: it stops that. */
 static void take_signal(struct client *client) {
     struct signalfd_siginfo came;
-    if (!client->is_running && client->condition == WELL && read(client->signals, &came, sizeof came) == (ssize_t)sizeof came && came.ssi_signo != SIGCHLD) {
+    if (client->is_running || client->condition != WELL || read(client->signals, &came, sizeof came) != (ssize_t)sizeof came) {
+        return;
+    }
+    if (came.ssi_signo != SIGCHLD) {
         client->condition = STOPPED;
         client->stopped_by = (int)came.ssi_signo;
     }

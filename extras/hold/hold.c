@@ -148,8 +148,8 @@ static bool wait_for_grant(struct client *client, const struct options *options,
 }
 
 /* Joins. Returns whether the job is there, and says whether that was at the first try. */
-static bool join(
-    struct client *client, const struct options *options, double end, const char *line, struct request *first, bool *is_at_once) {
+static bool join(struct client *client, const struct options *options, double end, const char *line, struct request *first,
+    bool *is_at_once) {
     const char *joined = client_answer(client, first, end);
     /* (its own name it may wait for, if an attempt before took it in vain) */
     while (joined != NULL && (starts(joined, "refused B9 ") || (starts(joined, "refused B7 ") && options->name[0] == '\0'))) {
@@ -189,7 +189,8 @@ bool obtain(struct client *client, const struct options *options, char *fence, s
     double end = options->timeout < 0 ? 0 : now() + options->timeout, patience = options->is_patient ? end : now() + PATIENCE;
     line_of_job(client, options, line);
     struct request *first = client_begin(client, "%s", line);
-    struct request *second = client_begin(client, "%s %s %s", options->is_patient ? "want" : "ask", client->job, options->amounts);
+    const char *verb = options->is_patient ? "want" : "ask";
+    struct request *second = client_begin(client, "%s %s %s", verb, client->job, options->amounts);
     struct request *third = client_begin(client, "fence");
     if (!join(client, options, patience, line, first, &is_at_once)) {
         return false;
@@ -202,7 +203,8 @@ bool obtain(struct client *client, const struct options *options, char *fence, s
     if (said == NULL || starts(said, "refused B12 ") || is_refused(client, said)) {
         return false;
     }
-    bool is_queued = starts(said, "queued"), is_granted = starts(said, "granted") || (is_queued && wait_for_grant(client, options, end));
+    bool is_queued = starts(said, "queued");
+    bool is_granted = starts(said, "granted") || (is_queued && wait_for_grant(client, options, end));
     if (is_granted && (is_queued || number == NULL)) {
         number = client_answer(client, client_begin(client, "fence"), 0);
     }

@@ -135,7 +135,8 @@ static void read_address(const char *text, char *address) {
         if (length + strlen(before) + 2 > MOST_ADDRESS) {
             refuse("'%s' is too long for an address", text);
         }
-        size += (size_t)snprintf(address + size, MOST_LINE - size, "%s%s%s%.*s", size ? "," : "", before, *before ? "/" : "", (int)length, at);
+        const char *comma = size > 0 ? "," : "", *slash = *before != '\0' ? "/" : "";
+        size += (size_t)snprintf(address + size, MOST_LINE - size, "%s%s%s%.*s", comma, before, slash, (int)length, at);
         at += length + (at[length] == ',');
     }
 }
@@ -146,7 +147,8 @@ static int option_of(const char *word, const char **value) {
     size_t length = sign != NULL ? (size_t)(sign - word) : strlen(word);
     *value = sign != NULL ? sign + 1 : NULL;
     for (int at = 0; at < OPTION_COUNT; at++) {
-        if (strlen(OPTIONS[at].name) == length && strncmp(word, OPTIONS[at].name, length) == 0 && (sign == NULL || OPTIONS[at].has_value)) {
+        bool is_named = strlen(OPTIONS[at].name) == length && strncmp(word, OPTIONS[at].name, length) == 0;
+        if (is_named && (sign == NULL || OPTIONS[at].has_value)) {
             return at;
         }
     }

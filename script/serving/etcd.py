@@ -187,7 +187,7 @@ class EtcdLog:
         return True
 
     async def take_over(self, restore: Restore, replay: Replay) -> None:
-        """Carries out all that leaders before have written. Only the head tells how far that goes: snapshots take batches away."""
+        """Carries out what leaders before have written. The head alone tells how far it goes: snapshots take batches away."""
         found, _ = await self.read("head")
         last = int(decoded(found[0]["value"])) if found else 0
         with suppress(Lost):
@@ -216,7 +216,9 @@ class EtcdLog:
     def is_head(self, sequence: int) -> dict[str, str]:
         """Returns the condition that the last batch is this one."""
         it = {"key": encoded(self.key("head")), "result": "EQUAL"}
-        return {**it, "target": "VALUE", "value": encoded(str(sequence))} if sequence else {**it, "target": "VERSION", "version": "0"}
+        if not sequence:
+            return {**it, "target": "VERSION", "version": "0"}
+        return {**it, "target": "VALUE", "value": encoded(str(sequence))}
 
     async def surely(self, body: dict[str, Any]) -> dict[str, Any]:
         """Makes a transaction, again and again as long as this process leads. Raises Lost if it does no more."""
@@ -233,7 +235,8 @@ class EtcdLog:
         said = await self.surely({
             "compare": [self.fence(), self.is_head(self.sequence)],
             "success": [
-                {"request_put": {"key": key, "value": encoded(value)}}, {"request_put": {"key": head, "value": encoded(str(sequence))}},
+                {"request_put": {"key": key, "value": encoded(value)}},
+                {"request_put": {"key": head, "value": encoded(str(sequence))}},
             ],
             "failure": [{"request_range": {"key": leader}}, {"request_range": {"key": key}}],
         })

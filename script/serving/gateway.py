@@ -91,15 +91,16 @@ class Gateway:
         """Sends a call."""
         given = json.dumps(body).encode()
         token = f"Authorization: {self.token}\r\n" if self.token else ""
-        head = f"POST /v3/{path} HTTP/1.1\r\nHost: etcd\r\n{token}Content-Type: application/json\r\nContent-Length: {len(given)}\r\n\r\n"
-        writer.write(head.encode() + given)
+        fields = f"Host: etcd\r\n{token}Content-Type: application/json\r\nContent-Length: {len(given)}\r\n"
+        writer.write(f"POST /v3/{path} HTTP/1.1\r\n{fields}\r\n".encode() + given)
         await writer.drain()
 
     @staticmethod
     async def read_head(reader: asyncio.StreamReader) -> tuple[int, dict[str, str]]:
         """Reads the status of an answer and its fields."""
         first, *rest = (await reader.readuntil(b"\r\n\r\n")).decode("latin-1").split("\r\n")
-        return int(first.split(" ")[1] if " " in first else "none"), dict(line.lower().split(": ", 1) for line in rest if ": " in line)
+        fields = dict(line.lower().split(": ", 1) for line in rest if ": " in line)
+        return int(first.split(" ")[1] if " " in first else "none"), fields
 
     async def once(self, path: str, body: dict[str, Any]) -> dict[str, Any]:
         """Makes a call over one member, and returns its answer."""

@@ -87,8 +87,10 @@ def one_line(line: str) -> dict[str, Any]:
     verb, *words = line.split(" ")
     if verb == "refused":
         return {"refused": words[0], "why": " ".join(words[1:])}
+    if verb == "wait" and words[0] == "rest":
+        return {"wait": "rest", "jobs": words[1:]}
     if verb == "wait":
-        return {"wait": "rest", "jobs": words[1:]} if words[0] == "rest" else {"wait": "cash", "resource": words[1], "cash": int(words[2])}
+        return {"wait": "cash", "resource": words[1], "cash": int(words[2])}
     if verb == "over":
         return {"over": "claim", "resource": words[1]}
     if verb == "session":
