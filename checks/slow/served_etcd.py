@@ -9,6 +9,7 @@ PROGRAM is the one that ./parbegin has built if none is given; all parts are tri
                 of checks/lib/bank_model.py, and each answer that a client got has to be the one that comes of it
     snapshots   the same with a snapshot at each few batches, and leaders that are ended
     paused      a leader is paused, another one leads, and the old one goes on with requests in its sockets: it answers none
+    holds       `hold`, in both of its forms, finds the leader, and goes on when that is killed
     missed      a follower that has missed a snapshot when it is elected does not lead from where it is
     secured     etcd wants TLS and a password
 
@@ -47,7 +48,7 @@ from script.serving.etcd import EtcdLog, Where  # noqa: E402
 from script.serving.gateway import Access  # noqa: E402
 
 CLIENTS, ROUNDS, SERVERS, LEASE = 8, 10, 3, 2
-PARTS = ("history", "snapshots", "paused", "missed", "secured")
+PARTS = ("history", "snapshots", "paused", "holds", "missed", "secured")
 # Answers that have to come between two things that go wrong, so that the clients have found their way.
 BETWEEN = 40
 KINDS = ("kill", "pause", "kill-member", "pause-member")
@@ -238,6 +239,26 @@ def try_paused(tally: Tally, fleet: Fleet) -> None:
             answer_of(it, "state")
 
 
+def try_hold(tally: Tally, fleet: Fleet, call: Sequence[str]) -> None:
+    """Lets one form of `hold` begin at a follower, and kills the leader while its command runs."""
+    wait_for(lambda: fleet.leader() is not None)
+    leads = fleet.leader()
+    assert leads is not None
+    # (the leader is told by the follower)
+    where = {**os.environ, "PARBEGIN_SOCKET": f"{fleet.address((leads + 1) % SERVERS)},{fleet.address((leads + 2) % SERVERS)}"}
+    words = [*call, "--lease", "600", "--name", "lasting", "1 tape", "--", "sh", "-c", "echo held; read line; echo $line"]
+    with subprocess.Popen(words, env=where, stdin=subprocess.PIPE, stdout=subprocess.PIPE) as it:
+        assert it.stdin is not None and it.stdout is not None
+        tally.expect(it.stdout.readline() == b"held\n", *call, "finds no leader")
+        fleet.end(leads, signal.SIGKILL)
+        fleet.start(leads)
+        wait_for(lambda: fleet.leader() is not None)
+        told, _ = it.communicate(b"ends\n", PATIENCE)
+        tally.expect(told == b"ends\n" and it.returncode == DONE, *call, "over a kill of the leader", told, it.returncode)
+    with RemoteBank(fleet.addresses(), patience=PATIENCE) as bank:
+        wait_for(lambda: not any(line.startswith("job lasting ") for line in bank.state()))
+
+
 async def missed(members: Members) -> tuple[int, list[str]]:
     """Lets one follower miss a snapshot, and elects it. Returns where it leads from, and what it has."""
     got: dict[str, list[str]] = {"a": [], "b": []}
@@ -315,6 +336,9 @@ def try_fleet(tally: Tally, start: Sequence[str], folder: pathlib.Path, part: st
         fleet.start_all()
         if part == "paused":
             try_paused(tally, fleet)
+        elif part == "holds":
+            for form in ([start[0], "hold"], [str(pathlib.Path(start[0]).with_name("parbegin-hold"))]):
+                try_hold(tally, fleet, form)
         else:
             try_storm(tally, fleet, members, part, rounds, seed)
         leads = fleet.leader()
@@ -334,6 +358,7 @@ def main() -> None:
     with tempfile.TemporaryDirectory(prefix="parbegin-etcd-") as name:
         folder = pathlib.Path(name)
         start = [installed(folder / "installed"), "serve"]
+        subprocess.run([TOP / "extras/hold/build.sh", pathlib.Path(start[0]).with_name("parbegin-hold")], check=True)
         for part in PARTS:
             (folder / part).mkdir()
             if part in parts and part != "secured":

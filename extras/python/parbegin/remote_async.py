@@ -117,7 +117,7 @@ class AsyncRemoteBank:
         self._granted: dict[str, int] = {}
         self._left: dict[str, int] = {}
         self._before: dict[str, int] = {}
-        self._told = asyncio.Event()
+        self._told: asyncio.Event
         self._ended = ""
         self._keeper: asyncio.Future[None] | None = None
 
@@ -125,7 +125,8 @@ class AsyncRemoteBank:
 
     async def open(self) -> None:
         """Begins the session. Raises Fault if no server answers in time."""
-        end = time.monotonic() + self._patience
+        # (in the loop that is to wait for it)
+        self._told, end = asyncio.Event(), time.monotonic() + self._patience
         while True:
             try:
                 await self._connect()
