@@ -136,7 +136,12 @@ static bool wait_for_grant(struct client *client, const struct options *options,
         if (end != 0 && now() >= end && !client->is_granted && client->condition == WELL) {
             /* (that is refused if the grant came at the last moment) */
             const char *answer = client_answer(client, client_begin(client, "drop %s", client->job), now() + PATIENCE);
-            return answer != NULL && starts(answer, "refused");
+            if (answer == NULL || starts(answer, "refused B13 ") || starts(answer, "refused S13 ")) {
+                return answer != NULL;
+            }
+            /* (the job may have left) */
+            is_refused(client, answer);
+            return false;
         }
         double until = now() + (is_shown ? LOOK : options->lease / 4.0);
         until = end != 0 && end < until ? end : until;

@@ -27,6 +27,8 @@ WATCHED = (signal.SIGCHLD, *STOPS)
 PR_SET_PDEATHSIG = 1
 # Seconds between two tries to join, to wish, and two looks at why it waits.
 JOIN, WISH, LOOK = 0.3, 0.1, 0.5
+# The refusals of `drop` of a wish that was granted: none waits, or that of another part of the job.
+LATE = ("refused B13", "refused S13")
 # When a command is ended since the bank cannot be reached: shares of the lease that are left.
 END_AT, KILL_AT = 0.3, 0.1
 
@@ -152,11 +154,18 @@ class Hold:
                 self.client.beat()
             if self.end is not None and now() >= self.end and self.job not in self.client.granted:
                 # (that is refused if the grant came at the last moment)
-                return bool(self.client.tell(f"drop {self.job}"))
+                return self.is_granted_late(self.client.tell(f"drop {self.job}"))
             if self.job not in self.client.granted:
                 most = LOOK if self.shown.is_wanted else self.options.lease / 4
                 self.client.wait(most if self.end is None else min(most, self.end - now()))
         return True
+
+    @staticmethod
+    def is_granted_late(dropped: list[str]) -> bool:
+        """Returns whether a wish could not be taken back since it was granted. Raises Fault if the job has left."""
+        if dropped and not dropped[0].startswith(LATE):
+            raise Fault(dropped[0])
+        return bool(dropped)
 
     def run(self, fence: str) -> int:
         """Runs the command, and passes signals on. It is ended before the lease is, if the bank cannot be reached."""

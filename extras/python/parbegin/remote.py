@@ -14,6 +14,8 @@ from .answers import CLOSED, Answer, Ended, Fault
 Amounts = Mapping[str, int]
 # By the first word of the answer to a request.
 TOLD = {"granted": Answer.GRANTED, "queued": Answer.NOT_NOW, "wait": Answer.NOT_NOW, "over": Answer.OVER_CLAIM}
+# The refusals of `drop` of a wish that was granted: none waits, or that of another session.
+LATE = ("refused B13", "refused S13")
 # Seconds between two tries to reach a server, in which a request wants an answer, and between two looks at that.
 PAUSE, SILENCE, LOOK = 0.1, 5.0, 1.0
 
@@ -266,7 +268,7 @@ class RemoteBank:
             self.drop(job)
         except Fault as why:
             # (it was granted at the last moment)
-            if str(why).startswith("refused B13"):
+            if str(why).startswith(LATE):
                 return True
             raise
         return False

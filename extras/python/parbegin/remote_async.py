@@ -9,7 +9,7 @@ from collections.abc import AsyncIterator
 
 from ._wire import Addresses, Elsewhere, Lost, host_and_port, is_of_unix, words_of
 from .answers import CLOSED, Answer, Ended, Fault
-from .remote import LOOK, PAUSE, SILENCE, TOLD, Amounts, NamedReason, named_reason, spell
+from .remote import LATE, LOOK, PAUSE, SILENCE, TOLD, Amounts, NamedReason, named_reason, spell
 
 # Seconds for a greeting, and the most bytes of what is read at once.
 GREETING, PIECE = 3.0, 65_536
@@ -334,7 +334,7 @@ class AsyncRemoteBank:
         try:
             await self.drop(job)
         except Fault as why:
-            if str(why).startswith("refused B13"):
+            if str(why).startswith(LATE):
                 return True
             raise
         return False
