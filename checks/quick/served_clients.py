@@ -1,5 +1,5 @@
 #!/usr/bin/env python3
-"""Calls a served bank from the Python package, by JSON and by `bank --connect`, over kills of the server.
+"""Calls a served bank from Python and Rust, by JSON and by `bank --connect`, over kills of the server.
 
     checks/quick/served_clients.py [PROGRAM [PART ..]]     PROGRAM is the one that ./parbegin has built if none is given
 
@@ -11,6 +11,7 @@ from __future__ import annotations
 import asyncio
 import json
 import pathlib
+import shutil
 import signal
 import subprocess
 import sys
@@ -28,7 +29,7 @@ sys.path.insert(1, str(TOP / "extras/python"))
 
 from parbegin import Answer, AsyncRemoteBank, Ended, Fault, RemoteBank  # noqa: E402
 
-PARTS = ("remote", "async", "json", "terminal")
+PARTS = ("remote", "async", "json", "terminal", "rust")
 # Requests in JSON with what is answered; a number stands in both.
 OBJECTS: tuple[tuple[str, object], ...] = (
     ('{"id":1,"do":"session","lease":600}', None), ('{"id":1,"do":"job","job":"a","amounts":{"tape":2,"disk":1}}', {"ok": True}),
@@ -200,6 +201,29 @@ def try_terminal(tally: Tally, script: str, served: Served) -> None:
         tally.expect(told in late.stderr.decode(), "bank", *words, "says", late.stderr.decode())
 
 
+def try_rust(tally: Tally, folder: pathlib.Path, served: Served) -> None:
+    """Runs the example of the Rust client, if there is a compiler, with a kill of the server between two of its calls."""
+    if shutil.which("rustc") is None:
+        return
+    (folder / "rust").mkdir()
+    how = ["rustc", "--edition", "2024", "-D", "warnings"]
+    # (the client needs no library)
+    library = [*how, "--crate-name", "parbegin", "--crate-type", "rlib", "-o", "libparbegin.rlib", TOP / "extras/rust/src/remote.rs"]
+    subprocess.run(library, cwd=folder / "rust", check=True)
+    example = [*how, "--extern", "parbegin=libparbegin.rlib", "-o", "served", TOP / "extras/rust/examples/served.rs"]
+    subprocess.run(example, cwd=folder / "rust", check=True)
+    with subprocess.Popen([folder / "rust/served", served.socket], stdin=subprocess.PIPE, stdout=subprocess.PIPE) as it:
+        assert it.stdout is not None
+        try:
+            tally.expect(it.stdout.readline() == b"asked\n", "the client in Rust does not ask")
+            served.end(signal.SIGKILL)
+            served.start()
+            told = it.communicate(b"\n", WATCHDOG)[0]
+        finally:
+            it.kill()
+    tally.expect(told == b"refused B5 no such job: none\nended\n" and it.returncode == DONE, "the client in Rust", told, it.returncode)
+
+
 def main() -> None:
     tally, parts = Tally(), sys.argv[2:] or PARTS
     with tempfile.TemporaryDirectory(prefix="parbegin-clients-") as name:
@@ -210,6 +234,7 @@ def main() -> None:
         calls: dict[str, Callable[[], None]] = {
             "remote": lambda: try_remote(tally, served), "async": lambda: asyncio.run(try_tasks(tally, served)),
             "json": lambda: try_json(tally, served), "terminal": lambda: try_terminal(tally, script, served),
+            "rust": lambda: try_rust(tally, folder, served),
         }
         try:
             for part, call in calls.items():
