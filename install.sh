@@ -5,9 +5,10 @@
 #     ./install.sh PREFIX library       the library for C too, built first: libparbegin.a and libparbegin.so, parbegin.h,
 #                                       parbegin.pc, and the Python package
 #
-# All tools are built first if they have to be. PREFIX/bin/parbegin is the script, PREFIX/libexec/parbegin/parbegin-TOOL
-# each tool, PREFIX/libexec/parbegin/script what the script does, PREFIX/share/parbegin/page the template of `page`; the
-# manual page and the completions for bash and fish go to PREFIX/share. The script needs python3.
+# All tools are built first if they have to be. PREFIX/bin/parbegin is the script, PREFIX/bin/parbegin-hold is `hold` in C, if
+# there is a C compiler; PREFIX/libexec/parbegin/parbegin-TOOL each tool, PREFIX/libexec/parbegin/script what the script does,
+# PREFIX/share/parbegin/page the template of `page`; the manual page and the completions for bash and fish go to PREFIX/share.
+# The script needs python3.
 set -eu
 top=$(CDPATH= cd -- "$(dirname -- "$0")" && pwd)
 prefix=${1:-/usr/local}
@@ -29,6 +30,12 @@ for tool in bank run search debug edit; do
     put 755 "$top/crates/parbegin_$tool/out/parbegin_$tool" "$prefix/libexec/parbegin" "parbegin-$tool"
 done
 put 755 "$top/parbegin" "$prefix/bin" parbegin
+if command -v cc >/dev/null; then
+    hold=$(mktemp)
+    "$top/extras/hold/build.sh" "$hold"
+    put 755 "$hold" "$prefix/bin" parbegin-hold
+    rm -f "$hold"
+fi
 for module in "$top"/script/*.py; do
     put 644 "$module" "$prefix/libexec/parbegin/script" "${module##*/}"
 done

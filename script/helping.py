@@ -24,6 +24,11 @@ Further commands, each with a help of its own:
 
 `parbegin help words` says what words of textbooks, such as available, need and race, are called here.
 """
+BANK = """
+Of a bank that is served:
+      --connect <ADDRESS>  Answer the commands by the bank of `parbegin serve` at PATH, HOST:PORT or tls:HOST:PORT
+      --lease <SECONDS>    How long that one keeps what is lent if nothing is heard any more, 2 to 86400 [default: 30]
+"""
 CHECK = """
 Of files:
       --format <FORMAT>  How each refusal is told: text, gcc (FILE:LINE:COLUMN: error: ..), json (an object a line) or
@@ -118,7 +123,7 @@ def more_help(start: list[str], command: str | None) -> str:
     if command == "debug":
         told = ran_on(start, ["debug"], SESSION)[1].decode(errors="replace") if is_built(tool_of("debug")) else ""
         return DEBUG + told if told else ""
-    return {"check": CHECK, "dap": EDITORS, "lsp": EDITORS, "plan": PLAN, "run": RUN, None: FILES}.get(command, "")
+    return {"bank": BANK, "check": CHECK, "dap": EDITORS, "lsp": EDITORS, "plan": PLAN, "run": RUN, None: FILES}.get(command, "")
 
 
 def help_on_words(words: list[str]) -> str | None:

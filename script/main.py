@@ -196,6 +196,10 @@ def main(words: list[str]) -> int:
             from script.serving.hold import call
 
             return call(words[1:] if words[:1] == ["hold"] else ["--help"])
+        if words[:1] == ["bank"] and any(word.partition("=")[0] == "--connect" for word in words[1:]):
+            from script.serving.terminal import call as connect
+
+            return connect(words[1:])
         own = own_call(words)
         if own:
             return run_own(own)

@@ -31,7 +31,8 @@ Options:
 CONTENTS = (
     ("README.md", "share/doc/parbegin"), ("LICENSE", "share/doc/parbegin"), ("docs", "share/doc/parbegin"),
     ("examples", "share/doc/parbegin"), ("extras/vim/*", "share/vim/vimfiles"), ("extras/vscode", "share/parbegin"),
-    ("extras/README.md", "share/parbegin"), ("extras/systemd", "share/parbegin"),
+    ("extras/README.md", "share/parbegin"), ("extras/systemd", "share/parbegin"), ("extras/hold/*.[ch]", "share/parbegin/hold"),
+    ("extras/hold/build.sh", "share/parbegin/hold"),
     # (what docs/LIBRARY.md names)
     ("extras/library/*.c", "share/doc/parbegin/extras/library"), ("extras/library/*.stdout", "share/doc/parbegin/extras/library"),
     ("extras/python", "share/doc/parbegin/extras"), ("extras/rust", "share/doc/parbegin/extras"),

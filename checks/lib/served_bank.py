@@ -1,6 +1,7 @@
 """A served bank for checks: a server that is started and ended, a connection to it, and commands that are drawn."""
 from __future__ import annotations
 
+import hashlib
 import os
 import pathlib
 import random
@@ -9,7 +10,7 @@ import signal
 import socket
 import subprocess
 import time
-from collections.abc import Iterator, Sequence
+from collections.abc import Callable, Iterator, Sequence
 
 CAPITAL = {"tape": 3, "disk": 5, "gpu": 2}
 AMOUNTS = ", ".join(f"{amount} {name}" for name, amount in CAPITAL.items())
@@ -101,6 +102,33 @@ class Wire:
 
     def __exit__(self, *fault: object) -> None:
         self.close()
+
+
+def wait_for(condition: Callable[[], object]) -> None:
+    """Waits until something is so."""
+    end = time.monotonic() + PATIENCE
+    while not condition():
+        if time.monotonic() > end:
+            raise TimeoutError("it does not come to that")
+        time.sleep(0.05)
+
+
+def certified(folder: pathlib.Path) -> list[str]:
+    """Makes a certificate, and returns the options of a server that has it and lets one token in."""
+    kind = ["-newkey", "ec", "-pkeyopt", "ec_paramgen_curve:prime256v1", "-nodes"]
+    words = ["req", "-x509", *kind, "-days", "2", "-subj", "/CN=localhost"]
+    files = ["-keyout", f"{folder}/key", "-out", f"{folder}/cert", "-addext", "subjectAltName=DNS:localhost"]
+    subprocess.run(["openssl", *words, *files], stderr=subprocess.DEVNULL, check=True)
+    (folder / "tokens").write_text(f"{hashlib.sha256(b'right').hexdigest()}\n")
+    return ["--cert", f"{folder}/cert", "--key", f"{folder}/key", "--tokens", f"{folder}/tokens"]
+
+
+def free_port() -> int:
+    """Returns a port at which nobody answers."""
+    with socket.socket() as it:
+        it.bind(("localhost", 0))
+        port: int = it.getsockname()[1]
+    return port
 
 
 def drawn_amounts(rng: random.Random) -> str:

@@ -33,13 +33,16 @@ TASKS = {"TODO", "FIXME", "NOTE"}
 # What clap gives to every command, and what may come before a command.
 COMMON = {"help", "version", "unproved", "quiet", "json"}
 # Options that the script takes, and commands that it has, and the program does not know.
-OF_SCRIPT = {"check": {"format", "jobs"}, "plan": {"format", "table", "csv", "jobs"}, "run": {"seed", "lend"}}
+OF_SCRIPT = {
+    "bank": {"connect", "lease"}, "check": {"format", "jobs"}, "plan": {"format", "table", "csv", "jobs"}, "run": {"seed", "lend"},
+}
 COMMANDS_OF_SCRIPT = {
     "grade": {"any", "fair", "lend", "states", "jobs", "csv", "html"}, "page": {"seed", "lend", "from", "rows", "states"},
     "sample": {"runs", "seed", "lend", "steps", "events", "jobs"},
     "hold": {"socket", "claim", "name", "nowait", "timeout", "conflict", "lease", "verbose"},
     "serve": {
         "journal", "socket", "mode", "capital", "tcp", "cert", "key", "tokens", "http", "clients", "sessions", "snapshot",
+        "operators", "etcd", "advertise", "name", "prefix", "lead", "backup", "restore", "replay",
     },
 }
 BEFORE = {

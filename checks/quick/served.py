@@ -1,12 +1,10 @@
 #!/usr/bin/env python3
-"""Serves the bank, and compares what clients are told with what the bank says, before and after a kill.
+"""Serves the bank, and tries what the server itself does: lines, refusals, limits, operators, copies of its journal.
 
     checks/quick/served.py [PROGRAM [PART ..]]     PROGRAM is the one that ./parbegin has built if none is given
 
-Drawn commands of several sessions are given to the desk: what it answers has to be the same if its entries are replayed,
-if it is made anew of a snapshot, and if a request is repeated. Odd lines have to be answered as by the bank itself. Each
-refusal of the server is brought about, a killed server goes on where it was, two scripts that take tape and disk in
-opposite order have to end under `hold`, and its statuses are tried. All parts are tried if none is named. Its status is 0
+Odd lines have to be answered as by the bank itself. Each refusal of the server is brought about, what is shown over HTTP is
+compared with what the bank says, and a journal is copied and put back. All parts are tried if none is named. Its status is 0
 if all is as wanted, and 1 if not.
 """
 from __future__ import annotations
@@ -17,13 +15,10 @@ import os
 import pathlib
 import random
 import shutil
-import signal
 import socket
-import ssl
 import subprocess
 import sys
 import tempfile
-import threading
 import time
 import urllib.request
 from collections.abc import Callable, Sequence
@@ -31,104 +26,16 @@ from contextlib import suppress
 
 sys.path.insert(0, str(pathlib.Path(__file__).resolve().parents[1] / "lib"))
 
-from calls import DONE, TOP, WATCHDOG, WORDS, Tally, installed, program  # noqa: E402
-from served_bank import AMOUNTS, CAPITAL, Served, Wire, drawn_amounts, drawn_commands  # noqa: E402
-sys.path.insert(1, str(TOP / "extras/python"))
+from calls import DONE, FAULT, TOP, WATCHDOG, WORDS, Tally, installed, program  # noqa: E402
+from served_bank import AMOUNTS, CAPITAL, PATIENCE, Served, Wire, certified, drawn_amounts, free_port  # noqa: E402
 
-from parbegin import Answer, Ended, RemoteBank  # noqa: E402
 from script.serving.bank import BankProcess  # noqa: E402
-from script.serving.desk import Desk, Diverged  # noqa: E402
-from script.serving.snapshots import restored, snapshot  # noqa: E402
 from script.serving.words import KEPT, MAX_COMMAND, MAX_LINE  # noqa: E402
 
-HISTORIES, COMMANDS, LINES = 2, 300, 1500
-UNAVAILABLE, NOT_FOUND = 69, 127
-SESSIONS = (1, 2, 3)
-AT_SERVER = ("lines", "refusals", "statuses", "waits", "kill", "remote", "http", "words", "tls")
-PARTS = ("desk", *AT_SERVER, "limits", "activation", "opposite")
-SCRIPTS = sorted((TOP / "examples/11-serving").glob("*.sh"))
-
-
-def new_desk() -> Desk:
-    """Returns a desk over a bank of its own."""
-    return Desk(BankProcess([program(["bank"]), "bank"]))
-
-
-def seen(desk: Desk) -> tuple[object, ...]:
-    """Returns all that later answers of a desk depend on."""
-    bank = desk.bank.say("state"), desk.bank.say("order")
-    return *bank, desk.sessions, desk.owners, desk.wishes, desk.slots, desk.had_job, desk.digest, desk.marks, desk.counts
-
-
-class History:
-    """Entries that are drawn, with what a desk answered to each, and desks that were made of snapshots on the way."""
-
-    def __init__(self, seed: int) -> None:
-        self.rng, self.desk = random.Random(seed), new_desk()
-        self.entries: list[str] = []
-        self.answers: list[list[str]] = []
-        self.copies: list[tuple[int, Desk]] = []
-        self.numbers = dict.fromkeys(SESSIONS, 0)
-        self.done: list[tuple[int, int]] = []
-
-    def apply(self, entry: str) -> None:
-        self.entries.append(entry)
-        self.answers.append(self.desk.apply(entry).answer)
-
-    def draw(self, tally: Tally) -> None:
-        """Draws a history."""
-        for name, amount in CAPITAL.items():
-            self.apply(f"A resource {name} {amount}")
-        for line in drawn_commands(self.rng, COMMANDS):
-            self.send(self.rng.choice(SESSIONS), line)
-            if self.done and self.rng.random() < 0.05:
-                self.repeat(tally)
-            if self.rng.random() < 0.02 and len(self.copies) < 4:
-                self.copies.append((len(self.entries), restored(new_desk().bank, snapshot(self.desk))))
-            if self.rng.random() < 0.01:
-                self.apply(f"E {self.rng.choice(SESSIONS)}")
-
-    def send(self, sid: int, line: str) -> None:
-        """Sends a command of a session, mostly of the one that owns the job."""
-        owner = self.desk.owners.get(line.split(" ")[1])
-        sid = owner if owner and self.rng.random() < 0.9 else sid
-        if sid not in self.desk.sessions:
-            self.numbers[sid] = 0
-            self.apply(f"O {sid} key{sid} 60")
-            self.done = [it for it in self.done if it[0] != sid]
-        if self.rng.random() < 0.05 and self.desk.owners:
-            job, other = self.rng.choice(list(self.desk.owners.items()))
-            line = f"use {job} key{other}"
-        self.numbers[sid] += 1
-        self.done.append((sid, len(self.entries)))
-        self.apply(f"C {sid} {self.numbers[sid]} {line}")
-
-    def repeat(self, tally: Tally) -> None:
-        """Sends a request once more, whose answer is still kept: it has to be the same, and nothing may change."""
-        sid, at = self.rng.choice(self.done)
-        number = int(self.entries[at].split(" ")[2])
-        if sid in self.desk.sessions and self.numbers[sid] - number < KEPT:
-            before = self.desk.bank.say("state")
-            self.apply(self.entries[at])
-            tally.expect(self.answers[-1] == self.answers[at], "a repetition has another answer", self.entries[at])
-            tally.expect(self.desk.bank.say("state") == before, "a repetition changes the bank", self.entries[at])
-
-
-def try_desk(tally: Tally) -> None:
-    """Compares a desk with one that replays its entries, and with those that were made of snapshots."""
-    for seed in range(HISTORIES):
-        it = History(seed)
-        it.draw(tally)
-        tally.expect(len(it.copies) > 0, "no snapshot was taken")
-        for at, copy in [(0, new_desk()), *it.copies]:
-            later = [copy.apply(entry).answer for entry in it.entries[at:]]
-            tally.expect(later == it.answers[at:], "history", seed, "from entry", at, "has other answers")
-            tally.expect(seen(copy) == seen(it.desk), "history", seed, "from entry", at, "leads to another desk")
-            copy.bank.close()
-        with suppress(Diverged):
-            it.desk.apply(f"D {it.desk.newest_mark} 0")
-            tally.expect(False, "a desk goes on where other answers were given")
-        it.desk.bank.close()
+LINES = 1500
+AT_SERVER = ("lines", "refusals", "uses", "operators", "http", "words", "copies")
+PARTS = (*AT_SERVER, "limits", "activation", "units")
+OPERATOR = "operator"
 
 
 def odd_line(rng: random.Random) -> str:
@@ -200,6 +107,28 @@ def try_refusals(tally: Tally, served: Served) -> None:
         tally.expect(it.line() == "", "a connection goes on after a line that is too long")
 
 
+def last_words(wire: Wire) -> str:
+    """Asks much, and reads the answers later and later, until the server cuts off who does not read. Returns its last line."""
+    count, pause = 600, 0.5
+    while pause < PATIENCE:
+        wire.socket.settimeout(pause)
+        with suppress(OSError):
+            wire.send(*["state"] * count)
+        time.sleep(pause)
+        wire.socket.settimeout(PATIENCE)
+        last, line = "", " "
+        with suppress(OSError):
+            # (after what may be the first part of a line)
+            wire.send("", "7 beat")
+        with suppress(ConnectionError):
+            while line and not line.startswith("7 "):
+                last, line = line, wire.line()
+        if not line.startswith("7 "):
+            return line.strip() or last
+        pause *= 2
+    return "all was read in time"
+
+
 def try_limits(tally: Tally, script: str, folder: pathlib.Path) -> None:
     """Tries the limits on sessions, connections and unread answers, and what a client is told of them."""
     served = Served([script, "serve"], folder, "--clients", "4", "--sessions", "2")
@@ -212,12 +141,10 @@ def try_limits(tally: Tally, script: str, folder: pathlib.Path) -> None:
         with Wire(served.socket) as fourth, Wire(served.socket) as fifth:
             fourth.say("hello")
             tally.expect(code_of(fifth.answer()) == "S7" and fifth.line() == "", "there are more connections than allowed")
-        # (one that never reads is cut off, and others are answered meanwhile)
-        third.socket.settimeout(2)
-        with suppress(OSError):
-            for _ in range(200):
-                third.send(*["help"] * 200)
-        tally.expect(first.say("1 job a 1 tape") == [], "others wait for one that never reads")
+        for number in range(1, 61):
+            first.say(f"{number} job j{number} 1 tape")
+        tally.expect(last_words(third).startswith("refused S14"), "one that does not read is not told why it is cut off")
+        tally.expect(first.say("61 job a 1 tape") == [], "others wait for one that never reads")
     tally.expect(served.end() == DONE, "SIGTERM does not end a server with status 0")
 
 
@@ -239,183 +166,6 @@ def try_activation(tally: Tally, script: str, folder: pathlib.Path) -> None:
             finally:
                 served.terminate()
             tally.expect(told.recv(100) == b"STOPPING=1", "a server does not say that it ends")
-
-
-class Holds:
-    """Calls of `hold` at a served bank."""
-
-    def __init__(self, script: str, served: Served) -> None:
-        self.script, self.where = script, {**os.environ, "PARBEGIN_SOCKET": served.socket}
-
-    def words(self, *words: str) -> list[str]:
-        return [self.script, "hold", *words]
-
-    def run(self, *words: str) -> tuple[int, str]:
-        """Calls it, and returns its status with what it wrote on both."""
-        ran = subprocess.run(
-            self.words(*words), env=self.where, stdin=subprocess.DEVNULL, stdout=subprocess.PIPE, stderr=subprocess.STDOUT,
-            timeout=WATCHDOG, check=False,
-        )
-        return ran.returncode, ran.stdout.decode()
-
-    def start(self, *words: str) -> subprocess.Popen[bytes]:
-        return subprocess.Popen(self.words(*words), env=self.where, stdin=subprocess.DEVNULL, stdout=subprocess.PIPE)
-
-
-def try_statuses(tally: Tally, it: Holds) -> None:
-    """Tries the statuses of `hold`, with nobody else there."""
-    for words, status, told in (
-        (["1 tape", "--", "true"], DONE, ""),
-        (["1 tape", "--", "sh", "-c", "exit 7"], 7, ""),
-        (["1 tape", "--", "sh", "-c", "kill -TERM $$"], 128 + signal.SIGTERM, ""),
-        (["1 tape, 2 disk", "--", "echo", "--nowait"], DONE, "--nowait\n"),
-        (["2 tape", "--", it.script, "hold", "2 tape", "--", "true"], UNAVAILABLE, "does not allow as much of tape"),
-        (["2 tape", "--", it.script, "hold", "--name", "own", "1 tape", "--", "echo", "own"], DONE, "own\n"),
-        (["1 tape", "--", "/no/such"], NOT_FOUND, "there is no such command"),
-        (["9 tape", "--", "true"], UNAVAILABLE, "refused B10"),
-        (["--claim", "1 tape", "1 disk", "--", "true"], UNAVAILABLE, "does not allow as much of disk"),
-        (["--claim", "1 tape", "1 drum", "--", "true"], UNAVAILABLE, "refused B4"),
-        (["--socket", "/no/such", "--timeout", "0.1", "1 tape", "--", "true"], UNAVAILABLE, "no server answers"),
-        (["one tape", "--", "true"], WORDS, "is not a list of amounts"),
-        (["1 tape"], WORDS, "there is no '--'"),
-        (["--fly", "1 tape", "--", "true"], WORDS, "unexpected argument '--fly'"),
-        (["--help"], DONE, "Usage: parbegin hold"),
-    ):
-        got = it.run(*words)
-        tally.expect(got[0] == status and told in got[1], "hold", *words, "ends with", *got)
-    fences = [int(it.run("1 tape", "--", "sh", "-c", "echo $PARBEGIN_FENCE")[1]) for _ in range(3)]
-    tally.expect(sorted(set(fences)) == fences, "the fence does not rise", fences)
-
-
-def try_waits(tally: Tally, it: Holds, served: Served) -> None:
-    """Tries `hold` while another one holds all tapes: it waits, gives up, is stopped, and is granted at last."""
-    holder = it.start("3 tape", "--", "sh", "-c", "echo held; exec sleep 600")
-    assert holder.stdout is not None
-    holder.stdout.readline()
-    for words, status in (
-        (["-n", "1 tape", "--", "true"], 1), (["--nowait", "-E", "9", "1 tape", "--", "true"], 9),
-        (["-w", "0.2", "1 tape", "--", "true"], 1), (["--timeout=0.2", "-E", "0", "1 tape", "--", "false"], 0),
-    ):
-        got = it.run(*words)
-        tally.expect(got == (status, ""), "hold", *words, "ends with", *got)
-    said = it.run("-v", "--name", "second", "-w", "0.2", "1 tape", "--", "true")[1]
-    tally.expect("second waits for 1 tape: 0 of tape left" in said, "it does not say why it waits", said)
-    with Wire(served.socket) as wire:
-        stopped = it.start("1 tape", "--", "true")
-        wait_for(lambda: any(line.startswith("wish") for line in wire.say("state")))
-        stopped.terminate()
-        tally.expect(stopped.wait(WATCHDOG) == 128 + signal.SIGTERM, "a signal does not end a hold that waits")
-        tally.expect(not any(line.startswith("wish") for line in wire.say("state")), "a hold that was stopped leaves its wish")
-        waits = it.start("1 tape", "--", "echo", "granted")
-        wait_for(lambda: any(line.startswith("wish") for line in wire.say("state")))
-        holder.terminate()
-        tally.expect(holder.wait(WATCHDOG) == 128 + signal.SIGTERM, "a signal is not passed on")
-        tally.expect(waits.communicate(timeout=WATCHDOG)[0] == b"granted\n", "a hold that waited does not run")
-        tally.expect(not any(line.startswith("job") for line in wire.say("state")), "a hold leaves its job")
-
-
-def has_ended(pid: int) -> bool:
-    """Returns whether a process has ended, also if nobody has asked for its status."""
-    with suppress(OSError):
-        return ") Z " in pathlib.Path(f"/proc/{pid}/stat").read_text()
-    return True
-
-
-def wait_for(condition: Callable[[], object]) -> None:
-    """Waits until something is so."""
-    end = time.monotonic() + WATCHDOG
-    while not condition():
-        if time.monotonic() > end:
-            raise TimeoutError("it does not come to that")
-        time.sleep(0.05)
-
-
-def try_opposite(tally: Tally, script: str, folder: pathlib.Path) -> None:
-    """Starts the two scripts of the examples, which take a tape and a disk in opposite order: both have to end."""
-    served = Served([script, "serve"], folder, capital="1 tape, 1 disk")
-    served.start()
-    path = f"{pathlib.Path(script).parent}:{os.environ['PATH']}"
-    where = {**os.environ, "PATH": path, "PARBEGIN_SOCKET": served.socket}
-    try:
-        started = [subprocess.Popen([it], env=where, stdout=subprocess.PIPE) for it in SCRIPTS]
-        told = [it.communicate(timeout=WATCHDOG)[0].decode() for it in started]
-        wanted = [f"{it.stem} has both\n" for it in SCRIPTS]
-        tally.expect(told == wanted, "two scripts in opposite order do not both end", told)
-    finally:
-        served.kill()
-
-
-def try_kill(tally: Tally, it: Holds, served: Served) -> None:
-    """Kills the server while a hold runs and a client waits: both go on with the next one. Kills a hold: all comes back."""
-    holder = it.start("--lease", "60", "3 tape", "--", "sh", "-c", "echo held; read line; echo ended")
-    lasting = it.start("--lease", "60", "--name", "lasting", "2 gpu", "--", "sh", "-c", "echo held; exec sleep 600")
-    for hold in (holder, lasting):
-        assert hold.stdout is not None
-        hold.stdout.readline()
-    holder.wait(WATCHDOG)
-    with Wire(served.socket) as wire:
-        session = wire.say("session 600")[0].split(" ")
-        tally.expect(wire.say("1 job waits 2 gpu") == [] and wire.say("2 want waits 2 gpu") == ["2 queued"], "a wish does not wait")
-        before = wire.say("state")
-    served.end(signal.SIGKILL)
-    served.start()
-    with Wire(served.socket) as wire:
-        tally.expect(wire.say("state") == before, "a killed server forgets", before, wire.say("state"))
-        tally.expect(wire.say(f"attach {session[1]} {session[2]} 0") == ["attached 2"], "a session is lost")
-        tally.expect(wire.say("2 want waits 2 gpu") == ["2 queued"], "an answer is lost")
-        lasting.terminate()
-        tally.expect(lasting.wait(WATCHDOG) == 128 + signal.SIGTERM, "a hold ends with its server", lasting.returncode)
-        wait_for(lambda: wire.say("3 why waits 0 gpu") and wire.notices)
-        tally.expect(wire.notices == ["notice 1 granted waits 2 gpu"], "other notices came", wire.notices)
-    with Wire(served.socket) as wire:
-        wire.say(f"attach {session[1]} {session[2]} 0")
-        wire.say("hello")
-        tally.expect(wire.notices == ["notice 1 granted waits 2 gpu"], "a notice is not sent again")
-        wire.say("end")
-        killed = it.start("--lease", "2", "3 tape", "--", "sh", "-c", "echo $$; exec sleep 600")
-        assert killed.stdout is not None
-        pid = int(killed.stdout.readline())
-        killed.kill()
-        wait_for(lambda: not any(line.startswith("job") for line in wire.say("state")))
-        wait_for(lambda: has_ended(pid))
-        killed.communicate()
-
-
-def try_remote(tally: Tally, served: Served) -> None:
-    """Calls the Python client from several threads, kills the server meanwhile, and compares what it holds with `state`."""
-    with RemoteBank(served.socket, lease=60) as bank:
-        def work(name: str) -> None:
-            bank.join(name, CAPITAL)
-            for _ in range(6):
-                with bank.holding(name, {"tape": 2}):
-                    held.append(name)
-                    tally.expect(len(held) == 1, "two jobs hold more than there is", held)
-                    held.remove(name)
-            bank.leave(name)
-
-        held: list[str] = []
-        threads = [threading.Thread(target=work, args=(f"t{at}",)) for at in range(3)]
-        for thread in threads:
-            thread.start()
-        served.end(signal.SIGKILL)
-        served.start()
-        for thread in threads:
-            thread.join(WATCHDOG)
-        tally.expect(not any(thread.is_alive() for thread in threads), "a thread waits for ever")
-        tally.expect(not any(line.startswith(("job t", "wish")) for line in bank.state()), "a job is left", bank.state())
-        bank.join("a", {"tape": 1})
-        tally.expect(bank.ask("a", {"tape": 2}) is Answer.OVER_CLAIM, "more than the claim is granted")
-        tally.expect(bank.why("a", {"tape": 2}) == ("over claim", "tape", ()), "why", bank.why("a", {"tape": 2}))
-        tally.expect(bank.order() == ["a"] and bank.fence() < bank.fence() + 1, "order and fence", bank.order())
-        with RemoteBank(served.socket) as other:
-            other.join("b", {"tape": 3})
-            other.obtain("b", {"tape": 3})
-            tally.expect(not bank.obtain("a", {"tape": 1}, 0.1), "what another holds is granted")
-            tally.expect(bank.want("a", {"tape": 1}) is Answer.NOT_NOW, "want")
-        tally.expect(bank.wait("a", WATCHDOG), "what an ended session held does not come back")
-    with suppress(Ended):
-        bank.state()
-        tally.expect(False, "a closed bank answers")
 
 
 def get(address: str) -> str:
@@ -443,39 +193,6 @@ def try_http(tally: Tally, served: Served, address: str) -> None:
         tally.expect(ran.returncode == 0, "promtool", ran.stderr.decode())
 
 
-def certified(folder: pathlib.Path) -> list[str]:
-    """Makes a certificate, and returns the options of a server that has it and lets one token in."""
-    kind = ["-newkey", "ec", "-pkeyopt", "ec_paramgen_curve:prime256v1", "-nodes"]
-    words = ["req", "-x509", *kind, "-days", "2", "-subj", "/CN=localhost"]
-    files = ["-keyout", f"{folder}/key", "-out", f"{folder}/cert", "-addext", "subjectAltName=DNS:localhost"]
-    subprocess.run(["openssl", *words, *files], stderr=subprocess.DEVNULL, check=True)
-    (folder / "tokens").write_text(f"{hashlib.sha256(b'right').hexdigest()}\n")
-    return ["--cert", f"{folder}/cert", "--key", f"{folder}/key", "--tokens", f"{folder}/tokens"]
-
-
-def try_tls(tally: Tally, it: Holds, folder: pathlib.Path, port: int) -> None:
-    """Tries TLS with the right token, with another one and none, and TCP without TLS."""
-    it.where = {**it.where, "PARBEGIN_SOCKET": f"tls:localhost:{port}", "PARBEGIN_CA": f"{folder}/cert"}
-    for token, status, told in (("right", DONE, "in\n"), ("wrong", UNAVAILABLE, "refused S1"), ("", UNAVAILABLE, "refused S1")):
-        it.where["PARBEGIN_TOKEN"] = token
-        got = it.run("-w", "20", "1 tape", "--", "echo", "in")
-        tally.expect(got[0] == status and told in got[1], "with the token", repr(token), *got)
-    with socket.create_connection(("localhost", port), WATCHDOG) as plain, suppress(OSError):
-        plain.sendall(b"state\n")
-        tally.expect(b"resource" not in plain.recv(100), "TCP without TLS is answered")
-    with suppress(ssl.SSLError), socket.create_connection(("localhost", port), WATCHDOG) as it_:
-        ssl.create_default_context().wrap_socket(it_, server_hostname="localhost")
-        tally.expect(False, "a certificate of nobody is believed")
-
-
-def free_port() -> int:
-    """Returns a port at which nobody answers."""
-    with socket.socket() as it:
-        it.bind(("localhost", 0))
-        port: int = it.getsockname()[1]
-    return port
-
-
 def try_words(tally: Tally, script: str, served: Served) -> None:
     """Tries words of `serve` that are refused, and what a second server over the same journal is told."""
     journal = served.words[served.words.index("--journal") + 1]
@@ -496,21 +213,130 @@ def try_words(tally: Tally, script: str, served: Served) -> None:
         tally.expect(ran.returncode == status and told in said, "serve", *words, "ends with", ran.returncode, said)
 
 
+def try_uses(tally: Tally, served: Served) -> None:
+    """Tries what sessions may say of jobs of one another: neither costs the other one what it got."""
+    with Wire(served.socket) as owner, Wire(served.socket) as user, Wire(served.socket) as other:
+        key = owner.say("session 600")[0].split(" ")[2]
+        for line in ("1 job a 3 tape, 2 disk", "2 ask a 1 tape"):
+            owner.say(line)
+        for wire in (user, other):
+            wire.say("session 600")
+        for wire, line, wanted in (
+            (user, f"1 use a {key}", ""), (user, "2 ask a 1 tape", "granted a 1 tape"),
+            (user, "3 give a 2 tape", "refused S12"), (owner, "3 give a 2 tape", "refused S12"),
+            (user, "4 leave a", "refused S3"), (user, "5 claim a 1 tape", "refused S3"),
+            (other, "1 claim a 9 tape", "refused S3"), (other, "2 give a 1 tape", "refused S3"),
+            (owner, "4 give a 3 tape", "refused B11"), (other, "3 job b 1 tape", ""),
+            (other, "4 ask b 1 tape", "granted b 1 tape"), (user, "6 want a 1 disk, 1 tape", "queued"),
+            (owner, "5 drop a", "refused S13"), (other, "5 drop a", "refused S3"), (user, "7 drop a", ""),
+            (user, "8 drop a", "refused B13"), (user, "9 want a 1 disk, 1 tape", "queued"),
+            (other, "6 leave b", "granted a 1 disk, 1 tape"), (owner, "6 give a 1 disk", "refused S12"),
+            (owner, "7 give a 1 tape", ""), (user, "10 give a 2 tape", ""),
+        ):
+            told = wire.say(line)
+            before = f"{line.split(' ')[0]} {wanted}"
+            is_right = bool(wanted) and told[0].startswith(before) if told else not wanted
+            tally.expect(is_right, line, "is answered", told, "and not", wanted)
+        tally.expect("job a disk claim 2 holds 1 needs 1" in user.say("state"), "what a session got by a wish is lost")
+        owner.say("end")
+        wanted = ["notice 1 granted a 1 disk, 1 tape", "notice 2 left a"]
+        user.say("hello")
+        tally.expect(user.notices == wanted, "who uses a job that leaves is told", user.notices)
+        for wire in (user, other):
+            wire.say("end")
+
+
+def try_operators(tally: Tally, served: Served) -> None:
+    """Tries who may change the capital, that it is done once, and that the next start has it."""
+    with Wire(served.socket) as it, Wire(served.socket) as other:
+        it.say(f"auth {OPERATOR}")
+        for wire in (it, other):
+            wire.say("session 600")
+        other.say("1 job a 3 tape")
+        for wire, line, wanted in (
+            (other, "2 capital tape 4", "2 refused S4"), (it, "1 capital tape 2", "1 claimed a"), (it, "2 capital tape 5", ""),
+            (it, "3 resource more 1", "3 refused S4"), (it, "4 ask a 1 tape", "4 refused S3"), (it, "2 capital tape 5", ""),
+        ):
+            told = wire.say(line)
+            tally.expect(told[0].startswith(wanted) if told else not wanted, line, "is answered", told, "and not", wanted)
+        other.say("end")
+    before = f"resource tape capital {CAPITAL['tape'] + 2} cash {CAPITAL['tape'] + 2}"
+    tally.expect(served.end() == DONE, "SIGTERM does not end a server with status 0")
+    served.start()
+    with Wire(served.socket) as it:
+        tally.expect(before in it.say("state"), "a start has another capital", it.say("state"))
+        it.say(f"auth {OPERATOR}")
+        tally.expect(it.say(f"capital tape {CAPITAL['tape']}") == [], "a capital without a number")
+
+
+def serve(script: str, served: Served, *words: str) -> tuple[int, str]:
+    """Calls `serve` with these words, and returns its status and what it wrote."""
+    folder = pathlib.Path(served.socket).parent
+    ran = subprocess.run([script, "serve", *words], cwd=folder, capture_output=True, timeout=WATCHDOG, check=False)
+    return ran.returncode, (ran.stdout + ran.stderr).decode()
+
+
+def try_copies(tally: Tally, script: str, served: Served) -> None:
+    """Copies the journal while the server has it, replays it, and serves from the copy."""
+    folder = pathlib.Path(served.socket).parent
+    with Wire(served.socket) as it:
+        for line in ("session 600", "1 job copied 1 tape", "2 ask copied 1 tape"):
+            it.say(line)
+        for words, status, told in (
+            (["--backup", "copy"], DONE, ""), (["--backup", "copy"], FAULT, "is there already"), (["--replay"], DONE, "lead to"),
+            (["--restore", "copy"], FAULT, "another server has this journal"),
+        ):
+            got = serve(script, served, "--journal", "journal", *words)
+            tally.expect(got[0] == status and told in got[1], "serve", *words, "ends with", *got)
+        state = it.say("state")
+        (folder / "spoiled").write_bytes((folder / "copy").read_bytes()[:5000])
+        for words, status, told in (
+            (["--journal", "second", "--restore", "spoiled"], FAULT, ""), (["--journal", "second", "--restore", "copy"], DONE, ""),
+            (["--journal", "second", "--restore", "copy"], FAULT, "there is a journal in this folder already"),
+            (["--journal", "third", "--backup", "copy3"], FAULT, "there is no journal in this folder"),
+        ):
+            got = serve(script, served, *words)
+            tally.expect(got[0] == status and told in got[1], "serve", *words, "ends with", *got)
+        (folder / "again").mkdir()
+        (folder / "second").rename(folder / "again/journal")
+        second = Served([script, "serve"], folder / "again")
+        second.start()
+        with Wire(second.socket) as wire:
+            tally.expect(wire.say("state") == state, "a copy leads to another bank", wire.say("state"), state)
+        tally.expect(second.end() == DONE, "SIGTERM does not end a server with status 0")
+        it.say("end")
+
+
+def try_units(tally: Tally) -> None:
+    """Lets systemd look at the units, if it is there."""
+    if shutil.which("systemd-analyze") is None:
+        return
+    with tempfile.TemporaryDirectory(prefix="parbegin-units-") as name:
+        for unit in sorted((TOP / "extras/systemd").glob("*.s*")):
+            # (what they start is not installed)
+            text = unit.read_text().replace("/usr/bin/parbegin", "/bin/true")
+            pathlib.Path(name, unit.name).write_text(text)
+        units = [str(it) for it in sorted(pathlib.Path(name).iterdir()) if it.suffix in (".service", ".socket")]
+        where = {**os.environ, "SYSTEMD_UNIT_PATH": f"{name}:"}
+        ran = subprocess.run(["systemd-analyze", "verify", "--man=no", *units], env=where, capture_output=True, check=False)
+        said = [line for line in ran.stderr.decode().splitlines() if "parbegin" in line]
+        tally.expect(ran.returncode == 0 and not said, "systemd-analyze", ran.returncode, *said)
+
+
 def try_at_server(tally: Tally, script: str, folder: pathlib.Path, parts: Sequence[str]) -> None:
     """Tries the parts that need one server."""
     port, page = free_port(), f"localhost:{free_port()}"
     tls = ["--tcp", f"localhost:{port}", *certified(folder)] if shutil.which("openssl") else []
-    served = Served([script, "serve"], folder, "--http", page, *tls, "--snapshot-every", "40")
+    (folder / "operators").write_text(f"{hashlib.sha256(OPERATOR.encode()).hexdigest()}\n")
+    more = ["--http", page, *tls, "--snapshot-every", "40", "--operators", f"{folder}/operators"]
+    served = Served([script, "serve"], folder, *more)
     served.start()
-    holds = Holds(script, served)
     calls: dict[str, Callable[[], None]] = {
         "lines": lambda: try_lines(tally, served), "refusals": lambda: try_refusals(tally, served),
-        "statuses": lambda: try_statuses(tally, holds), "waits": lambda: try_waits(tally, holds, served),
-        "kill": lambda: try_kill(tally, holds, served), "remote": lambda: try_remote(tally, served),
+        "uses": lambda: try_uses(tally, served), "operators": lambda: try_operators(tally, served),
         "http": lambda: try_http(tally, served, page), "words": lambda: try_words(tally, script, served),
+        "copies": lambda: try_copies(tally, script, served),
     }
-    if tls:
-        calls["tls"] = lambda: try_tls(tally, holds, folder, port)
     try:
         for part, call in calls.items():
             if part in parts:
@@ -525,18 +351,16 @@ def main() -> None:
     with tempfile.TemporaryDirectory(prefix="parbegin-served-") as name:
         folder = pathlib.Path(name)
         script = installed(folder / "installed")
-        for part in ("one", "limits", "activation", "opposite"):
+        for part in ("one", "limits", "activation"):
             (folder / part).mkdir()
-        if "desk" in parts:
-            try_desk(tally)
         if {*parts} & {*AT_SERVER}:
             try_at_server(tally, script, folder / "one", parts)
         if "limits" in parts:
             try_limits(tally, script, folder / "limits")
         if "activation" in parts:
             try_activation(tally, script, folder / "activation")
-        if "opposite" in parts:
-            try_opposite(tally, script, folder / "opposite")
+        if "units" in parts:
+            try_units(tally)
     tally.end("served")
 
 

@@ -48,6 +48,8 @@ CALLS = [
     (["serve", "--help"], DONE, "--snapshot-every", None),
     (["help", "serve"], DONE, "--snapshot-every", None),
     (["serve"], WORDS, None, "not provided: --journal <DIR>"),
+    (["help", "bank"], DONE, "--connect <ADDRESS>", None),
+    (["bank", "--connect", "a", "--fly"], WORDS, None, "unexpected argument '--fly' found"),
     (["hold", "--help"], DONE, "Usage: parbegin hold", None),
     (["help", "hold"], DONE, "Usage: parbegin hold", None),
     (["hold", "1 tape"], WORDS, None, "there is no '--' with a command after it"),

@@ -27,7 +27,7 @@ PARTS = (
     "bin/parbegin", "libexec/parbegin/parbegin-run", "libexec/parbegin/parbegin-bank", "libexec/parbegin/parbegin-search",
     "libexec/parbegin/parbegin-debug", "libexec/parbegin/parbegin-edit", "libexec/parbegin/script/tools.sh",
     "libexec/parbegin/script/main.py", "libexec/parbegin/script/serving/serve.py",
-    "libexec/parbegin/script/serving/page.html", "share/man/man1/parbegin.1",
+    "libexec/parbegin/script/serving/page.html", "bin/parbegin-hold", "share/man/man1/parbegin.1",
     "share/bash-completion/completions/parbegin", "share/fish/vendor_completions.d/parbegin.fish",
     "share/vim/vimfiles/syntax/parbegin.vim", "share/parbegin/vscode/package.json", "share/doc/parbegin/README.md",
     "share/doc/parbegin/docs/LANGUAGE.md", "share/doc/parbegin/examples/devices.pb",

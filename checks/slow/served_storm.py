@@ -31,129 +31,21 @@ from contextlib import ExitStack, closing, suppress
 
 sys.path.insert(0, str(pathlib.Path(__file__).resolve().parents[1] / "lib"))
 
-from bank_model import Model  # noqa: E402
 from calls import DEVICE, TOP, Tally, installed, program  # noqa: E402
-from served_bank import CAPITAL, PATIENCE, Served, Wire  # noqa: E402
+from served_bank import PATIENCE, Served, Wire  # noqa: E402
+from served_history import Seen, Worker, compare_answers  # noqa: E402
 from served_killed import POINTS  # noqa: E402
 
 sys.path.insert(1, str(TOP / "extras/python"))
 
-from parbegin import Answer, Fault, RemoteBank  # noqa: E402
-from script.serving.bank import BankProcess  # noqa: E402
-from script.serving.desk import Desk  # noqa: E402
+from parbegin import Answer, RemoteBank  # noqa: E402
 from script.serving.journal import Journal  # noqa: E402
 
 CLIENTS, SECONDS, LOGS = 8, 20.0, 300
 PARTS = ("torn", "full", "crowd", "random", "points")
 KILLED = TOP / "checks/lib/served_killed.py"
-# What is not in the journal, and may be answered anew.
-READING = ("state", "why", "order", "fence", "beat", "end")
 # How often the server comes to its point before it is killed there: those of a snapshot are seldom.
 SELDOM, OFTEN = (1, 2, 3), (3, 10, 30, 100)
-
-
-class ModelBank(BankProcess):
-    """The model of a bank, in the place of the process."""
-
-    def __init__(self) -> None:
-        self.model = Model()
-
-    def say(self, line: str) -> list[str]:
-        answer = self.model.do(line)
-        assert answer is not None, line
-        return answer
-
-
-class Seen:
-    """What all clients saw: their answers, when they surely held what, and what was wrong."""
-
-    def __init__(self) -> None:
-        self.answers: dict[tuple[int, int], tuple[str, list[str]]] = {}
-        self.held: list[tuple[float, int, dict[str, int]]] = []
-        self.wrong: list[tuple[object, ...]] = []
-        self.compared = 0
-
-    def over_capital(self) -> list[str]:
-        """Returns the resources of which more was held at some moment than there is."""
-        now, over = dict.fromkeys(CAPITAL, 0), set()
-        for _, sign, amounts in sorted(self.held, key=lambda it: it[:2]):
-            for name, amount in amounts.items():
-                now[name] += sign * amount
-                over |= {name} if now[name] > CAPITAL[name] else set()
-        return sorted(over)
-
-
-class Client(RemoteBank):
-    """A client that remembers each answer."""
-
-    seen: Seen
-
-    def _answer(self, number: int, lines: list[str]) -> None:
-        request = self._requests.get(number)
-        if request is not None and not (lines and lines[0].startswith(("refused S2", "refused S5"))):
-            self.seen.answers[int(self._wire.sid), number] = request.line, lines
-        super()._answer(number, lines)
-
-
-class Worker(threading.Thread):
-    """A client whose jobs come and go, and that knows what they hold."""
-
-    def __init__(self, at: int, served: Served, seen: Seen, end: float, seed: int) -> None:
-        super().__init__(daemon=True)
-        self.at, self.served, self.seen, self.end, self.rng = at, served, seen, end, random.Random(f"{seed}-{at}")
-
-    def run(self) -> None:
-        try:
-            Client.seen = self.seen
-            with Client(self.served.socket, lease=300, patience=PATIENCE) as bank:
-                count = 0
-                while time.monotonic() < self.end:
-                    count += 1
-                    self.one_job(bank, f"w{self.at}-{count}")
-        except Fault as fault:
-            self.seen.wrong.append((self.at, "a call failed", fault))
-
-    def one_job(self, bank: RemoteBank, job: str) -> None:
-        """A job joins, asks, waits, gives back and leaves."""
-        claim = {name: self.rng.randint(0, amount) for name, amount in CAPITAL.items()}
-        holds = dict.fromkeys(CAPITAL, 0)
-        bank.join(job, claim)
-        for _ in range(self.rng.randint(2, 12)):
-            names = self.rng.sample(list(CAPITAL), self.rng.randint(1, 3))
-            need = {name: self.rng.randint(0, claim[name] - holds[name]) for name in names}
-            step = self.rng.random()
-            if step < 0.35:
-                self.got(bank.ask(job, need) is Answer.GRANTED, holds, need)
-            elif step < 0.65:
-                self.got(bank.obtain(job, need, self.rng.choice((0.05, 0.5, 2.0))), holds, need)
-            elif step < 0.9:
-                self.give(bank, job, holds, {name: self.rng.randint(0, amount) for name, amount in holds.items()})
-            else:
-                self.compare(bank, job, holds)
-        self.compare(bank, job, holds)
-        self.seen.held.append((time.monotonic(), -1, dict(holds)))
-        bank.leave(job)
-
-    def got(self, is_granted: bool, holds: dict[str, int], need: dict[str, int]) -> None:
-        """Counts what was granted."""
-        if is_granted:
-            self.seen.held.append((time.monotonic(), 1, need))
-            for name, amount in need.items():
-                holds[name] += amount
-
-    def give(self, bank: RemoteBank, job: str, holds: dict[str, int], back: dict[str, int]) -> None:
-        """Gives back."""
-        self.seen.held.append((time.monotonic(), -1, back))
-        bank.give(job, back)
-        for name, amount in back.items():
-            holds[name] -= amount
-
-    def compare(self, bank: RemoteBank, job: str, holds: dict[str, int]) -> None:
-        """Compares what the job holds with what the bank says."""
-        rows = [line.split(" ") for line in bank.state() if line.startswith(f"job {job} ")]
-        self.seen.compared += 1
-        if {row[2]: int(row[6]) for row in rows} != holds:
-            self.seen.wrong.append((job, "holds", holds, "and the bank says", rows))
 
 
 def batches_of(folder: pathlib.Path) -> list[str]:
@@ -163,19 +55,6 @@ def batches_of(folder: pathlib.Path) -> list[str]:
         return [it for (entries,) in base.execute("SELECT entries FROM batch ORDER BY sequence") for it in entries.split("\n")]
 
 
-def compare_history(tally: Tally, folder: pathlib.Path, seen: Seen) -> int:
-    """Replays a journal over the model, and compares each answer that a client got with what comes of it."""
-    desk, said = Desk(ModelBank()), {}
-    for entry in batches_of(folder):
-        done = desk.apply(entry)
-        if entry[0] == "C" and done.is_new:
-            said[done.session, done.number] = done.answer
-    told = {key: it for key, it in seen.answers.items() if it[0].split(" ")[0] not in READING}
-    wrong = [(key, it, said.get(key)) for key, it in told.items() if said.get(key) != it[1]]
-    tally.expect(not wrong, len(wrong), "answers are not those of the journal:", *wrong[:3])
-    return len(told)
-
-
 def storm(tally: Tally, served: Served, kind: str, seconds: float, seed: int) -> None:
     """Lets clients use the bank while the server is killed, and looks at what they saw."""
     rng, seen = random.Random(seed), Seen()
@@ -183,9 +62,9 @@ def storm(tally: Tally, served: Served, kind: str, seconds: float, seed: int) ->
     with suppress(RuntimeError):
         served.start(**killed_at(rng, kind))
     end = time.monotonic() + seconds
-    workers = [Worker(at, served, seen, end, seed) for at in range(CLIENTS)]
+    workers = [Worker(at, served.socket, seen, seed) for at in range(CLIENTS)]
     try:
-        kills = kill_again(served, rng, kind, end, workers)
+        kills = kill_again(served, rng, kind, end, seen, workers)
         tally.expect(not any(worker.is_alive() for worker in workers), kind, "a client waits for ever")
         tally.expect(not seen.wrong, kind, len(seen.wrong), "are wrong:", *seen.wrong[:3])
         tally.expect(not seen.over_capital(), kind, "more is lent than there is:", *seen.over_capital())
@@ -194,17 +73,22 @@ def storm(tally: Tally, served: Served, kind: str, seconds: float, seed: int) ->
         tally.expect(not left, kind, "something is left", *left)
     finally:
         served.kill()
-    answers = compare_history(tally, pathlib.Path(served.socket).parent, seen) if kind == "random" else len(seen.answers)
+    folder = pathlib.Path(served.socket).parent
+    answers = compare_answers(tally, batches_of(folder), seen) if kind == "random" else len(seen.answers)
     print(f"{kind}: {kills} kills, {answers} answers, {seen.compared} looks at the state, seed {seed}", flush=True)
 
 
-def kill_again(served: Served, rng: random.Random, kind: str, end: float, workers: Sequence[threading.Thread]) -> int:
+def kill_again(
+    served: Served, rng: random.Random, kind: str, end: float, seen: Seen, workers: Sequence[threading.Thread]
+) -> int:
     """Starts the clients, and kills the server until their time is up. Returns how often it was killed."""
     kills = 0
     for worker in workers:
         worker.start()
     last = end + 10 * PATIENCE
     while any(worker.is_alive() for worker in workers) and time.monotonic() < last:
+        if time.monotonic() > end:
+            seen.is_over.set()
         time.sleep(rng.uniform(0.3, 1.5) if kind == "random" else 0.02)
         if kind == "random" and time.monotonic() < end:
             served.kill()
@@ -237,7 +121,7 @@ async def write_batches(folder: str, rng: random.Random) -> tuple[list[list[str]
     """Writes batches, and returns them with the sizes of the log after each."""
     log, batches = f"{folder}/journal.db-wal", []
     with closing(Journal(folder)) as journal:
-        journal.load()
+        journal.read()
         sizes = [os.path.getsize(log)]
         for number in range(rng.randint(5, 40)):
             batches.append([f"C 1 {number} {'x' * rng.randint(0, 3000)}" for _ in range(rng.randint(1, 8))])
@@ -259,7 +143,7 @@ def try_torn(tally: Tally, folder: pathlib.Path, rng: random.Random) -> None:
             pathlib.Path(copy, "journal.db-wal").write_bytes(whole[:cut] + spoiled(rng, whole[cut:]))
             pathlib.Path(copy, "journal.db-shm").unlink(missing_ok=True)
             with closing(Journal(copy)) as journal:
-                found = list(journal.load()[1])
+                found = list(journal.read()[1])
             acknowledged = max(number for number, size in enumerate(sizes) if size <= cut)
             is_kept = found == batches[: len(found)] and len(found) >= acknowledged
             tally.expect(is_kept, "a spoiled log:", acknowledged, "batches were acknowledged, and", len(found), "are there")

@@ -43,7 +43,8 @@ _parbegin() {
         ;;
     esac
     case ${COMP_WORDS[at]} in
-    bank | dap | lsp) options="" ;;
+    bank) options="--connect --lease" ;;
+    dap | lsp) options="" ;;
     check) options="--heap --format --jobs" ;;
     claims) options="" ;;
     debug) options="--live --lend" ;;
@@ -67,7 +68,7 @@ _parbegin() {
     replay) options="--lend" ;;
     run) options="--workers --quantum --steps --seed --lend" ;;
     sample) options="--runs --seed --lend --steps --events --jobs" ;;
-    serve) options="--journal --socket --mode --capital --tcp --cert --key --tokens --http --clients --sessions --snapshot-every" ;;
+    serve) options="--journal --socket --mode --capital --tcp --cert --key --tokens --operators --http --clients --sessions --snapshot-every --etcd --advertise --name --prefix --lead-for --etcd-ca --etcd-cert --etcd-key --etcd-user --etcd-password --backup --restore --replay" ;;
     states) options="--rows --from --lend" ;;
     help)
         # its word is a command

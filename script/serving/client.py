@@ -27,6 +27,10 @@ class Unreachable(Fault):
     """No server answers."""
 
 
+class Elsewhere(OSError):
+    """This server does not answer now."""
+
+
 class SessionLost(Fault):
     """The session has ended: its jobs have left, and all that they held has come back."""
 
@@ -61,13 +65,18 @@ def connect_over_network(address: str, authority: str | None, patience: float) -
 
 
 class Client:
-    """A session with a served bank. `patience` is how long it tries to reach a server; None is without end."""
+    """A session with a served bank. `patience` is how long it tries to reach a server; None is without end.
+
+    Several addresses, with commas between, are those of servers of which one leads.
+    """
 
     def __init__(
         self, address: str, lease: int, token: str | None = None, authority: str | None = None, patience: float | None = None
     ) -> None:
         self.address, self.lease, self.token, self.authority = address, lease, token, authority
         self.patience = patience
+        # the one that is tried next is the first
+        self.addresses = address.split(",")
         self.socket: _socket.socket | None = None
         self.sid = self.key = ""
         self.number = self.noticed = 0
@@ -76,13 +85,16 @@ class Client:
         self.waiting: dict[int, str] = {}
         self.parts: dict[int, list[str]] = {}
         self.answers: dict[int, list[str]] = {}
-        # jobs whose wishes were granted
+        # jobs whose wishes were granted, and those that have left with what this session had got for them
         self.granted: list[str] = []
+        self.left_jobs: list[str] = []
         # the lease lasts surely from here on: from before the last request that was answered
         self.confirmed = now()
         self.sent: dict[int, float] = {}
         # who is told that no server answers
         self.on_silence: Callable[[str], None] = lambda why: None
+        # who is told of a notice
+        self.on_notice: Callable[[str], None] = lambda line: None
 
     # Connections
 
@@ -100,7 +112,8 @@ class Client:
                 self._greet()
                 return
             except (OSError, EOFError) as fault:
-                self.drop()
+                if self.drop_server(fault):
+                    continue
                 why = f"no server answers at {self.address}: {getattr(fault, 'strerror', None) or fault or 'it ends'}"
                 if end is not None and now() + PAUSE > end:
                     raise Unreachable(why) from fault
@@ -112,7 +125,7 @@ class Client:
     def _greet(self) -> None:
         """Connects once: begins a session or goes on with it, and sends all that has no answer."""
         self.drop()
-        self.socket = connect(self.address, self.authority, SILENCE)
+        self.socket = connect(self.addresses[0], self.authority, SILENCE)
         auth = [f"auth {self.token}"] if self.token else []
         first = f"attach {self.sid} {self.key} {self.noticed}" if self.sid else f"session {self.lease}"
         asked = now()
@@ -136,9 +149,21 @@ class Client:
         if lines and lines[0].startswith("refused"):
             code = lines[0].split(" ")[1]
             if code == "S2":
-                raise EOFError("it answers no more")
+                raise Elsewhere(lines[0])
             raise SessionLost("the session has ended") if code == "S5" and self.sid else Fault(lines[0])
         return lines
+
+    def drop_server(self, fault: BaseException) -> bool:
+        """Lets go of the connection, and takes the next server. Returns whether the one that leads was told."""
+        self.drop()
+        leads = str(fault).partition(", but ")[2] if isinstance(fault, Elsewhere) else ""
+        if not leads or leads == self.addresses[0]:
+            self.addresses.append(self.addresses.pop(0))
+            return False
+        if leads in self.addresses:
+            self.addresses.remove(leads)
+        self.addresses.insert(0, leads)
+        return True
 
     def drop(self) -> None:
         """Lets go of the connection."""
@@ -167,15 +192,18 @@ class Client:
             number, _, told = rest.partition(" ")
             if int(number) > self.noticed:
                 self.noticed = int(number)
-                self.granted.append(told.split(" ")[1])
+                verb, job, *_ = told.split(" ")
+                (self.granted if verb == "granted" else self.left_jobs).append(job)
+                self.on_notice(line)
         elif head.isdigit() and rest == "ready":
             lines = self.parts.pop(int(head), [])
             if lines and lines[0].startswith("refused S2"):
-                raise EOFError("it answers no more")
-            if self.waiting.pop(int(head), None) is not None:
+                raise Elsewhere(lines[0])
+            request = self.waiting.pop(int(head), None)
+            if request is not None:
                 self.answers[int(head)] = lines
                 self.confirmed = max(self.confirmed, self.sent.pop(int(head), self.confirmed))
-            if lines and lines[0].startswith("refused S5"):
+            if lines and lines[0].startswith("refused S5") and not (request or "").startswith("use "):
                 raise SessionLost("the session has ended")
         elif head.isdigit():
             self.parts.setdefault(int(head), []).append(rest)
@@ -206,8 +234,8 @@ class Client:
                 self._reach(end)
             try:
                 self._take(self._line())
-            except (OSError, EOFError):
-                self.drop()
+            except (OSError, EOFError) as fault:
+                self.drop_server(fault)
         return self.answers.pop(number)
 
     def tell(self, line: str) -> list[str]:
@@ -231,9 +259,9 @@ class Client:
                 if not select.select([self.socket], [], [], max(0.0, seconds))[0]:
                     return
             self._take(self._line())
-        except (OSError, EOFError):
-            self.drop()
-            time.sleep(min(PAUSE, max(0.0, seconds)))
+        except (OSError, EOFError) as fault:
+            if not self.drop_server(fault):
+                time.sleep(min(PAUSE, max(0.0, seconds)))
 
     def beat(self) -> None:
         """Keeps the lease: asks for nothing, and waits for the answer no longer than a moment."""

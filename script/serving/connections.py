@@ -6,6 +6,7 @@ import hmac
 from collections.abc import Callable, Sequence
 from typing import TYPE_CHECKING, NamedTuple
 
+from script.serving.objects import WrongObject, answer_of, line_of, notice_of
 from script.serving.words import (
     CHANGING, KEPT, MAX_COMMAND, MAX_LEASE, MAX_UNREAD, MIN_LEASE, NOT_A_COMMAND, VERSION, read_command, read_number, refused,
 )
@@ -39,13 +40,23 @@ class Connection:
         self.server, self.reader, self.writer, self.is_trusted = server, reader, writer, is_trusted
         self.sid = 0
         self.is_plain = False
+        # whether the client has said the token of an operator, and whether it speaks JSON
+        self.is_operator = False
+        self.is_json = False
         self.in_work = 0
         self.room = asyncio.Event()
 
     def send(self, number: int, lines: Sequence[str]) -> None:
         """Writes an answer; each line of it has the number of a numbered request before it."""
+        if self.is_json:
+            self.write(f"{answer_of(number, lines)}\n")
+            return
         before = f"{number} " if number else ""
         self.write("".join(f"{before}{line}\n" for line in (*lines, "ready")))
+
+    def tell(self, number: int, line: str) -> None:
+        """Writes a notice."""
+        self.write(f"{notice_of(number, line)}\n" if self.is_json else f"notice {number} {line}\n")
 
     def write(self, text: str) -> None:
         """Writes to the client, and cuts it off if it leaves too much unread."""
@@ -53,7 +64,10 @@ class Connection:
             return
         self.writer.write(text.encode("latin-1"))
         if self.writer.transport.get_write_buffer_size() > MAX_UNREAD:
-            self.cut_off()
+            # (who reads on after all finds why at the end; what it leaves unread is not more than that)
+            last = answer_of(0, [refused("S14")]) if self.is_json else refused("S14")
+            self.writer.write(f"{last}\n".encode())
+            self.writer.close()
 
     def cut_off(self) -> None:
         """Ends the connection at once."""
@@ -87,23 +101,27 @@ class Connection:
 
     async def finish(self) -> None:
         """Waits for the answers to what was read, for some seconds."""
-        while self.in_work and self.server.is_answering:
+        while self.in_work and self.server.is_leading:
             self.room.clear()
             await asyncio.wait_for(self.room.wait(), PATIENCE)
 
     def take(self, text: str) -> bool:
         """Takes a line, and returns whether the connection goes on."""
-        number, line = read_number(text)
-        if len(line) > MAX_COMMAND:
-            self.push(Item(self, number, answer=[NOT_A_COMMAND]))
-            return True
+        self.is_json = self.is_json or text.startswith("{")
+        try:
+            number, line = line_of(text) if self.is_json else read_number(text)
+        except WrongObject as wrong:
+            number, line = wrong.number, ""
+        if self.is_json and not line or len(line) > MAX_COMMAND:
+            return self.refuse(number, NOT_A_COMMAND)
         verb, *words = line.split(" ")
         if not self.is_trusted:
-            self.is_trusted = verb == "auth" and len(words) == 1 and self.server.knows(words[0])
-            self.send(number, [] if self.is_trusted else [refused("S1")])
-            return self.is_trusted
-        if not self.server.is_answering:
-            self.send(number, [refused("S2")])
+            return self.let_in(number, verb, words)
+        if not self.server.is_answering():
+            if verb == "hello" and not self.server.stopping.is_set():
+                self.send(number, [f"parbegin-serve {VERSION} follower {self.server.log.leads_at()}".rstrip()])
+                return True
+            self.send(number, [self.server.elsewhere()])
             return False
         self.server.hear(self.sid)
         own = OWN.get(verb)
@@ -112,6 +130,29 @@ class Connection:
         else:
             self.give_on(number, line)
         return True
+
+    def refuse(self, number: int, line: str) -> bool:
+        """Refuses a line in its turn, and returns whether the connection goes on."""
+        if not self.is_trusted:
+            self.send(number, [refused("S1")])
+        elif self.server.is_answering():
+            self.push(Item(self, number, answer=[line]))
+        else:
+            self.send(number, [self.server.elsewhere()])
+        return self.is_trusted and self.server.is_answering()
+
+    def let_in(self, number: int, verb: str, words: list[str]) -> bool:
+        """Takes the first line over the network, and returns whether it has a token that is known."""
+        if verb == "auth" and len(words) == 1:
+            self.take_token(words[0])
+        self.send(number, [] if self.is_trusted else [refused("S1")])
+        return self.is_trusted
+
+    def take_token(self, token: str) -> None:
+        """Takes a token: it lets a client in, or makes it an operator."""
+        tokens = self.server.tokens
+        self.is_operator = self.server.is_known(token, tokens.operators)
+        self.is_trusted = self.is_trusted or self.is_operator or self.server.is_known(token, tokens.clients)
 
     def give_on(self, number: int, line: str) -> None:
         """Puts a line that is not the server's own into the queue, for the bank."""
@@ -125,12 +166,16 @@ class Connection:
         elif self.sid == ENDED:
             self.push(Item(self, number, answer=[refused("S5")]))
         elif self.sid:
-            self.push(Item(self, number, entry=f"C {self.sid} {number} {command.line}"))
+            self.push(Item(self, number, entry=f"{self.kind_of(command.verb)} {self.sid} {number} {command.line}"))
         elif number:
             self.push(Item(self, number, answer=[refused("S9")]))
         elif self.begin(PLAIN_LEASE, Item(self, 0, is_silent=True)):
             self.is_plain = True
-            self.push(Item(self, 0, entry=f"C {self.sid} 0 {command.line}"))
+            self.push(Item(self, 0, entry=f"{self.kind_of(command.verb)} {self.sid} 0 {command.line}"))
+
+    def kind_of(self, verb: str) -> str:
+        """Returns the kind of the entry of a command: one of its own, if an operator changes the capital."""
+        return "P" if verb == "capital" and self.is_operator else "C"
 
     def push(self, item: Item) -> None:
         """Puts a request of this connection into the queue."""
@@ -140,13 +185,15 @@ class Connection:
     # What the server itself is asked
 
     def auth(self, number: int, words: list[str]) -> None:
+        if len(words) == 1:
+            self.take_token(words[0])
         self.push(Item(self, number))
 
     def hello(self, number: int, words: list[str]) -> None:
         self.push(Item(self, number, answer=[f"parbegin-serve {VERSION} leader"]))
 
     def beat(self, number: int, words: list[str]) -> None:
-        self.push(Item(self, number, answer=[] if self.sid in self.server.desk.sessions else [refused("S5")]))
+        self.push(Item(self, number, read="beat"))
 
     def fence(self, number: int, words: list[str]) -> None:
         self.push(Item(self, number, read="fence"))
@@ -186,7 +233,9 @@ class Connection:
         self.server.attached[self.sid] = self
         self.server.hear(self.sid)
         self.send(number, [f"attached {session.last}"])
-        self.write("".join(f"notice {noted} {line}\n" for noted, line in session.notices if noted > int(words[2])))
+        for noted, line in session.notices:
+            if noted > int(words[2]):
+                self.tell(noted, line)
 
     def end(self, number: int, words: list[str]) -> None:
         """Ends the session."""
@@ -197,7 +246,7 @@ class Connection:
 
     def detach(self) -> None:
         """Lets go of the session. One that was not asked for ends."""
-        if self.is_plain and self.sid > 0:
+        if self.is_plain and self.sid > 0 and self.server.is_leading:
             self.server.push(Item(None, 0, entry=f"E {self.sid}"))
         self.is_plain = False
         if self.sid and self.server.attached.get(self.sid) is self:

@@ -27,6 +27,8 @@ WATCHED = (signal.SIGCHLD, *STOPS)
 PR_SET_PDEATHSIG = 1
 # Seconds between two tries to join, to wish, and two looks at why it waits.
 JOIN, WISH, LOOK = 0.3, 0.1, 0.5
+# The refusals of `drop` of a wish that was granted: none waits, or that of another part of the job.
+LATE = ("refused B13", "refused S13")
 # When a command is ended since the bank cannot be reached: shares of the lease that are left.
 END_AT, KILL_AT = 0.3, 0.1
 
@@ -142,6 +144,8 @@ class Hold:
     def wait(self) -> bool:
         """Waits for the grant of a wish. Returns whether it came in time; if not, the wish is taken back."""
         while self.job not in self.client.granted:
+            if self.has_left():
+                raise Fault(f"{self.job} has left, with all that it held")
             if self.shown.is_wanted:
                 reason = self.client.tell(f"why {self.job} {spell(self.options.amounts)}")
                 if self.job not in self.client.granted:
@@ -150,11 +154,18 @@ class Hold:
                 self.client.beat()
             if self.end is not None and now() >= self.end and self.job not in self.client.granted:
                 # (that is refused if the grant came at the last moment)
-                return bool(self.client.tell(f"drop {self.job}"))
+                return self.is_granted_late(self.client.tell(f"drop {self.job}"))
             if self.job not in self.client.granted:
                 most = LOOK if self.shown.is_wanted else self.options.lease / 4
                 self.client.wait(most if self.end is None else min(most, self.end - now()))
         return True
+
+    @staticmethod
+    def is_granted_late(dropped: list[str]) -> bool:
+        """Returns whether a wish could not be taken back since it was granted. Raises Fault if the job has left."""
+        if dropped and not dropped[0].startswith(LATE):
+            raise Fault(dropped[0])
+        return bool(dropped)
 
     def run(self, fence: str) -> int:
         """Runs the command, and passes signals on. It is ended before the lease is, if the bank cannot be reached."""
@@ -164,7 +175,8 @@ class Hold:
         while (ended := ended_status(pid, 0.1 if is_lost else self.rest())) is None:
             left = self.left()
             if left < END_AT * self.options.lease and not is_lost:
-                say(f"the bank cannot be reached, and what {self.job} holds is no longer sure: the command is ended")
+                why = f"{self.job} has left" if self.has_left() else "the bank cannot be reached"
+                say(f"{why}, and what {self.job} holds is no longer sure: the command is ended")
                 os.kill(pid, signal.SIGTERM)
                 is_lost = True
             if left < KILL_AT * self.options.lease:
@@ -185,7 +197,11 @@ class Hold:
             except Fault:
                 # (another connection may be taken)
                 self.client.drop()
-        return self.client.left()
+        return 0.0 if self.has_left() else self.client.left()
+
+    def has_left(self) -> bool:
+        """Returns whether the job, within which this hold is, has left."""
+        return self.job in self.client.left_jobs
 
 
 def start(command: list[str], environment: dict[str, str]) -> int:

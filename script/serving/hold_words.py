@@ -18,7 +18,8 @@ Waits until the bank lends the amounts, runs the command, and gives back whateve
 another one is within its claim. The status is that of the command, 128 and N of one that signal N ended.
 
 Options:
-      --socket <ADDRESS>  The socket of `parbegin serve`: PATH, HOST:PORT or tls:HOST:PORT [default: PARBEGIN_SOCKET]
+      --socket <ADDRESS>  The socket of `parbegin serve`: PATH, HOST:PORT or tls:HOST:PORT, or several with commas between
+                          [default: PARBEGIN_SOCKET]
       --claim <AMOUNTS>   The most that the command will hold at once, with what holds within it get [default: the amounts]
       --name <NAME>       The name of the job [default: of the command, the machine and the process]
   -n, --nowait            End with status 1 if the amounts are not lent at once
@@ -65,9 +66,10 @@ class Options:
             raise WrongWords("neither '--socket' nor PARBEGIN_SOCKET says where the bank is served")
 
 
-def absolute(address: str) -> str:
-    """Returns an address that is the same from every folder."""
-    return os.path.abspath(address) if address and ("/" in address or ":" not in address) else address
+def absolute(addresses: str) -> str:
+    """Returns addresses, with commas between, that are the same from every folder."""
+    named = [it for it in addresses.split(",") if it]
+    return ",".join(os.path.abspath(it) if "/" in it or ":" not in it else it for it in named)
 
 
 def amounts_of(text: str) -> dict[str, int]:

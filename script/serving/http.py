@@ -44,7 +44,7 @@ def picture(server: Server) -> dict[str, Any]:
             queue.append({"job": name, "wants": rest, "why": server.bank.say(f"why {name} {rest}")[0]})
     owners = server.desk.owners
     return {
-        "batch": server.journal.sequence, "sessions": len(server.desk.sessions), "clients": len(server.connections),
+        "batch": server.log.sequence, "sessions": len(server.desk.sessions), "clients": len(server.connections),
         "resources": resources, "queue": queue, "order": server.bank.say("order")[0].split(" ")[1:],
         "jobs": [{"name": name, "session": owners.get(name, 0), "rows": rows} for name, rows in jobs.items()],
     }
@@ -71,6 +71,8 @@ def families(server: Server) -> Iterator[Family]:
     for name, told in (("capital", "How much there is of a resource."), ("cash", "How much of a resource is not lent.")):
         yield Family(name, "gauge", told, [(f'{{resource="{it["name"]}"}}', it[name]) for it in seen["resources"]])
     kept_back = sum(wish["why"].startswith("wait rest") for wish in seen["queue"])
+    yield Family("leader", "gauge", "Whether this server leads.", [("", float(server.is_answering()))])
+    yield Family("terms_total", "counter", "Times that this server began to lead.", [("", server.meters.terms)])
     yield Family("jobs", "gauge", "Jobs that are there.", [("", len(seen["jobs"]))])
     yield Family("wishes", "gauge", "Wishes in the queue.", [("", len(seen["queue"]))])
     yield Family("wishes_kept_back", "gauge", "Wishes for which there is cash, and which the banker keeps back.", [("", kept_back)])
@@ -110,8 +112,9 @@ class Pages:
         if path == "/state":
             return self.whole("200 OK", "application/json", self.state())
         if path == "/health":
-            is_well = self.server.is_answering
-            return self.whole("200 OK" if is_well else "503 Service Unavailable", "text/plain", "serves\n" if is_well else "ends\n")
+            is_well = not self.server.stopping.is_set()
+            told = "ends\n" if not is_well else "serves\n" if self.server.is_answering() else "follows\n"
+            return self.whole("200 OK" if is_well else "503 Service Unavailable", "text/plain", told)
         if path == "/events":
             return self.whole("503 Service Unavailable", "text/plain", f"{MOST_VIEWERS} browsers are told of changes already\n")
         return self.whole("404 Not Found", "text/plain", "/, /events, /state, /metrics, /health\n")
@@ -128,7 +131,7 @@ class Pages:
         last = ""
         try:
             writer.write(HEAD.format(status="200 OK", kind="text/event-stream", length="").encode())
-            while not writer.is_closing() and self.server.is_answering:
+            while not writer.is_closing() and not self.server.stopping.is_set():
                 told = self.state()
                 writer.write(f"data: {told}\n\n".encode() if told != last else b": \n\n")
                 last = told

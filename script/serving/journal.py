@@ -5,8 +5,11 @@ import asyncio
 import fcntl
 import os
 import sqlite3
-from collections.abc import Awaitable, Iterator, Sequence
+from collections.abc import Awaitable, Callable, Iterator, Sequence
 from concurrent.futures import ThreadPoolExecutor
+
+Restore = Callable[["str | None"], object]
+Replay = Callable[[Sequence[str]], object]
 
 TABLES = (
     "CREATE TABLE IF NOT EXISTS batch (sequence INTEGER PRIMARY KEY, entries TEXT NOT NULL)",
@@ -18,16 +21,23 @@ class WrongJournal(Exception):
     """The folder has no journal that can be used; the text says why."""
 
 
+def locked(folder: str) -> int:
+    """Makes a folder if it is not there, and returns the file whose lock says that this process alone has it."""
+    os.makedirs(folder, mode=0o700, exist_ok=True)
+    lock = os.open(os.path.join(folder, "lock"), os.O_RDWR | os.O_CREAT | os.O_CLOEXEC, 0o600)
+    try:
+        fcntl.flock(lock, fcntl.LOCK_EX | fcntl.LOCK_NB)
+    except BlockingIOError:
+        os.close(lock)
+        raise WrongJournal("another server has this journal") from None
+    return lock
+
+
 class Journal:
     """A journal in a folder. One process at a time has it, and one thread makes all calls of SQLite."""
 
     def __init__(self, folder: str) -> None:
-        os.makedirs(folder, mode=0o700, exist_ok=True)
-        self.lock = os.open(os.path.join(folder, "lock"), os.O_RDWR | os.O_CREAT | os.O_CLOEXEC, 0o600)
-        try:
-            fcntl.flock(self.lock, fcntl.LOCK_EX | fcntl.LOCK_NB)
-        except BlockingIOError:
-            raise WrongJournal("another server has this journal") from None
+        self.lock = locked(folder)
         self.thread = ThreadPoolExecutor(1, "journal")
         self.sequence = 0
         self.since_snapshot = 0
@@ -46,11 +56,18 @@ class Journal:
             base.execute(table)
         return base
 
-    def load(self) -> tuple[str | None, Iterator[list[str]]]:
-        """Returns the snapshot, if there is one, and the batches after it."""
-        return self.thread.submit(self._load).result()
+    async def load(self, restore: Restore, replay: Replay) -> None:
+        """Makes the state anew, from the snapshot and the batches after it."""
+        body, batches = self.read()
+        restore(body)
+        for entries in batches:
+            replay(entries)
 
-    def _load(self) -> tuple[str | None, Iterator[list[str]]]:
+    def read(self) -> tuple[str | None, Iterator[list[str]]]:
+        """Returns the snapshot, if there is one, and the batches after it."""
+        return self.thread.submit(self._read).result()
+
+    def _read(self) -> tuple[str | None, Iterator[list[str]]]:
         found = self.base.execute("SELECT sequence, body FROM snapshot").fetchone()
         upto, body = found or (0, None)
         rows = self.base.execute("SELECT sequence, entries FROM batch WHERE sequence > ? ORDER BY sequence", (upto,)).fetchall()
@@ -60,6 +77,17 @@ class Journal:
         self.sequence = upto + len(rows)
         self.since_snapshot = len(rows)
         return body, (entries.split("\n") for _, entries in rows)
+
+    async def follow(self, restore: Restore, replay: Replay) -> None:
+        """Returns once this process leads: it does at once, since nobody else can have the journal."""
+
+    def is_mine(self) -> bool:
+        """Returns whether nobody else can have led up to now."""
+        return True
+
+    def leads_at(self) -> str:
+        """Returns where clients reach another leader: there is none."""
+        return ""
 
     def append(self, entries: Sequence[str]) -> Awaitable[None]:
         """Writes a batch, which is durable once the result is there. If this fails, nothing more may be answered."""
@@ -80,6 +108,9 @@ class Journal:
         self.base.execute("INSERT OR REPLACE INTO snapshot VALUES (1, ?, ?)", (sequence, body))
         self.base.execute("DELETE FROM batch WHERE sequence <= ?", (sequence,))
         self.base.execute("COMMIT")
+
+    async def resign(self) -> None:
+        """Lets others lead: there are none."""
 
     def close(self) -> None:
         """Closes the journal."""

@@ -87,7 +87,7 @@ async def listen_unix(server: Server, path: str, mode: int) -> asyncio.AbstractS
 
 async def listen_network(server: Server, network: Network) -> asyncio.AbstractServer:
     """Answers over TCP: with TLS, to who says a token."""
-    accept = partial(server.accept, is_trusted=not server.tokens)
+    accept = partial(server.accept, is_trusted=not server.tokens.clients)
     greeting = GREETING if network.context else None
     return await asyncio.start_server(
         accept, network.host, network.port, ssl=network.context, limit=MAX_LINE, backlog=BACKLOG, ssl_handshake_timeout=greeting,

@@ -37,7 +37,7 @@ def new_notices() -> deque[tuple[int, str]]:
 class Session:
     """A session: its key, its lease, its last requests with their answers, and its last notices.
 
-    `jobs` are its own, and `uses` are jobs of other sessions that it may ask for, with what it got for each.
+    `jobs` are its own. `shares` are what it got itself for each job that it owns or uses.
     """
 
     key: str
@@ -47,7 +47,11 @@ class Session:
     noted: int = 0
     notices: deque[tuple[int, str]] = field(default_factory=new_notices)
     jobs: list[str] = field(default_factory=list)
-    uses: dict[str, Amounts] = field(default_factory=dict)
+    shares: dict[str, Amounts] = field(default_factory=dict)
+
+    def uses(self) -> list[str]:
+        """Returns the jobs of other sessions that it may ask for."""
+        return [job for job in self.shares if job not in self.jobs]
 
     def keep(self, number: int, answer: list[str]) -> None:
         """Keeps the answer to a request, and drops the oldest one."""
@@ -63,17 +67,17 @@ class Session:
         self.notices.append((self.noted, line))
         return self.noted
 
-    def count(self, job: str, amounts: list[tuple[str, int]], sign: int) -> None:
-        """Counts what was got for a job of another session, or given back."""
-        got = self.uses[job]
-        for name, amount in amounts:
-            got[name] = max(0, got.get(name, 0) + sign * amount)
+    def count(self, job: str, amounts: Amounts, sign: int) -> None:
+        """Counts what was got for a job, or given back."""
+        share = self.shares[job]
+        for name, amount in amounts.items():
+            share[name] = share.get(name, 0) + sign * amount
 
     def to_json(self) -> dict[str, Any]:
         """Returns the session as a snapshot has it."""
         return {
             "key": self.key, "lease": self.lease, "last": self.last, "answers": self.answers, "noted": self.noted,
-            "notices": list(self.notices), "jobs": self.jobs, "uses": self.uses,
+            "notices": list(self.notices), "jobs": self.jobs, "shares": self.shares,
         }
 
     @classmethod

@@ -14,7 +14,7 @@ from script.serving.desk import Desk
 from script.serving.sessions import Session
 from script.serving.words import HOLE
 
-VERSION = 1
+VERSION = 2
 # What the bank answers to the commands of a snapshot.
 EXPECTED = ("held", "queued")
 
@@ -59,6 +59,7 @@ def snapshot(desk: Desk) -> str:
     body = {
         "version": VERSION, "commands": commands_of(desk, state), "state": state, "slots": desk.slots, "had_job": desk.had_job,
         "last_sid": desk.last_sid, "digest": desk.digest, "marks": desk.marks, "wishes": desk.wishes, "counts": desk.counts,
+        "declared": desk.declared,
         "sessions": {sid: session.to_json() for sid, session in desk.sessions.items()},
     }
     return json.dumps(body, separators=(",", ":"))
@@ -78,7 +79,7 @@ def restored(bank: BankProcess, text: str) -> Desk:
     desk.sessions = {int(sid): Session.from_json(session) for sid, session in body["sessions"].items()}
     desk.owners = {job: sid for sid, session in desk.sessions.items() for job in session.jobs}
     desk.wishes = {job: (sid, amounts) for job, (sid, amounts) in body["wishes"].items()}
-    desk.slots, desk.had_job = body["slots"], body["had_job"]
+    desk.slots, desk.had_job, desk.declared = body["slots"], body["had_job"], body["declared"]
     desk.last_sid, desk.counts, desk.digest = body["last_sid"], body["counts"], body["digest"]
     desk.marks = {int(count): digest for count, digest in body["marks"].items()}
     desk.newest_mark = max(desk.marks, default=0)

@@ -2,6 +2,7 @@
 from __future__ import annotations
 
 import re
+import time
 from typing import NamedTuple
 
 VERSION = 1
@@ -21,9 +22,9 @@ HOLE = "-hole-"
 
 REFUSED = {
     "S1": "the first line over this transport is `auth TOKEN`, with a token that is known",
-    "S2": "this server answers no more",
+    "S2": "this server does not answer now",
     "S3": "the job belongs to another session",
-    "S4": "only the operator declares resources and changes their capital",
+    "S4": "only an operator changes the capital, and resources are declared at the first start",
     "S5": "no such session, or not its key",
     "S6": "the answer to this request is no longer kept",
     "S7": "too many sessions or clients",
@@ -31,17 +32,33 @@ REFUSED = {
     "S9": "a command that changes the bank needs a session",
     "S10": f"a lease is {MIN_LEASE} to {MAX_LEASE} seconds",
     "S11": f"names that begin with {HOLE} are the server's",
+    "S12": "the session itself did not get as much of it for this job",
+    "S13": "the wish of the job is that of another session",
+    "S14": "too much was left unread",
 }
-CHANGING = frozenset(("resource", "capital", "job", "ask", "hold", "want", "drop", "give", "leave"))
+CHANGING = frozenset(("resource", "capital", "claim", "job", "ask", "hold", "want", "drop", "give", "leave"))
+# What the owner of a job alone may say of it.
+OF_OWNER = ("claim", "leave")
 NOT_A_COMMAND = "refused B1 not a command"
+AMOUNT = re.compile(r"0|[1-9][0-9]{0,6}")
 # Words as the bank cuts them: blanks part them, and a comma is a word. (Python's split() knows other blanks.)
 WORD = re.compile(r"[^ \t\r,]+|,")
 COMMA = re.compile(r" ?, ?")
 
 
+def now() -> float:
+    """Returns seconds by a clock that goes on while the machine is suspended, as leases do."""
+    return time.clock_gettime(time.CLOCK_BOOTTIME)
+
+
 def refused(code: str) -> str:
     """Returns the line of a refusal."""
     return f"refused {code} {REFUSED[code]}"
+
+
+def elsewhere(address: str) -> str:
+    """Returns the line of a refusal to who has to go to another server, which is at this address if one leads."""
+    return f"{refused('S2')}, but {address}" if address else refused("S2")
 
 
 class Command(NamedTuple):
@@ -53,9 +70,15 @@ class Command(NamedTuple):
     line: str
     words: list[str]
 
-    def amounts(self) -> list[tuple[str, int]]:
+    def amounts(self) -> dict[str, int]:
         """Returns resources and amounts, of a command that the bank has taken."""
-        return [(name, int(amount)) for amount, name in zip(self.words[2::3], self.words[3::3])]
+        return {name: int(amount) for amount, name in zip(self.words[2::3], self.words[3::3])}
+
+    def are_amounts(self) -> bool:
+        """Returns whether `VERB J K R, ..` is what the words are, with no resource twice."""
+        amounts, names, commas = self.words[2::3], self.words[3::3], self.words[4::3]
+        is_list = len(self.words) % 3 == 1 and len(self.words) > 3 and set(commas) <= {","} and "," not in (*amounts, *names)
+        return is_list and all(map(AMOUNT.fullmatch, amounts)) and len(set(names)) == len(names)
 
 
 def read_command(text: str) -> Command | None:

@@ -18,13 +18,62 @@ class Lost(Fault):
     """The session has ended."""
 
 
+class Elsewhere(ConnectionError):
+    """This server does not answer now: another one leads, or none."""
+
+
+def is_of_unix(address: str) -> bool:
+    """Returns whether an address is the path of a socket."""
+    return "/" in address or ":" not in address
+
+
+def host_and_port(address: str) -> tuple[str, int]:
+    """Returns the host and the port of `HOST:PORT` or `tls:HOST:PORT`."""
+    host, _, port = address.removeprefix("tls:").rpartition(":")
+    return host.strip("[]"), int(port)
+
+
+def words_of(lines: list[str], has_session: bool) -> list[str]:
+    """Returns the words of the answer to a greeting. Raises what a refusal means."""
+    words = lines[0].split(" ") if lines else [""]
+    if words[0] != "refused":
+        return words
+    if words[1] == "S2":
+        raise Elsewhere(lines[0])
+    raise Lost("the session has ended") if words[1] == "S5" and has_session else Fault(lines[0])
+
+
+class Addresses:
+    """The servers of which one leads, first the one that is tried next."""
+
+    def __init__(self, text: str) -> None:
+        self.all = [it for it in text.split(",") if it]
+        if not self.all:
+            raise Fault("neither an address nor PARBEGIN_SOCKET says where the bank is served")
+
+    def first(self) -> str:
+        """Returns the server that is tried next."""
+        return self.all[0]
+
+    def is_told(self, fault: Exception) -> bool:
+        """Takes the next server, after one that did not answer. Returns whether that one told which leads."""
+        leads = str(fault).partition(", but ")[2] if isinstance(fault, Elsewhere) else ""
+        if not leads or leads == self.all[0]:
+            self.all.append(self.all.pop(0))
+            return False
+        self.all = [leads, *(it for it in self.all if it != leads)]
+        return True
+
+    def __str__(self) -> str:
+        return ",".join(self.all)
+
+
 class Wire:
     """The session of a client, over one connection at a time."""
 
     def __init__(self, address: str, lease: int, token: str | None, authority: str | None) -> None:
-        if not address:
-            raise Fault("neither an address nor PARBEGIN_SOCKET says where the bank is served")
-        self.address, self.lease, self.token, self.authority = address, lease, token, authority
+        self.addresses = Addresses(address)
+        self.lease, self.token, self.authority = lease, token, authority
         self.sid = self.key = ""
         self.is_open = False
         self.socket: socket.socket | None = None
@@ -34,20 +83,20 @@ class Wire:
 
     def connect(self) -> socket.socket:
         """Connects to the path of a socket, to `HOST:PORT`, or by TLS to `tls:HOST:PORT`."""
-        if "/" in self.address or ":" not in self.address:
+        address = self.addresses.first()
+        if is_of_unix(address):
             it = socket.socket(socket.AF_UNIX)
             it.settimeout(PATIENCE)
             try:
-                it.connect(self.address)
+                it.connect(address)
             except OSError:
                 it.close()
                 raise
             return it
-        host, _, port = self.address.removeprefix("tls:").rpartition(":")
-        host = host.strip("[]")
-        it = socket.create_connection((host, int(port)), PATIENCE)
+        host, port = host_and_port(address)
+        it = socket.create_connection((host, port), PATIENCE)
         it.setsockopt(socket.IPPROTO_TCP, socket.TCP_NODELAY, 1)
-        if not self.address.startswith("tls:"):
+        if not address.startswith("tls:"):
             return it
         # (needed here alone)
         import ssl
@@ -74,12 +123,7 @@ class Wire:
         lines: list[str] = []
         while (told := self.next_line()) != "ready":
             lines.append(told)
-        words = lines[0].split(" ") if lines else [""]
-        if words[0] == "refused":
-            if words[1] == "S2":
-                raise ConnectionError("the server is ending")
-            raise Lost("the session has ended") if words[1] == "S5" and self.sid else Fault(lines[0])
-        return words
+        return words_of(lines, bool(self.sid))
 
     def send(self, *lines: str) -> None:
         """Sends lines."""

@@ -8,14 +8,16 @@ import time
 from collections.abc import Iterator, Mapping
 from typing import NamedTuple
 
-from ._wire import Lost, Wire
+from ._wire import Elsewhere, Lost, Wire
 from .answers import CLOSED, Answer, Ended, Fault
 
 Amounts = Mapping[str, int]
 # By the first word of the answer to a request.
 TOLD = {"granted": Answer.GRANTED, "queued": Answer.NOT_NOW, "wait": Answer.NOT_NOW, "over": Answer.OVER_CLAIM}
-# Seconds between two tries to reach a server.
-PAUSE = 0.1
+# The refusals of `drop` of a wish that was granted: none waits, or that of another session.
+LATE = ("refused B13", "refused S13")
+# Seconds between two tries to reach a server, in which a request wants an answer, and between two looks at that.
+PAUSE, SILENCE, LOOK = 0.1, 5.0, 1.0
 
 
 class NamedReason(NamedTuple):
@@ -46,6 +48,7 @@ class Request:
 
     def __init__(self, line: str) -> None:
         self.line = line
+        self.sent = time.monotonic()
         self.answer: list[str] | None = None
 
 
@@ -67,6 +70,7 @@ class RemoteBank:
         patience: float = 10.0,
     ) -> None:
         """Begins a session. The address is the path of a socket, `HOST:PORT` or `tls:HOST:PORT`; else PARBEGIN_SOCKET has it.
+        Several, with commas between, are those of servers of which one leads.
 
         Raises Fault if no server answers within `patience` seconds. Over TLS `token` lets the client in, and `authority` is a
         file with the certificate of who signed that of the server.
@@ -80,11 +84,13 @@ class RemoteBank:
         self._number = self._noticed = 0
         # the number of the notice by which each job was granted something last, and the last one before its wish
         self._granted: dict[str, int] = {}
+        # the same of the notice by which each job of another session has left
+        self._left: dict[str, int] = {}
         self._before: dict[str, int] = {}
         self._ended = ""
         end = time.monotonic() + patience
         while not self._connect(end):
-            time.sleep(PAUSE)
+            pass
         self._keeper = threading.Thread(target=self._keep, name="parbegin-remote", daemon=True)
         self._keeper.start()
 
@@ -96,14 +102,23 @@ class RemoteBank:
             self._wire.open(self._noticed)
         except OSError as fault:
             if end is not None and time.monotonic() > end:
-                raise Fault(f"no server answers at {self._wire.address}: {fault.strerror or fault}") from fault
+                raise Fault(f"no server answers at {self._wire.addresses}: {fault.strerror or fault}") from fault
+            if not self._wire.addresses.is_told(fault):
+                time.sleep(PAUSE)
             return False
         with self._turn:
             self._parts.clear()
             # (what is sent from here on is sent by who makes the request)
             self._wire.is_open = True
+            for request in self._requests.values():
+                request.sent = time.monotonic()
             self._send(*(f"{number} {it.line}" for number, it in self._requests.items()))
         return True
+
+    def _is_silent(self) -> bool:
+        """Returns whether a request has waited too long for its answer over this connection."""
+        with self._turn:
+            return any(time.monotonic() - it.sent > SILENCE for it in self._requests.values())
 
     def _keep(self) -> None:
         """Reads what comes and keeps the lease, until the session ends."""
@@ -111,10 +126,12 @@ class RemoteBank:
         while not self._ended:
             try:
                 if not self._wire.is_open and not self._connect():
-                    time.sleep(PAUSE)
                     continue
-                for line in self._wire.lines(self._lease / 8):
+                for line in self._wire.lines(min(LOOK, self._lease / 8)):
                     self._take(line)
+                if self._is_silent():
+                    # (it may be paused, and another one lead)
+                    raise ConnectionError("the server is silent")
                 if time.monotonic() - beaten > self._lease / 4:
                     beaten = time.monotonic()
                     self._make("beat")
@@ -123,8 +140,9 @@ class RemoteBank:
             except Fault:
                 # (as many clients as there can be, for a while)
                 time.sleep(PAUSE)
-            except OSError:
+            except OSError as fault:
                 self._wire.close()
+                self._wire.addresses.is_told(fault)
 
     def _take(self, line: str) -> None:
         """Takes a line: a notice, or a part of an answer."""
@@ -134,8 +152,12 @@ class RemoteBank:
                 number, _, told = rest.partition(" ")
                 if int(number) > self._noticed:
                     self._noticed = int(number)
-                    self._granted[told.split(" ")[1]] = self._noticed
+                    verb, job, *_ = told.split(" ")
+                    (self._granted if verb == "granted" else self._left)[job] = self._noticed
                     self._turn.notify_all()
+            elif not head.isdigit():
+                # (why the connection ends)
+                return
             elif rest != "ready":
                 self._parts.setdefault(int(head), []).append(rest)
             else:
@@ -144,7 +166,7 @@ class RemoteBank:
     def _answer(self, number: int, lines: list[str]) -> None:
         """Gives a whole answer to who waits for it."""
         if lines and lines[0].startswith("refused S2"):
-            raise ConnectionError("the server is ending")
+            raise Elsewhere(lines[0])
         request = self._requests.pop(number, None)
         if request is not None and lines and lines[0].startswith("refused S5") and not request.line.startswith("use "):
             raise Lost("the session has ended")
@@ -194,6 +216,10 @@ class RemoteBank:
         """A job joins with its claims, the most that it will hold at once."""
         self.say(f"job {job} {spell(claim)}")
 
+    def use(self, job: str, key: str) -> None:
+        """May ask for a job of another session, whose `key` this is. What this session gets for the job is its own."""
+        self.say(f"use {job} {key}")
+
     def leave(self, job: str) -> None:
         """A job leaves: all that it holds comes back."""
         self.say(f"leave {job}")
@@ -212,12 +238,17 @@ class RemoteBank:
         return answer
 
     def wait(self, job: str, timeout: float | None = None) -> bool:
-        """Waits until the wish of a job is granted. Returns whether it was in time; the wish stays in the queue."""
+        """Waits until the wish of a job is granted. Returns whether it was in time; the wish stays in the queue.
+
+        Raises Fault if the job is that of another session, and has left.
+        """
         with self._turn:
             before = self._before.get(job, 0)
-            self._turn.wait_for(lambda: self._granted.get(job, 0) > before or self._ended, timeout)
+            self._turn.wait_for(lambda: max(self._granted.get(job, 0), self._left.get(job, 0)) > before or self._ended, timeout)
             if self._granted.get(job, 0) > before:
                 return True
+            if self._left.get(job, 0) > before:
+                raise Fault("the job has left, with all that it held")
             if self._ended:
                 raise Ended(self._ended)
             return False
@@ -237,7 +268,7 @@ class RemoteBank:
             self.drop(job)
         except Fault as why:
             # (it was granted at the last moment)
-            if str(why).startswith("refused B13"):
+            if str(why).startswith(LATE):
                 return True
             raise
         return False
@@ -271,6 +302,11 @@ class RemoteBank:
     def fence(self) -> int:
         """Returns a number that rises with each command, also over restarts of the server."""
         return int(self.say("fence")[0].split(" ")[1])
+
+    @property
+    def key(self) -> str:
+        """The key of the session, by which others may use its jobs."""
+        return self._wire.key
 
     def close(self) -> None:
         """Ends the session: its jobs leave. It never raises, and later calls raise Ended."""

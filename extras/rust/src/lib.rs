@@ -7,7 +7,9 @@
 
 mod bank;
 mod commands;
+mod remote;
 mod saved;
 
 pub use bank::{Answer, BYTES, Bank, Fault, MAX_JOBS, MAX_RESOURCES, Reason};
 pub use commands::{call, check, claims, plan};
+pub use remote::{RemoteAnswer, RemoteBank, RemoteFault};
