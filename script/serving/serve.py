@@ -4,12 +4,12 @@ from __future__ import annotations
 import asyncio
 import os
 import re
-import resource
 import signal
 import sqlite3
 from collections.abc import Sequence
 from contextlib import closing
 
+from script.hosting import allow_files, bound_sockets, notify, read_address
 from script.options import Given, WrongWords, read_options
 from script.places import DEVICE, FAULT, say, shown
 from script.serving import listening
@@ -48,8 +48,6 @@ WITH_VALUE = (
     "--journal", "--socket", "--mode", "--capital", "--tcp", "--cert", "--key", "--tokens", "--http", "--clients", "--sessions",
     "--snapshot-every",
 )
-# The files of a server beside its connections, with those of browsers.
-SPARE_FILES = 128
 OF_TLS = ("--cert", "--key", "--tokens")
 
 
@@ -121,7 +119,7 @@ async def listen(server: Server, options: dict[str, str], network: listening.Net
         # (needed here alone)
         from script.serving.http import listen_http
 
-        opened.append(await listen_http(server, *listening.read_address(options["--http"])))
+        opened += await listen_http(server, bound_sockets(*read_address(options["--http"])))
     if "--socket" in options:
         opened.append(await listening.listen_unix(server, options["--socket"], int(options.get("--mode", "600"), 8)))
     return opened
@@ -151,18 +149,9 @@ async def answer(server: Server, first: Sequence[str], opened: Sequence[asyncio.
     for it in opened:
         await it.start_serving()
     say(f"serves: {server.meters.recovered} entries after the snapshot, {len(server.desk.sessions)} sessions")
-    listening.notify("READY=1")
+    notify("READY=1")
     await running
-    listening.notify("STOPPING=1")
-
-
-def allow_files(clients: int) -> None:
-    """Lets this process have as many files as its clients need, as far as it may."""
-    soft, hard = resource.getrlimit(resource.RLIMIT_NOFILE)
-    wanted = clients + SPARE_FILES
-    if resource.RLIM_INFINITY != soft < wanted:
-        most = wanted if hard == resource.RLIM_INFINITY else min(wanted, hard)
-        resource.setrlimit(resource.RLIMIT_NOFILE, (max(soft, most), hard))
+    notify("STOPPING=1")
 
 
 def call(start: list[str], words: list[str]) -> int:
