@@ -120,7 +120,7 @@ class Judge:
             return Verdict("refused", f"The text is refused: {first['code']}.", message)
         if wanted:
             return Verdict("accepted", f"The text is accepted, and should be refused with {wanted}.")
-        for step in (self.plan, self.code, self.prints, self.outcomes, self.orders, self.ends, self.by_cash):
+        for step in (self.plan, self.code, self.prints, self.ends, self.outcomes, self.orders, self.by_cash):
             fault = yield from step()
             if fault:
                 return fault
@@ -239,7 +239,8 @@ class Judge:
         orders = sorted({tuple(str(it["value"]) for it in end["prints"]) for end in outcomes})
         if len(orders) == number:
             return None
-        return Verdict("orders", f"Its prints have {len(orders)} possible orders, and {number} are wanted.", [" ".join(it) for it in orders[:MOST_TOLD]])
+        said = f"Orders in which it may print: {len(orders)}, and {number} are wanted."
+        return Verdict("orders", said, [" ".join(it) for it in orders[:MOST_TOLD]])
 
     def ends(self) -> Step:
         """Looks whether all runs end, or all fair ones."""
