@@ -63,11 +63,17 @@ def try_words(tally: Tally, script: str, folder: pathlib.Path) -> None:
 
 
 def try_answers(tally: Tally, script: str, folder: pathlib.Path) -> None:
-    """Judges the answers of the exercises by `--try`."""
-    ran = subprocess.run([script, "class", "--try"], cwd=folder, stdin=subprocess.DEVNULL, capture_output=True, check=False)
-    told = ran.stdout.decode()
-    count = sum(1 + len(it.wrong) + ("start" in it.blocks) for it in EXERCISES.values())
-    tally.expect(ran.returncode == DONE and told.count("as its page says") == count, "class --try", told, ran.stderr)
+    """Judges the answers of two exercises by `--try`; and of one that says of them what is not so."""
+    (folder / "own").mkdir()
+    for name in ("03-three-outcomes.md", "09-two-readers.md"):
+        (folder / "own" / name).write_bytes((TOP / "examples/exercises" / name).read_bytes())
+    words = [script, "class", "--try", "--exercises", "own"]
+    ran = subprocess.run(words, cwd=folder, stdin=subprocess.DEVNULL, capture_output=True, check=False)
+    tally.expect(ran.returncode == DONE and ran.stdout.count(b": as its page says: ") == 9, "class --try", ran)
+    page = (folder / "own/03-three-outcomes.md").read_text()
+    (folder / "own/03-three-outcomes.md").write_text(page.replace("```wrong code", "```wrong fault"))
+    ran = subprocess.run(words, cwd=folder, stdin=subprocess.DEVNULL, capture_output=True, check=False)
+    tally.expect(ran.returncode == REFUSED and b"wrong answer 2: NOT fault: code: " in ran.stdout, "a page that is not so", ran)
 
 
 def try_files(tally: Tally, room: ClassRoom) -> None:
@@ -113,7 +119,8 @@ def try_program(tally: Tally, room: ClassRoom) -> None:
     recorded = call(["record", "--steps", "5000"], DEVICES.encode())[1]
     document = json.loads(call(["states", "--rows", "20000"], recorded)[1])
     got: dict[str, Any] = {"about": room.ask("about"), "exercises": room.ask("exercises"), "examples": room.ask("examples")}
-    got |= {name: room.ask(name, DEVICES) for name in ("run", "graph", "plan", "claims", "check", "hover", "complete")}
+    got |= {name: room.ask(name, DEVICES) for name in ("run", "graph", "plan", "claims", "check")}
+    got |= {name: room.ask(f"{name}?line=6&character=12", DEVICES) for name in ("hover", "complete")}
     got |= {"states": room.ask("states", recorded.decode()), "explain": room.ask("explain?code=N3")}
     got |= {"outcomes": room.ask("outcomes?lend=cash", DEVICES), "rename": room.ask("rename?line=2&character=10&name=drive", DEVICES)}
     for name, answer in got.items():
