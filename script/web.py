@@ -26,6 +26,8 @@ LINE = re.compile(rb"([A-Z]{1,20}) (/[A-Za-z0-9_./-]{0,200})(?:\?([!-~]{0,2000})
 FIELD = re.compile(rb"([A-Za-z0-9-]{1,60}):[ \t]*([\t -~]*?)[ \t]*")
 ONCE = ("content-length", "host", "transfer-encoding")
 MOST_FIELDS, MOST_WORDS, LEAST_PACKED, GREETING, BACKLOG = 60, 20, 2_000, 5, 1_024
+# Seconds after which connections that have not ended are ended once more.
+BETWEEN_CANCELS = 0.5
 # How much of a request is read that is not looked at, in parts.
 MOST_UNREAD, PART = 1 << 20, 1 << 14
 REASONS = {
@@ -136,6 +138,7 @@ class Service:
         self.counts: collections.Counter[str] = collections.Counter()
         self.open: collections.Counter[str] = collections.Counter()
         self.tasks: set[asyncio.Task[Any]] = set()
+        self.is_ending = False
 
     async def listen(self, sock: socket.socket, context: ssl.SSLContext | None = None) -> asyncio.AbstractServer:
         """Makes ready to answer at a socket that is bound."""
@@ -145,9 +148,13 @@ class Service:
 
     async def end(self, seconds: float) -> bool:
         """Ends all connections, and returns whether that was done in time."""
-        for it in self.tasks:
-            it.cancel()
-        return not self.tasks or not (await asyncio.wait(self.tasks, timeout=seconds))[1]
+        self.is_ending, last = True, time.monotonic() + seconds
+        while self.tasks and time.monotonic() < last:
+            # (older versions of Python lose a cancellation that comes together with what is waited for)
+            for it in self.tasks:
+                it.cancel()
+            await asyncio.wait(self.tasks, timeout=BETWEEN_CANCELS)
+        return not self.tasks
 
     async def serve(self, reader: asyncio.StreamReader, writer: asyncio.StreamWriter, gone: asyncio.Event) -> None:
         """Answers at a connection until it ends."""
@@ -241,7 +248,7 @@ class Exchange:
             answer, self.is_last = answer_json({"error": "the server has a fault"}, 500), True
         counts[f"answers {answer.status}"] += 1
         await self.send(answer)
-        return not self.is_last
+        return not self.is_last and not self.service.is_ending
 
     async def read(self, first: bytes) -> Request:
         """Reads a request after its first byte."""

@@ -11,6 +11,7 @@ import os
 import resource
 import signal
 import subprocess
+import time
 from contextlib import suppress
 from dataclasses import dataclass
 from typing import IO
@@ -20,8 +21,6 @@ from script.tools import command_of, path_of, tool_of
 
 MEGABYTE = 1 << 20
 MOST_TOLD, PART, MOST_FILES = 1 << 15, 1 << 16, 16
-# Seconds in which a process that was killed, or that has closed its output, has to be gone.
-LAST = 2.0
 
 
 @dataclass(frozen=True)
@@ -180,21 +179,25 @@ class Children:
         try:
             child.give(it.given, is_last=True)
             out = await asyncio.wait_for(child.out.read(), limits.clock)
-            status = await asyncio.wait_for(asyncio.shield(child.over), LAST)
+            status = await asyncio.wait_for(asyncio.shield(child.over), limits.clock)
         except asyncio.TimeoutError:
             return Said(b"", "", -1, "clock")
         finally:
             child.kill()
         return Said(out, child.told.decode("ascii", "replace"), status, child.why_stopped(status))
 
-    def end(self) -> bool:
-        """Ends all processes, and returns whether they were gone in time."""
-        left = list(self.all)
-        for it in left:
+    def kill(self) -> None:
+        """Kills all processes."""
+        for it in list(self.all):
             it.kill()
+
+    def end(self, seconds: float) -> bool:
+        """Kills all processes, and returns whether they were gone in time."""
+        self.kill()
+        last = time.monotonic() + seconds
         try:
-            for it in left:
-                it.process.wait(LAST)
+            for it in list(self.all):
+                it.process.wait(max(0.0, last - time.monotonic()))
         except subprocess.TimeoutExpired:
             return False
         return True

@@ -69,8 +69,8 @@ BOUNDS = Bounds(body=400_000)
 EVERYWHERE = ("0.0.0.0", "::")
 # An address of a network that is for documents: nothing is sent there, but the system says by which address it would be.
 ELSEWHERE = ("192.0.2.1", 9)
-# Seconds: for connections to end, and after which the system ends the server, whatever it does.
-END_OF_TASKS, END_OF_ALL = 5.0, 30
+# Seconds: for connections to end, for processes to be gone, and after which the system ends the server, whatever it does.
+END_OF_TASKS, END_OF_CHILDREN, END_OF_ALL = 15.0, 15.0, 50
 
 
 class Place(NamedTuple):
@@ -206,10 +206,21 @@ async def serve(room: Room, place: Place) -> int:
     signal.alarm(END_OF_ALL)
     for it in listening:
         it.close()
-    is_well = await service.end(END_OF_TASKS)
-    is_well = room.children.end() and is_well
+    return failed or await end(room, service)
+
+
+async def end(room: Room, service: Service) -> int:
+    """Ends processes and connections, each in its time, and returns the status."""
+    room.children.kill()
+    if not await service.end(END_OF_TASKS):
+        say(f"{len(service.tasks)} connections did not end")
+    is_well = not service.tasks
+    # (a connection may have started one more before it ended)
+    if not room.children.end(END_OF_CHILDREN):
+        say(f"{len(room.children.all)} processes did not end")
+        is_well = False
     room.results.close()
-    return failed or (0 if is_well else FAULT)
+    return 0 if is_well else FAULT
 
 
 def call(start: list[str], words: list[str]) -> int:
