@@ -155,8 +155,9 @@ def read_page_of(name: str, given: bytes, options: dict[str, str]) -> Exercise:
 
 def grade_of(name: str, given: bytes, it: Verdict) -> Grade:
     """Returns the grade of a submission that a judge has judged."""
-    verdict = {0: "as expected", UNEXPECTED: f"not as expected: {it.said}", REFUSED: f"refused: {it.said}"}.get(it.status, it.said)
-    return Grade(name, given, it.status, Told(verdict, picks=it.picks.splitlines()), "", " ".join(it.more), None, it.lend)
+    verdicts = {0: "as expected", UNEXPECTED: f"not as expected: {it.said}", REFUSED: f"refused: {it.said}"}
+    told = Told(verdicts.get(it.status, it.said), picks=it.picks.splitlines())
+    return Grade(name, given, it.status, told, "", " ".join(it.more), None, it.lend)
 
 
 def submissions(folder: str) -> Iterator[str]:

@@ -40,7 +40,8 @@ def bound_sockets(host: str, port: int) -> list[socket.socket]:
     Nothing listens yet."""
     found: list[socket.socket] = []
     try:
-        for family, kind, number, _, address in socket.getaddrinfo(host, port, type=socket.SOCK_STREAM, flags=socket.AI_PASSIVE):
+        named = socket.getaddrinfo(host, port, type=socket.SOCK_STREAM, flags=socket.AI_PASSIVE)
+        for family, kind, number, _, address in named:
             chosen = found[0].getsockname()[1] if found else port
             with suppress_missing():
                 found.append(bound_socket(family, kind, number, (address[0], chosen, *address[2:])))

@@ -32,8 +32,8 @@ BETWEEN_CANCELS = 0.5
 MOST_UNREAD, PART = 1 << 20, 1 << 14
 REASONS = {
     200: "OK", 304: "Not Modified", 400: "Bad Request", 403: "Forbidden", 404: "Not Found", 405: "Method Not Allowed",
-    408: "Request Timeout", 411: "Length Required", 413: "Content Too Large", 421: "Misdirected Request", 429: "Too Many Requests",
-    431: "Request Header Fields Too Large", 500: "Internal Server Error", 503: "Service Unavailable",
+    408: "Request Timeout", 411: "Length Required", 413: "Content Too Large", 421: "Misdirected Request",
+    429: "Too Many Requests", 431: "Request Header Fields Too Large", 500: "Internal Server Error", 503: "Service Unavailable",
 }
 # Statuses of a refusal after which the connection may go on: all of the request was read.
 GOES_ON = (400, 404, 429, 503)
@@ -220,7 +220,9 @@ def words_of(query: bytes | None) -> dict[str, str]:
 class Exchange:
     """One request and its answer."""
 
-    def __init__(self, service: Service, reader: asyncio.StreamReader, writer: asyncio.StreamWriter, address: str, gone: asyncio.Event) -> None:
+    def __init__(
+        self, service: Service, reader: asyncio.StreamReader, writer: asyncio.StreamWriter, address: str, gone: asyncio.Event,
+    ) -> None:
         self.service, self.reader, self.writer, self.address, self.gone = service, reader, writer, address, gone
         self.is_last, self.is_head, self.packs, self.is_unread = True, False, False, False
 

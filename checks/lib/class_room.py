@@ -27,7 +27,8 @@ class ClassRoom:
 
     def start(self) -> None:
         """Starts it, and waits until it says its address."""
-        self.process = subprocess.Popen(self.words, cwd=self.folder, stdin=subprocess.DEVNULL, stdout=subprocess.PIPE, stderr=subprocess.PIPE)
+        self.process = subprocess.Popen(
+            self.words, cwd=self.folder, stdin=subprocess.DEVNULL, stdout=subprocess.PIPE, stderr=subprocess.PIPE)
         assert self.process.stdout is not None and self.process.stderr is not None
         said = self.process.stdout.readline() + self.process.stdout.readline()
         found = re.search(rb"https?://[^ ]*:(\d+)/teacher#key=(\S+)", said)
@@ -35,7 +36,9 @@ class ClassRoom:
             raise RuntimeError(f"class does not start: {said!r} {self.process.stderr.read()!r}")
         self.port, self.key = int(found[1]), found[2].decode()
 
-    def send(self, method: str, path: str, body: bytes | None = None, headers: dict[str, str] | None = None) -> tuple[int, dict[str, str], bytes]:
+    def send(
+        self, method: str, path: str, body: bytes | None = None, headers: dict[str, str] | None = None,
+    ) -> tuple[int, dict[str, str], bytes]:
         """Sends a request, and returns its status, its headers and its body."""
         connection = http.client.HTTPConnection("127.0.0.1", self.port, timeout=WATCHDOG)
         try:

@@ -50,11 +50,16 @@ def try_words(tally: Tally, script: str, folder: pathlib.Path) -> None:
     taken = socket.create_server(("127.0.0.1", 0))
     port = taken.getsockname()[1]
     for words, status, told in (
-        (["--fly"], WORDS, "'--fly'"), (["hello.pb"], WORDS, "'hello.pb'"), (["--listen", "here"], WORDS, "'here' is no address"),
-        (["--rate", "x"], WORDS, "'x'"), (["--cert", "c"], WORDS, "belong together"), (["--exercises", "none"], WORDS, "none: no file"),
-        (["--exercises", "nosuch"], DEVICE, "nosuch: No such file"), (["--exercises", "wrong"], REFUSED, "a: the first line is no heading"),
-        (["--teacher", "short"], WORDS, "short has no key"), (["--listen", f"127.0.0.1:{port}"], DEVICE, "Address already in use"),
-        (["--keep", "nosuch/kept"], DEVICE, "nosuch/kept: "), (["--json"], WORDS, "class has no '--json'"), (["--help"], DONE, "--names"),
+        (["--fly"], WORDS, "'--fly'"), (["hello.pb"], WORDS, "'hello.pb'"),
+        (["--listen", "here"], WORDS, "'here' is no address"),
+        (["--rate", "x"], WORDS, "'x'"), (["--cert", "c"], WORDS, "belong together"),
+        (["--exercises", "none"], WORDS, "none: no file"),
+        (["--exercises", "nosuch"], DEVICE, "nosuch: No such file"),
+        (["--exercises", "wrong"], REFUSED, "a: the first line is no heading"),
+        (["--teacher", "short"], WORDS, "short has no key"),
+        (["--listen", f"127.0.0.1:{port}"], DEVICE, "Address already in use"),
+        (["--keep", "nosuch/kept"], DEVICE, "nosuch/kept: "), (["--json"], WORDS, "class has no '--json'"),
+        (["--help"], DONE, "--names"),
     ):
         ran = subprocess.run([script, "class", *words], cwd=folder, stdin=subprocess.DEVNULL, capture_output=True, check=False)
         said = (ran.stdout + ran.stderr).decode()
@@ -96,12 +101,16 @@ def try_errors(tally: Tally, room: ClassRoom) -> None:
     """Tries requests that are refused: each is told as an object with `error`."""
     long = b"x" * 65_537
     for status, method, path, body, headers in (
-        (404, "GET", "/nosuch", None, {}), (404, "GET", "/../etc/passwd", None, {}), (404, "POST", "/api/grade?exercise=x", b"", {}),
-        (400, "POST", "/api/run?lend=till", b"", {}), (400, "POST", "/api/run?steps=-1", b"", {}), (400, "GET", "/api/explain?code=x", None, {}),
+        (404, "GET", "/nosuch", None, {}), (404, "GET", "/../etc/passwd", None, {}),
+        (404, "POST", "/api/grade?exercise=x", b"", {}),
+        (400, "POST", "/api/run?lend=till", b"", {}), (400, "POST", "/api/run?steps=-1", b"", {}),
+        (400, "GET", "/api/explain?code=x", None, {}),
         (400, "POST", "/api/rename?name=a+b", b"", {}), (400, "POST", "/api/outcomes?endless=yes&prints=yes", b"", {}),
-        (404, "GET", "/api/explain?code=Z9", None, {}), (413, "POST", "/api/check", long, {}), (413, "POST", "/api/check", 7 * long, {}),
+        (404, "GET", "/api/explain?code=Z9", None, {}), (413, "POST", "/api/check", long, {}),
+        (413, "POST", "/api/check", 7 * long, {}),
         (403, "GET", "/api/teacher", None, {}), (403, "POST", "/api/check", b"", {"Sec-Fetch-Site": "cross-site"}),
-        (421, "GET", "/", None, {"Host": "example.org"}), (405, "PUT", "/", b"", {}), (431, "GET", "/", None, {"X-Long": "x" * 9_000}),
+        (421, "GET", "/", None, {"Host": "example.org"}), (405, "PUT", "/", b"", {}),
+        (431, "GET", "/", None, {"X-Long": "x" * 9_000}),
         (400, "GET", "/%2e%2e", None, {}), (404, "GET", "/api/check", None, {}),
     ):
         got, _, told = room.send(method, path, body, headers)
@@ -122,7 +131,8 @@ def try_program(tally: Tally, room: ClassRoom) -> None:
     got |= {name: room.ask(name, DEVICES) for name in ("run", "graph", "plan", "claims", "check")}
     got |= {name: room.ask(f"{name}?line=6&character=12", DEVICES) for name in ("hover", "complete")}
     got |= {"states": room.ask("states", recorded.decode()), "explain": room.ask("explain?code=N3")}
-    got |= {"outcomes": room.ask("outcomes?lend=cash", DEVICES), "rename": room.ask("rename?line=2&character=10&name=drive", DEVICES)}
+    got["outcomes"] = room.ask("outcomes?lend=cash", DEVICES)
+    got["rename"] = room.ask("rename?line=2&character=10&name=drive", DEVICES)
     for name, answer in got.items():
         fits(tally, "class", {name: answer})
         tally.expect("error" not in answer, name, "is answered by the error", answer)
@@ -136,10 +146,10 @@ def try_program(tally: Tally, room: ClassRoom) -> None:
     found = [it for it in got["outcomes"] if it["kind"] not in ("progress", "told", "time")]
     tally.expect(found == lines_of(["outcomes", "--lend", "cash"], DEVICES), "outcomes", found)
     tally.expect(got["check"]["diagnostics"] == [] and got["check"]["hints"], "a text that is a program", got["check"])
-    tally.expect("tape" in got["complete"]["words"] and "parbegin" in got["complete"]["words"], "words that complete", got["complete"])
+    tally.expect({"tape", "parbegin"} <= {*got["complete"]["words"]}, "words that complete", got["complete"])
     tally.expect({it["newText"] for it in got["rename"]["edits"]} == {"drive"}, "another name", got["rename"])
-    endless = [it["kind"] for it in room.ask("outcomes?endless=yes", SPINS)]
-    tally.expect([it for it in endless if it not in ("progress", "time")][:2] == ["endless", "round"], "a run that never ends", endless)
+    endless = [it["kind"] for it in room.ask("outcomes?endless=yes", SPINS) if it["kind"] not in ("progress", "time")]
+    tally.expect(endless[:2] == ["endless", "round"], "a run that never ends", endless)
     tally.expect(room.ask("run", "process p begin x end\n")["refused"].startswith("refused "), "a refused text is run")
     wrong = room.ask("check", "process p begin x := 1 end\n")
     tally.expect(wrong["diagnostics"][0]["code"] == "N3" and wrong["mends"], "what is wrong with a text", wrong)
@@ -178,7 +188,8 @@ def try_verdicts(tally: Tally, room: ClassRoom) -> None:
             continue
         tally.expect(verdict["kind"] == kind and verdict["right"] == (kind == "right"), it.name, kind, "is judged", verdict)
         tally.expect(verdict["hint"] == it.hints.get(kind, ""), it.name, kind, "has the hint", verdict["hint"])
-        tally.expect(is_shown(it, verdict, text), it.name, kind, "the picks of a verdict make no run that is not as wanted", verdict)
+        fault = "the picks of a verdict make no run that is not as wanted:"
+        tally.expect(is_shown(it, verdict, text), it.name, kind, fault, verdict)
     limited = EXERCISES["02-lost-update"]
     endless = "process p begin integer x; while 1 do x := x + 1; x := x - 1 + 1 od end\n"
     verdict = room.ask(f"grade?exercise={limited.name}", f"{endless}%%\n")
@@ -190,12 +201,14 @@ def try_grade(tally: Tally, script: str, folder: pathlib.Path) -> None:
     it = EXERCISES["02-lost-update"]
     (folder / "handed_in").mkdir()
     wanted = {"right.pb": "0"} | {f"wrong{at}.pb": "1" if kind == "refused" else "10" for at, (kind, _) in enumerate(it.wrong)}
-    for name, text in (("right.pb", it.blocks["solution"]), *((f"wrong{at}.pb", text) for at, (_, text) in enumerate(it.wrong))):
+    texts = {"right.pb": it.blocks["solution"], **{f"wrong{at}.pb": text for at, (_, text) in enumerate(it.wrong)}}
+    for name, text in texts.items():
         (folder / "handed_in" / name).write_text(text)
     words = [script, "grade", "--csv", "--html", "report.html", "handed_in", str(TOP / f"examples/exercises/{it.name}.md")]
     ran = subprocess.run(words, cwd=folder, stdin=subprocess.DEVNULL, capture_output=True, check=False)
     rows = {row[0]: row for row in csv.reader(ran.stdout.decode().splitlines()[1:])}
-    tally.expect(ran.returncode == UNEXPECTED and {name: row[1] for name, row in rows.items()} == wanted, "grade by a page", ran)
+    statuses = {name: row[1] for name, row in rows.items()}
+    tally.expect(ran.returncode == UNEXPECTED and statuses == wanted, "grade by a page", ran)
     tally.expect(rows.get("right.pb", ["", "", ""])[2] == "as expected", "a right answer", rows)
     runs = sorted(path.stem.removesuffix(".pb") for path in (folder / "report_runs").glob("*.html"))
     shown = sorted(f"wrong{at}" for at, (kind, _) in enumerate(it.wrong) if kind in ("prints", "fault", "endless"))
@@ -238,7 +251,8 @@ def try_rate(tally: Tally, script: str, folder: pathlib.Path) -> None:
         room.start()
         found = [room.send("GET", "/api/about") for _ in range(20)]
         late = [json.loads(told) for status, _, told in found if status == 429]
-        tally.expect(found[0][0] == 200 and late and all(set(it) == {"error"} for it in late), "requests are not limited", found)
+        is_limited = found[0][0] == 200 and late and all(set(it) == {"error"} for it in late)
+        tally.expect(is_limited, "requests are not limited", found)
         tally.expect(room.send("GET", "/api/about", None, {"X-Client": "f" * 32})[0] == 200, "one browser holds up another")
         tally.expect(room.send("GET", "/")[0] == 200, "the page itself is limited")
     finally:
@@ -249,7 +263,8 @@ def try_end(tally: Tally, room: ClassRoom, number: int) -> None:
     """Ends a server that searches, has a language server, and a connection that says nothing."""
     room.start()
     room.ask("check", DEVICES)
-    with socket.create_connection(("127.0.0.1", room.port)) as idle, socket.create_connection(("127.0.0.1", room.port)) as searching:
+    address = ("127.0.0.1", room.port)
+    with socket.create_connection(address) as idle, socket.create_connection(address) as searching:
         idle.sendall(b"GET / HTTP/1.1\r\n")
         head = f"POST /api/outcomes HTTP/1.1\r\nHost: localhost\r\nContent-Length: {len(LONG)}\r\n\r\n"
         searching.sendall(head.encode() + LONG.encode())
@@ -268,7 +283,8 @@ def try_leaving(tally: Tally, room: ClassRoom) -> None:
         before = set(room.processes())
         it.sendall(f"POST /api/outcomes HTTP/1.1\r\nHost: localhost\r\nContent-Length: {len(LONG)}\r\n\r\n{LONG}".encode())
         tally.expect(wait_until(lambda: set(room.processes()) - before), "a search does not begin")
-    tally.expect(wait_until(lambda: not set(room.processes()) - before), "a search goes on whose client has left", room.processes())
+    is_over = wait_until(lambda: not set(room.processes()) - before)
+    tally.expect(is_over, "a search goes on whose client has left", room.processes())
 
 
 def main() -> None:

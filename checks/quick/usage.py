@@ -192,6 +192,7 @@ def fill(folder: pathlib.Path) -> None:
     (folder / "no_amount.pb").write_text(f"{held}claims at least 0 tape\np.0 print 1\n")
     (folder / "wanted.txt").write_text("p.0 print 1\n")
     (folder / "wrong.pb").write_text("process p begin x := 1 end\n")
+    (folder / "wrong.md").write_text("no heading\n")
     (folder / "folder").mkdir()
 
 

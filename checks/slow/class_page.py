@@ -35,8 +35,8 @@ SHOWN = "document.querySelector('body > main:not([hidden])').id !== 'wait'"
 IN_EDITOR = "document.activeElement.closest('.CodeMirror') !== null"
 # What has no name that a reader could say, and what is too small to be hit.
 NAMELESS = """[...document.querySelectorAll("button, a[href], input, select, textarea, progress, dialog, nav")].filter((it) =>
-  it.checkVisibility() && !(it.getAttribute("aria-label") || it.title || it.textContent.trim() || it.labels?.[0]?.textContent.trim() ||
-  it.placeholder)).map((it) => it.outerHTML.slice(0, 120))"""
+  it.checkVisibility() && !(it.getAttribute("aria-label") || it.title || it.textContent.trim() || it.placeholder ||
+  it.labels?.[0]?.textContent.trim())).map((it) => it.outerHTML.slice(0, 120))"""
 SMALL = """[...document.querySelectorAll("button, select, input")].filter((it) => {
   const { width, height } = it.getBoundingClientRect();
   return it.checkVisibility() && width > 0 && !/radio|checkbox|range/.test(it.type) && (height < 20 || width < 16);
@@ -48,7 +48,8 @@ ALL_EXAMPLES = """(async () => {
     writing.show(it.text);
     Object.assign(run, { seed: "1", picks: "" });
     open(run);
-    while (run.of !== run.key() && !$("waiting").textContent.includes("Back to the text")) await new Promise((go) => setTimeout(go, 20));
+    const isRefused = () => $("waiting").textContent.includes("Back to the text");
+    while (run.of !== run.key() && !isRefused()) await new Promise((go) => setTimeout(go, 20));
     if (run.of !== run.key()) { found.push(`${it.name} refused`); continue; }
     const lines = $("lines").children.length, wanted = it.text.replace(/\\n$/, "").split("\\n").length;
     if (lines !== wanted) found.push(`${it.name}: ${lines} lines, not ${wanted}`);
@@ -216,7 +217,8 @@ def look_at_looks(page: Page) -> None:
             page.expect(f"sizes of view {number + 1}", SMALL, [])
             for size in SIZES:
                 it.size(*size)
-                page.expect(f"view {number + 1} sticks out at {size}, {scheme}", "document.documentElement.scrollWidth <= innerWidth")
+                is_within = "document.documentElement.scrollWidth <= innerWidth"
+                page.expect(f"view {number + 1} sticks out at {size}, {scheme}", is_within)
                 if size in (SIZES[1], SIZES[3]):
                     page.picture(f"{'phone' if size == SIZES[1] else 'wide'}-{scheme}-view{number + 1}")
             it.size(1280, 720)
@@ -231,7 +233,8 @@ def look_at_looks(page: Page) -> None:
 def look_at_documents(page: Page) -> None:
     """Opens all examples one after another: nothing of the one before is left."""
     page.begin()
-    page.expect("examples one after another", f"{ALL_EXAMPLES}.then((found) => found.filter((it) => !it.endsWith('refused')))", [])
+    others = "then((found) => found.filter((it) => !it.endsWith('refused')))"
+    page.expect("examples one after another", f"{ALL_EXAMPLES}.{others}", [])
     page.silent("all examples")
 
 
@@ -248,7 +251,8 @@ def look_at_links(page: Page) -> None:
       const bytes = new Blob([new Uint8Array(5e7).fill(120)]).stream().pipeThrough(new CompressionStream("deflate-raw"));
       return toLetters(new Uint8Array(await new Response(bytes).arrayBuffer()));
     })()""")
-    for given in (f"t={bomb}", "t=!!!", "t=AAAA", "u=%FF", "x=../../etc", "x=02-lost-update&v=run", "v=constructor", "t=&u=", "a" * 50_000):
+    wild = ("t=!!!", "t=AAAA", "u=%FF", "x=../../etc", "x=02-lost-update&v=run", "v=constructor", "t=&u=", "a" * 50_000)
+    for given in (f"t={bomb}", *wild):
         it.visit(f"{base}/#{given}", READY)
         page.expect(f"the link {given[:20]}", "view !== null && writing.text.length <= 65536")
     page.expect("nothing of a text is run", "window.hit ?? 0", 0)
@@ -256,7 +260,7 @@ def look_at_links(page: Page) -> None:
     for number in (1, 2, 3, 0):
         page.open(number)
     page.expect("nothing of a text is run in a view", "window.hit ?? 0", 0)
-    it.js("(() => { const one = document.createElement('script'); one.textContent = 'window.hit = 2'; document.body.append(one); })()")
+    it.js("(() => { const one = h('script'); one.textContent = 'window.hit = 2'; document.body.append(one); })()")
     page.expect("the policy stops a script in the page", "window.hit ?? 0", 0)
 
 
@@ -267,7 +271,8 @@ def look_at_exercise(page: Page) -> None:
     it.wait("tasks.chosen?.name === '02-lost-update'")
     it.click("[data-key=judge]")
     it.wait("document.querySelector('.said .bad') !== null")
-    page.expect("the hint of the exercise", "document.querySelector('.said .hint').textContent", EXERCISES["02-lost-update"].hints["prints"])
+    hint = EXERCISES["02-lost-update"].hints["prints"]
+    page.expect("the hint of the exercise", "document.querySelector('.said .hint').textContent", hint)
     page.picture("wide-light-5-wrong")
     it.click("[data-key=such]")
     it.wait("run.isOpen === true")
@@ -305,6 +310,12 @@ def look_at_plain(page: Page) -> None:
     page.picture("wide-light-7-plain")
 
 
+LOOKS = (
+    look_at_editor, look_at_places, look_at_views, look_at_quiz, look_at_looks, look_at_documents, look_at_links,
+    look_at_exercise, look_at_teacher, look_at_plain,
+)
+
+
 def main() -> None:
     tally, pictures = Tally(), Path(sys.argv[2]) if len(sys.argv) > 2 else None
     with tempfile.TemporaryDirectory(prefix="parbegin-class-page-") as name:
@@ -314,8 +325,7 @@ def main() -> None:
         browser.size(1280, 720)
         page = Page(tally, room, browser, pictures)
         try:
-            for look in (look_at_editor, look_at_places, look_at_views, look_at_quiz, look_at_looks, look_at_documents, look_at_links,
-                         look_at_exercise, look_at_teacher, look_at_plain):
+            for look in LOOKS:
                 look(page)
             tally.expect(room.end() == (DONE, b""), "the end of a class")
         finally:

@@ -40,15 +40,18 @@ SMALL = b"process p begin print 1 end\n"
 PATHS = (
     "/../etc/passwd", "/..%2f..%2fetc/passwd", "/%2e%2e/%2e%2e/etc/passwd", "/static/../x", "//etc/passwd", "/etc/passwd",
     "/editor/../../../etc/passwd", "/editor/codemirror.js/../../x", "/.git/config", "/exercises/01-three-orders.md", "/api/",
-    "/api/grade/../teacher", "/page.css/", "/class.html%00", "/CLASS.HTML", "/api/explain?code=../../etc", "/api/explain?code=N3;ls",
-    "/api/explain?code=--help", "/api/explain?code=Z9", "/\\..\\..\\etc\\passwd", "/" + "a" * 300, "/page.html", "/make_page.py",
+    "/api/grade/../teacher", "/page.css/", "/class.html%00", "/CLASS.HTML", "/api/explain?code=../../etc",
+    "/api/explain?code=N3;ls",
+    "/api/explain?code=--help", "/api/explain?code=Z9", "/\\..\\..\\etc\\passwd", "/" + "a" * 300, "/page.html",
+    "/make_page.py",
 )
 QUERIES = (
     "seed=-1", "seed=x", "seed=99999999999999999999", "lend=evil", "steps=99999999", "steps=--help", "lend=banker%00",
     "&".join("a=1" for _ in range(100)),
 )
 ASKED = (
-    "check", "hover?line=1&character=2", "complete", "rename?name=x", "run?seed=1", "run", "record", "states", "plan", "claims", "graph",
+    "check", "hover?line=1&character=2", "complete", "rename?name=x", "run?seed=1", "run", "record", "states", "plan",
+    "claims", "graph",
     "outcomes?states=2000", "outcomes?states=2000&prints=yes", "outcomes?expect=any&states=2000",
     "outcomes?lend=cash&first-deadlock=yes&states=2000", "outcomes?fair=yes&states=2000", "outcomes?endless=yes&states=2000",
     "grade?exercise=02-lost-update",
@@ -117,14 +120,17 @@ def try_requests(tally: Tally, room: ClassRoom) -> None:
         ("a head without an end", head + b"A: b\r\n" * 3_000, (431,)), ("another host", get("/", host="evil.example"), (421,)),
         ("no host", head + b"\r\n", (421,)), ("two hosts", head + 2 * own + b"\r\n", (400,)),
         ("another method", b"DELETE / HTTP/1.1\r\n" + own + b"\r\n", (405,)), ("no HTTP", b"hello\r\n\r\n", (400,)),
-        ("TLS", b"\x16\x03\x01\x02\x00\x01\x00" + bytes(300) + b"\r\n\r\n", (400,)), ("HTTP/2", b"PRI * HTTP/2.0\r\n\r\n", (400,)),
+        ("TLS", b"\x16\x03\x01\x02\x00\x01\x00" + bytes(300) + b"\r\n\r\n", (400,)),
+        ("HTTP/2", b"PRI * HTTP/2.0\r\n\r\n", (400,)),
         ("a folded header", head + own + b" x\r\n\r\n", (400,)), ("a NUL", b"GET /\0 HTTP/1.1\r\n" + own + b"\r\n", (400,)),
         ("a chunked body", get("/api/check", "Transfer-Encoding: chunked\r\n", "POST") + b"5\r\nhello\r\n0\r\n\r\n", (411,)),
         ("both lengths", get("/api/check", "Content-Length: 5\r\nTransfer-Encoding: chunked\r\n", "POST") + b"hello", (411,)),
         ("two lengths", get("/api/check", "Content-Length: 5\r\nContent-Length: 6\r\n", "POST") + b"hello!", (400,)),
-        ("a negative length", get("/api/check", "Content-Length: -5\r\n", "POST"), (411,)), ("no length", get("/api/check", "", "POST"), (411,)),
+        ("a negative length", get("/api/check", "Content-Length: -5\r\n", "POST"), (411,)),
+        ("no length", get("/api/check", "", "POST"), (411,)),
         ("4 GB announced", get("/api/check", "Content-Length: 400000000\r\n", "POST"), (413,)),
-        ("65,537 bytes", post("/api/check", b" " * 65_537), (413,)), ("65,536 bytes", post("/api/check", b" " * 65_536), (200,)),
+        ("65,537 bytes", post("/api/check", b" " * 65_537), (413,)), ("65,536 bytes", post("/api/check", b" " * 65_536),
+        (200,)),
         ("a GET with a body", get("/", "Content-Length: 5\r\n") + b"hello", (400,)),
         ("another page", post("/api/check", b"x", "Sec-Fetch-Site: cross-site\r\n"), (403,)),
     ):
@@ -143,7 +149,8 @@ def odd_texts() -> list[bytes]:
     return [bytes(draw.randrange(256) for _ in range(draw.randrange(3_000))) for _ in range(12)] + [
         b"", b"\0", b"%%\n", b"\n%%\n%%\n", b"\xff\xfe", "für ä".encode(), b"((((" * 16_000, b"begin " * 10_000,
         b"process p begin print " + b"-" * 60_000 + b"1 end", b"<script>alert(1)</script>", b"PBO 2\nresources 0\n",
-        b"process p begin integer x; while 1 do x := x + 1 od end", b"process p begin while 1 do print 1 od end", b"process p begin " + forks + b" end",
+        b"process p begin integer x; while 1 do x := x + 1 od end", b"process p begin while 1 do print 1 od end",
+        b"process p begin " + forks + b" end",
     ]
 
 
@@ -154,7 +161,8 @@ def try_texts(tally: Tally, room: ClassRoom) -> None:
             got = raw(room.port, post(f"/api/{name}", body, student(number)))
             tally.expect(status_of(got) in (200, 400), name, "of", body[:20], "is answered", got[:100])
             kind = got.partition(b"\r\n\r\n")[0]
-            is_script = b"<script" in got.partition(b"\r\n\r\n")[2] and b"application/" not in kind and b"text/plain" not in kind
+            is_page = b"application/" not in kind and b"text/plain" not in kind
+            is_script = is_page and b"<script" in got.partition(b"\r\n\r\n")[2]
             tally.expect(not is_script, name, "sends a text back as a page", got[:200])
     for name in ("%3Cscript%3E", "%FF%00%0A", "=cmd()", "a" * 5_000):
         got = raw(room.port, post("/api/grade?exercise=02-lost-update", b"x", f"X-Name: {name}\r\n{student(77)}"))
@@ -333,8 +341,9 @@ def try_ends(tally: Tally, script: str, folder: Path) -> None:
         room = ClassRoom(script, folder, "--states", "4000000")
         room.start()
         open_ones = [socket.create_connection(("127.0.0.1", room.port)) for _ in range(8)]
+        small = [b"GET / HT", post("/api/check", DEVICES), post("/api/graph", DEVICES)]
         for at, it in enumerate(open_ones):
-            it.sendall([post("/api/outcomes", STEPS, student(at)), b"GET / HT", post("/api/check", DEVICES), post("/api/graph", DEVICES)][at % 4])
+            it.sendall([post("/api/outcomes", STEPS, student(at)), *small][at % 4])
         tally.expect(wait_until(lambda: searches(room)), "a search does not begin")
         children = room.processes()
         got = room.end((signal.SIGTERM, signal.SIGINT, signal.SIGHUP)[number % 3])

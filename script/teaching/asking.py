@@ -1,4 +1,4 @@
-"""What a class asks of the program: each request is one or two calls, within limits, and their answers as the program wrote them."""
+"""What a class asks of the program: each request is one or two calls, within limits, answered as the program wrote it."""
 from __future__ import annotations
 
 import asyncio
@@ -62,7 +62,7 @@ class Asking:
     async def calls(self, request: Request, *calls: Call) -> list[Said]:
         """Makes calls that need no more than a moment, in one place of the pool. The first that is refused is the last."""
         async def work() -> list[Said]:
-            found = []
+            found: list[Said] = []
             async with self.room.quick.place(self.room.client(request)):
                 for it in calls:
                     given = it if it.given or not found else Call(it.words, found[-1].out)
@@ -191,7 +191,8 @@ class Asking:
         (said,) = await self.calls(request, Call(["--json", *words], self.text(request)))
         if said.stopped:
             return self.refused(said)
-        return Answer(b'{"lines":[%s],"told":%s}' % (b",".join(said.out.splitlines()), json.dumps(said.told[:MOST_TOLD]).encode()))
+        told = json.dumps(said.told[:MOST_TOLD]).encode()
+        return Answer(b'{"lines":[%s],"told":%s}' % (b",".join(said.out.splitlines()), told))
 
     async def plan(self, request: Request) -> Answer:
         """What a plan needs."""
@@ -207,7 +208,8 @@ class Asking:
         """Every outcome, with what is known on the way; or a run that never ends."""
         words = ["--json", "outcomes", "--lend", request.choice("lend", LEND)]
         expect = request.choice("expect", ("no", "same", "any"))
-        words += {"no": [], "same": ["--expect"], "any": ["--expect", "--any-order"]}[expect]
+        compared: dict[str, list[str]] = {"no": [], "same": ["--expect"], "any": ["--expect", "--any-order"]}
+        words += compared[expect]
         flags = [it for it in ("prints", "fair", "first-deadlock", "endless") if request.choice(it, NO_YES) == "yes"]
         if "endless" in flags and (expect != "no" or "prints" in flags or "first-deadlock" in flags):
             raise Refused(400, "endless goes with lend, fair and states alone")

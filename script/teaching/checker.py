@@ -41,6 +41,11 @@ def as_checked(answers: list[Any]) -> dict[str, object]:
     }
 
 
+BEGIN = message(id=0, method="initialize", params={"capabilities": {}}) + message(method="initialized", params={})
+# How an answer fails that is late, cut or broken.
+BROKEN = (asyncio.TimeoutError, asyncio.IncompleteReadError, asyncio.LimitOverrunError, OSError, KeyError, ValueError)
+
+
 class Checker:
     """A language server that has one text at a time. What is late, cut or broken ends it, so that nothing of one text comes to
     another."""
@@ -66,7 +71,7 @@ class Checker:
         """Starts a server, if none is there."""
         if self.child is None:
             self.child, self.texts = self.children.begin(["lsp"], self.limits), 0
-            self.child.give(message(id=0, method="initialize", params={"capabilities": {}}) + message(method="initialized", params={}))
+            self.child.give(BEGIN)
             await self.read(self.child)
         return self.child
 
@@ -99,7 +104,7 @@ class Checker:
             found = await asyncio.wait_for(self.answers(text, asked), self.clock)
             is_well = self.texts < LIFE
             return found
-        except (asyncio.TimeoutError, asyncio.IncompleteReadError, asyncio.LimitOverrunError, OSError, KeyError, ValueError) as why:
+        except BROKEN as why:
             raise Lost from why
         finally:
             if not is_well and self.child is not None:

@@ -65,11 +65,12 @@ class Child:
         self.is_last = False
         self.over: asyncio.Future[int] = self.loop.create_future()
         self.ends = os.pidfd_open(self.process.pid)
-        for file in (self.process.stdin, self.process.stdout, self.process.stderr):
-            assert file is not None
+        given, out, told = self.process.stdin, self.process.stdout, self.process.stderr
+        assert given is not None and out is not None and told is not None
+        for file in (given, out, told):
             os.set_blocking(file.fileno(), False)
-        self.loop.add_reader(self.process.stdout, self.read_out)
-        self.loop.add_reader(self.process.stderr, self.read_told)
+        self.loop.add_reader(out, self.read_out)
+        self.loop.add_reader(told, self.read_told)
         self.loop.add_reader(self.ends, self.end)
         children.all.add(self)
 
@@ -110,7 +111,7 @@ class Child:
         return bool(part)
 
     def read_told(self) -> bool:
-        """Reads what it has told on standard error, of which the first part is kept, and returns whether there was something."""
+        """Reads what it has told on standard error, whose first part is kept, and returns whether there was something."""
         part = self.part_of(self.process.stderr)
         self.told += part[: MOST_TOLD - len(self.told)]
         return bool(part)

@@ -41,7 +41,7 @@ class Needed(NamedTuple):
 
     process: str
     what: str
-    count: int
+    least: int
 
 
 @dataclass

@@ -16,11 +16,15 @@ EXAMPLES = f"{TOP}/../../share/doc/parbegin/examples" if is_installed() else f"{
 # Where Debian's package libjs-codemirror is, and what a class takes of it.
 EDITOR = "/usr/share/javascript/codemirror"
 OF_EDITOR = (
-    "lib/codemirror.js", "lib/codemirror.css", "addon/edit/matchbrackets.js", "addon/hint/show-hint.js", "addon/hint/show-hint.css",
+    "lib/codemirror.js", "lib/codemirror.css", "addon/edit/matchbrackets.js", "addon/hint/show-hint.js",
+    "addon/hint/show-hint.css",
 )
 KINDS = {".html": "text/html; charset=utf-8", ".css": "text/css; charset=utf-8", ".js": "text/javascript; charset=utf-8"}
 # What of the page of one program a class has too: its parts, by the marks that class.html has in their place.
-SHARED = {"<!-- main of page.html -->": ("<main>\n", "</main>"), "<!-- signs of page.html -->": ("  <h2>Signs</h2>\n", "  <h2>Quiz</h2>")}
+SHARED = {
+    "<!-- main of page.html -->": ("<main>\n", "</main>"),
+    "<!-- signs of page.html -->": ("  <h2>Signs</h2>\n", "  <h2>Quiz</h2>"),
+}
 NOT_SHOWN = ("limits", "solutions", "expected", "exercises")
 MOST_EXAMPLE, LEAST_PACKED = 4_000, 1_000
 

@@ -16,7 +16,13 @@ from script.teaching.exercises import Asked
 # How often the picks of a run that never ends go round, and the most that is told of one thing.
 ROUNDS, MOST_TOLD = 3, 12
 RIGHT = "Right, under every schedule."
-FAULTY = {"prints": "Some schedule prints something else.", "fault": "Some schedule ends in a fault.", "deadlock": "Some schedule ends in a deadlock."}
+FAULTY = {
+    "prints": "Some schedule prints something else.", "fault": "Some schedule ends in a fault.",
+    "deadlock": "Some schedule ends in a deadlock.", "endless": "Some schedule never ends.",
+}
+FAIRLY = "Some schedule never ends, although it is fair: no arm that could go on is passed over for ever."
+TOO_LONG = "This could not be judged: the search took too long or too much memory. Fewer loops or arms make it smaller."
+TOO_MANY = "This could not be judged: the program has more than {limit} {of}. Does a loop never end, or count up for ever?"
 # What an exercise calls an instruction.
 SIGNS = {"fork": "parbegin", "add": "+", "sub": "-", "mul": "*", "take": "hold", "store": ":="}
 
@@ -81,7 +87,8 @@ def told(end: dict[str, Any]) -> list[str]:
     if faulted:
         lines.append(f"{listed(faulted)} faulted.")
     if end["integers"]:
-        lines.append(f"At its end {listed([f'''{it['process']}.{it['integer']} = {it['value']}''' for it in end['integers']][:MOST_TOLD])}.")
+        integers = [f"{it['process']}.{it['integer']} = {it['value']}" for it in end["integers"]]
+        lines.append(f"At its end {listed(integers[:MOST_TOLD])}.")
     for it in end["asks"]:
         holds = [f"{one['amount']} {one['resource']}" for one in end["holds"] if one["process"] == it["process"]]
         asked = listed([f"{one['amount']} {one['resource']}" for one in it["amounts"]])
@@ -131,17 +138,16 @@ class Judge:
         given = self.text if after is None else self.text + f"%%\n{after}".encode()
         said = yield Call(["--json", *words], given)
         if said.stopped:
-            raise NotKnown("This could not be judged: the search took too long or too much memory. Fewer loops or arms make it smaller.")
+            raise NotKnown(TOO_LONG)
         lines = said.lines()
         if lines and lines[-1]["kind"] == "others" and lines[-1]["of"] != "deadlocks":
-            last = lines[-1]
-            raise NotKnown(f"This could not be judged: the program has more than {last['limit']} {last['of'].replace('fair runs', 'configurations')}. "
-                           "Does a loop never end, or count up for ever?")
+            of = "configurations" if lines[-1]["of"] == "fair runs" else lines[-1]["of"]
+            raise NotKnown(TOO_MANY.format(limit=lines[-1]["limit"], of=of))
         return lines
 
     def search(self, *words: str, lend: str | None = None) -> list[str]:
         """Returns the words of a search."""
-        states = [word for it in ("--states",) if it in self.exercise.options for word in (it, self.exercise.options[it])]
+        states = ["--states", self.exercise.options["--states"]] if "--states" in self.exercise.options else []
         return ["outcomes", *states, "--lend", lend or self.lend, *words]
 
     def plan(self) -> Step:
@@ -157,7 +163,8 @@ class Judge:
         for process, resource, amount in self.rules.claims:
             claim = claims.get((process, resource), 0)
             if claim < amount:
-                return Verdict("claim", f"The process {process} has to hold {amount} of {resource} at some time: it claims {claim}.")
+                said = f"The process {process} has to hold {amount} of {resource} at some time: it claims {claim}."
+                return Verdict("claim", said)
         return None
 
     def code(self) -> Step:
@@ -189,7 +196,8 @@ class Judge:
         if last["kind"] == "as expected":
             return None
         if last["kind"] == "refused":
-            return Verdict("names", "A process or an arm that has to print is not there.", ["Wanted: " + "; ".join(wanted.splitlines()[:6])])
+            lines_wanted = f"Wanted: {'; '.join(wanted.splitlines()[:6])}"
+            return Verdict("names", "A process or an arm that has to print is not there.", [lines_wanted])
         if len(lines) > 1:
             numbers = [line.split()[-1] for line in wanted.splitlines() if " print " in line]
             kind = {"other prints": "prints", "a fault": "fault", "a deadlock": "deadlock"}[last["text"]]
@@ -216,10 +224,12 @@ class Judge:
                 return Verdict("fault", FAULTY["fault"], told(end), pick_lines(end["picks"]), self.lend)
             fits = [it for it in wanted if it <= facts_of(end)]
             if wanted and not fits:
-                return Verdict("outcomes", "It can end in a way that is not wanted.", told(end), pick_lines(end["picks"]), self.lend)
+                said = "It can end in a way that is not wanted."
+                return Verdict("outcomes", said, told(end), pick_lines(end["picks"]), self.lend)
             missing = [it for it in missing if it not in fits]
         if missing:
-            return Verdict("outcomes", f"No schedule ends with {listed(sorted(missing[0]))}.", [f"Ways to end that are possible: {len(outcomes)}."])
+            said = f"No schedule ends with {listed(sorted(missing[0]))}."
+            return Verdict("outcomes", said, [f"Ways to end that are possible: {len(outcomes)}."])
         if number is not None and len(outcomes) != number:
             ends = [f"Outcome {at}: {' '.join(told(it)) or 'all ended.'}" for at, it in enumerate(outcomes[:MOST_TOLD], 1)]
             return Verdict("outcomes", f"Its outcomes are {len(outcomes)}, and {number} are wanted.", ends)
@@ -255,10 +265,10 @@ class Judge:
         lines = yield from self.lines(self.search("--endless", *["--fair"] * is_fair))
         if lines[0]["kind"] != "endless":
             return None
-        said = "Some schedule never ends, although it is fair: no arm that could go on is passed over for ever." if is_fair else "Some schedule never ends."
         around = lines[1]["picks"]
         picks = pick_lines(lines[0]["picks"]) + ROUNDS * pick_lines(around)
-        return Verdict("endless", said, [f"It makes these picks again and again: {', '.join(pick_lines(around[:8]).splitlines())}."], picks, self.lend)
+        more = f"It makes these picks again and again: {', '.join(pick_lines(around[:MOST_TOLD]).splitlines())}."
+        return Verdict("endless", FAIRLY if is_fair else FAULTY["endless"], [more], picks, self.lend)
 
     def by_cash(self) -> Step:
         """Looks for deadlocks without the banker."""
@@ -273,7 +283,8 @@ class Judge:
         lines = yield from self.lines(self.search("--first-deadlock", lend="cash"))
         deadlock = next((it for it in lines if it["kind"] == "deadlock"), None)
         if "no deadlock by cash" in flags and deadlock:
-            return Verdict("deadlock", "Without the banker some schedule ends in a deadlock.", told(deadlock), pick_lines(deadlock["picks"]), "cash")
+            said = "Without the banker some schedule ends in a deadlock."
+            return Verdict("deadlock", said, told(deadlock), pick_lines(deadlock["picks"]), "cash")
         if "a deadlock by cash" in flags and not deadlock:
             return Verdict("deadlock", "Without the banker no schedule ends in a deadlock.")
         return None
@@ -282,7 +293,9 @@ class Judge:
 def facts_of(end: dict[str, Any]) -> set[str]:
     """Returns what can be said of an outcome: how its processes ended, and the value of each integer."""
     facts = {f"{it['process']} {it['kind']}" for it in end["processes"]}
-    return facts | {f"{name} = {it['value']}" for it in end["integers"] for name in (it["integer"], f"{it['process']}.{it['integer']}")}
+    for it in end["integers"]:
+        facts |= {f"{name} = {it['value']}" for name in (it["integer"], f"{it['process']}.{it['integer']}")}
+    return facts
 
 
 def judged_here(start: list[str], it: Asked, text: bytes) -> Verdict:

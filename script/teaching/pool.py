@@ -14,8 +14,8 @@ class Busy(Exception):
 
 
 class Pool:
-    """So many places, and a queue before them in which clients take turns, each after its own wishes. One client may have half of
-    the places at once, so nobody can hold up the others; and `of_one` wishes, if there is such a limit."""
+    """So many places, and a queue before them in which clients take turns, each after its own wishes. One client may have half
+    of the places at once, so nobody can hold up the others; and `of_one` wishes, if there is such a limit."""
 
     def __init__(self, places: int, queue: int, of_one: int | None) -> None:
         self.free, self.each, self.queue, self.of_one = places, max(1, places // 2), queue, of_one

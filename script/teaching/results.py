@@ -56,7 +56,8 @@ class Results:
     def table(self) -> list[dict[str, Any]]:
         """Returns the students, each with what he has tried."""
         rows: dict[str, dict[str, Any]] = {}
-        for student, name, number in self.store.execute("select id, name, number from students order by name = '', name, number"):
+        listed = self.store.execute("select id, name, number from students order by name = '', name, number")
+        for student, name, number in listed:
             rows[student] = {"name": name or f"student {number}", "tried": {}}
         for student, exercise, tries, solved, said, last in self.store.execute("select * from results"):
             if student in rows:

@@ -33,6 +33,12 @@ def buckets_of(rate: int) -> Buckets:
     return Buckets(rate / 60, max(1.0, rate / 15))
 
 
+def summary(times: collections.deque[float]) -> list[float]:
+    """Returns the time within which half of the answers came, in milliseconds, that of 99 of 100, and how many there are."""
+    in_order = sorted(times)
+    return [*(round(1_000 * in_order[int(len(in_order) * part)], 1) for part in (0.5, 0.99)), len(in_order)]
+
+
 @dataclass
 class Settings:
     """How a class is served."""
@@ -74,9 +80,10 @@ class Room:
         self.calls: collections.Counter[str] = collections.Counter()
         asking = Asking(self)
         self.asks: dict[tuple[str, str], Callable[[Request], Awaitable[Answer]]] = {
-            ("GET", "/api/about"): self.about, ("GET", "/api/exercises"): self.list_exercises, ("GET", "/api/examples"): self.list_examples,
+            ("GET", "/api/about"): self.about, ("GET", "/api/exercises"): self.list_exercises,
+            ("GET", "/api/examples"): self.list_examples, ("POST", "/api/grade"): self.grade,
             **{(method, f"/api/{name}"): ask for (method, name), ask in asking.asks.items()},
-            ("POST", "/api/grade"): self.grade, ("GET", "/api/teacher"): self.teacher, ("GET", "/api/teacher/csv"): self.teacher_csv,
+            ("GET", "/api/teacher"): self.teacher, ("GET", "/api/teacher/csv"): self.teacher_csv,
             ("GET", "/api/teacher/qr"): self.teacher_qr, ("POST", "/api/teacher/clear"): self.teacher_clear,
         }
 
@@ -126,7 +133,8 @@ class Room:
     async def about(self, _: Request) -> Answer:
         """What kind of class this is."""
         it = self.settings
-        return answer_json({"names": it.names, "kept": bool(it.keep), "title": it.title, "most": it.states, "seconds": it.search.processor})
+        more = {"most": it.states, "seconds": it.search.processor}
+        return answer_json({"names": it.names, "kept": bool(it.keep), "title": it.title, **more})
 
     async def list_exercises(self, _: Request) -> Answer:
         """The exercises, without what is for the judge."""
@@ -179,11 +187,11 @@ class Room:
     async def teacher(self, request: Request) -> Answer:
         """The table, and how the server is."""
         self.allow(request)
-        times = {path: [round(1_000 * sorted(it)[int(len(it) * part)], 1) for part in (0.5, 0.99)] + [len(it)] for path, it in self.times.items()}
         return answer_json({
-            "exercises": [{"name": it.name, "title": it.title} for it in self.exercises.values()], "table": self.results.table(),
+            "exercises": [{"name": it.name, "title": it.title} for it in self.exercises.values()],
+            "table": self.results.table(), "times": {path: summary(it) for path, it in self.times.items()},
             "names": self.settings.names, "kept": self.settings.keep or "", "url": self.settings.url, "calls": dict(self.calls),
-            "times": times, "waiting": [self.quick.length(), self.searches.length()], "qr": bool(self.picture)})
+            "waiting": [self.quick.length(), self.searches.length()], "qr": bool(self.picture)})
 
     async def teacher_csv(self, request: Request) -> Answer:
         """The table as CSV."""

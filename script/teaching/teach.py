@@ -57,8 +57,8 @@ Options:
   -h, --help                Print help
 """
 WITH_VALUE = (
-    "--listen", "--exercises", "--title", "--keep", "--teacher", "--cert", "--key", "--states", "--seconds", "--memory", "--searches",
-    "--jobs", "--rate",
+    "--listen", "--exercises", "--title", "--keep", "--teacher", "--cert", "--key", "--states", "--seconds", "--memory",
+    "--searches", "--jobs", "--rate",
 )
 WITHOUT, SEVERAL = ("--names", "--try", "--proxied"), ("--host",)
 POLICY = (
@@ -125,8 +125,8 @@ def settings_of(given: Given) -> Settings:
     seconds, memory = given.number("--seconds", 20, most=86_400), given.number("--memory", 768, 64, 1_000_000)
     quick = max(5, seconds // 4)
     return Settings(
-        title=given.options.get("--title", "parbegin"), key=teacher_key(given.options.get("--teacher")), names="--names" in given.options,
-        keep=given.options.get("--keep"), is_behind_proxy="--proxied" in given.options,
+        title=given.options.get("--title", "parbegin"), key=teacher_key(given.options.get("--teacher")),
+        names="--names" in given.options, keep=given.options.get("--keep"), is_behind_proxy="--proxied" in given.options,
         states=given.number("--states", 100_000, most=4_000_000), search=Limits(seconds, memory * MEGABYTE, 2.0 * seconds),
         quick=Limits(quick, min(memory, 512) * MEGABYTE, 2.0 * quick), jobs=given.number("--jobs", processors, most=64),
         searches=given.number("--searches", max(1, processors // 2), most=64), rate=given.number("--rate", 600, 0, 1_000_000))
@@ -171,7 +171,8 @@ def drawn(url: str, *words: str) -> bytes:
     """Returns a picture of an address, or nothing if qrencode is not there."""
     if not shutil.which("qrencode"):
         return b""
-    return subprocess.run(["qrencode", *words, "-o", "-", url], stdin=subprocess.DEVNULL, capture_output=True, check=False).stdout
+    call_of = ["qrencode", *words, "-o", "-", url]
+    return subprocess.run(call_of, stdin=subprocess.DEVNULL, capture_output=True, check=False).stdout
 
 
 def welcome(room: Room, place: Place) -> bytes:
