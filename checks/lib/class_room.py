@@ -6,6 +6,7 @@ import json
 import os
 import re
 import signal
+import ssl
 import subprocess
 import time
 from pathlib import Path
@@ -40,7 +41,12 @@ class ClassRoom:
         self, method: str, path: str, body: bytes | None = None, headers: dict[str, str] | None = None,
     ) -> tuple[int, dict[str, str], bytes]:
         """Sends a request, and returns its status, its headers and its body."""
-        connection = http.client.HTTPConnection("127.0.0.1", self.port, timeout=WATCHDOG)
+        connection: http.client.HTTPConnection
+        if "--cert" in self.words:
+            context = ssl.create_default_context(cafile=self.words[self.words.index("--cert") + 1])
+            connection = http.client.HTTPSConnection("localhost", self.port, timeout=WATCHDOG, context=context)
+        else:
+            connection = http.client.HTTPConnection("127.0.0.1", self.port, timeout=WATCHDOG)
         try:
             connection.request(method, path, body=body, headers={"X-Client": OWN, **(headers or {})})
             answer = connection.getresponse()
@@ -86,6 +92,15 @@ class ClassRoom:
         if self.process is not None and self.process.poll() is None:
             self.process.kill()
             self.process.communicate()
+
+
+def certified(folder: Path) -> list[str]:
+    """Makes a certificate of localhost with its key, and returns the options of a server that has them."""
+    kind = ["-newkey", "ec", "-pkeyopt", "ec_paramgen_curve:prime256v1", "-nodes", "-subj", "/CN=localhost"]
+    files = ["-keyout", f"{folder}/tls.key", "-out", f"{folder}/tls.cert", "-addext", "subjectAltName=DNS:localhost"]
+    words = ["openssl", "req", "-x509", *kind, "-days", "2", *files]
+    subprocess.run(words, stdin=subprocess.DEVNULL, stderr=subprocess.DEVNULL, check=True)
+    return ["--cert", f"{folder}/tls.cert", "--key", f"{folder}/tls.key"]
 
 
 def wait_until(is_so: Any) -> bool:

@@ -5,9 +5,9 @@
 
 Every request with its errors, which fit docs/schema/class.schema.json; the answers that the exercises have, right and
 wrong, with the run that each verdict tells; `grade` on the same pages; the teacher's list, kept over a kill; the limit on
-requests, by one that is so low that it is always met; and the end, by each signal. All other servers have limits that
-cannot matter. checks/slow/class_storm.py does more, and checks/slow/class_page.py looks at the page. Its status is 0 if
-all is as wanted, and 1 if not.
+requests, by one that is so low that it is always met; TLS, and a proxy; and the end, by each signal. All other servers have
+limits that cannot matter. checks/slow/class_storm.py does more, and checks/slow/class_page.py looks at the page. Its status
+is 0 if all is as wanted, and 1 if not.
 """
 from __future__ import annotations
 
@@ -15,6 +15,7 @@ import csv
 import json
 import pathlib
 import re
+import shutil
 import signal
 import socket
 import subprocess
@@ -26,7 +27,7 @@ from typing import Any
 sys.path.insert(0, str(pathlib.Path(__file__).resolve().parents[1] / "lib"))
 
 from calls import DEVICE, DONE, REFUSED, TOP, WORDS, Tally, call, installed  # noqa: E402
-from class_room import ClassRoom, is_gone, wait_until  # noqa: E402
+from class_room import ClassRoom, certified, is_gone, wait_until  # noqa: E402
 from schemas import fits, tell_if_missing  # noqa: E402
 
 from script.teaching.exercises import Asked, read_pages  # noqa: E402
@@ -259,6 +260,41 @@ def try_rate(tally: Tally, script: str, folder: pathlib.Path) -> None:
         room.kill()
 
 
+def try_tls(tally: Tally, script: str, folder: pathlib.Path) -> None:
+    """Asks a server with a certificate by TLS, and without it in vain."""
+    if not shutil.which("openssl"):
+        print("not tried, since not installed: openssl")
+        return
+    room = ClassRoom(script, folder, *certified(folder))
+    try:
+        room.start()
+        tally.expect("run" in room.ask("run", DEVICES), "a run over TLS")
+        with socket.create_connection(("localhost", room.port)) as plain:
+            plain.sendall(b"GET / HTTP/1.1\r\nHost: localhost\r\n\r\n")
+            try:
+                tally.expect(b"HTTP" not in plain.recv(100), "a request without TLS is answered")
+            except OSError:
+                pass
+        tally.expect(room.end() == (DONE, b""), "the end of a class over TLS")
+    finally:
+        room.kill()
+
+
+def try_proxy(tally: Tally, script: str, folder: pathlib.Path) -> None:
+    """Asks as a proxy does: its browsers have limits of their own, by the last address that it names."""
+    room = ClassRoom(script, folder, "--proxied", "--host", "class.example", limits=("--rate", "1"))
+    try:
+        room.start()
+        own = {"Host": "class.example", "X-Forwarded-For": "203.0.113.9, 192.0.2.1"}
+        found = {room.send("GET", "/api/about", None, own)[0] for _ in range(20)}
+        tally.expect(found == {200, 429}, "one browser of a proxy", found)
+        other = room.send("GET", "/api/about", None, {**own, "X-Forwarded-For": "192.0.2.1, 192.0.2.2"})
+        tally.expect(other[0] == 200, "another browser of a proxy is held up", other)
+        tally.expect(room.send("GET", "/", None, {"Host": "other.example"})[0] == 421, "another name")
+    finally:
+        room.kill()
+
+
 def try_end(tally: Tally, room: ClassRoom, number: int) -> None:
     """Ends a server that searches, has a language server, and a connection that says nothing."""
     room.start()
@@ -305,6 +341,8 @@ def main() -> None:
         try_grade(tally, script, folder)
         try_teacher(tally, script, folder)
         try_rate(tally, script, folder)
+        try_tls(tally, script, folder)
+        try_proxy(tally, script, folder)
         for number in (signal.SIGTERM, signal.SIGINT, signal.SIGHUP):
             try_end(tally, ClassRoom(script, folder), number)
     tell_if_missing()
