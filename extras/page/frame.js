@@ -41,9 +41,9 @@ function takeSettings(kept) {
 function keyed(event) {
   const { key, target } = event, isArrow = key.startsWith("Arrow");
   // What the focus is on may have a use of its own for the key.
-  const isTyped = target.closest("textarea, input:not([type=range], [type=radio], [type=checkbox]), .CodeMirror");
-  const isItsOwn = isTyped || /^(SELECT|SUMMARY)$/.test(target.tagName) || (/^(radio|checkbox)$/.test(target.type) && (isArrow || key === " ")) ||
-    (target.tagName === "BUTTON" && key === " ") || (target.closest("#lines, .picks") && !/^(ArrowLeft|ArrowRight|[^A-Z].*)$/.test(key));
+  const isItsOwn = target.isContentEditable || target.matches("select, summary, textarea, [type=text], [type=number]") ||
+    (isArrow && target.type === "radio") || (key === " " && target.matches("button, [type=checkbox]")) ||
+    (target.closest("#lines, .picks") && !/^(ArrowLeft|ArrowRight|[^A-Z].*)$/.test(key));
   if (event.ctrlKey || event.metaKey || event.altKey || isItsOwn || document.querySelector("dialog[open]")) return;
   const near = target.closest(".events li")?.[{ ArrowUp: "previousSibling", ArrowDown: "nextSibling" }[key]];
   const action = near ? () => near.firstChild.focus() : key === "?" ? $("about").onclick : view?.keys()[key];

@@ -34,10 +34,7 @@ function h(name, properties, ...children) {
 
 function svg(tag, attributes, ...children) {
   const it = document.createElementNS("http://www.w3.org/2000/svg", tag);
-  for (const [key, value] of Object.entries(attributes)) {
-    if (key === "style") it.style.cssText = value;
-    else it.setAttribute(key, value);
-  }
+  for (const [key, value] of Object.entries(attributes)) it.setAttribute(key, value);
   it.append(...children);
   return it;
 }
