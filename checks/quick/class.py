@@ -106,7 +106,8 @@ def try_errors(tally: Tally, room: ClassRoom) -> None:
         (404, "POST", "/api/grade?exercise=x", b"", {}),
         (400, "POST", "/api/run?lend=till", b"", {}), (400, "POST", "/api/run?steps=-1", b"", {}),
         (400, "GET", "/api/explain?code=x", None, {}),
-        (400, "POST", "/api/rename?name=a+b", b"", {}), (400, "POST", "/api/outcomes?endless=yes&prints=yes", b"", {}),
+        (400, "POST", "/api/rename?name=a+b", b"", {}), (400, "POST", "/api/debug?command=", b"", {}),
+        (400, "POST", "/api/debug?command=to%0A1", b"", {}), (400, "POST", "/api/outcomes?endless=yes&prints=yes", b"", {}),
         (404, "GET", "/api/explain?code=Z9", None, {}), (413, "POST", "/api/check", long, {}),
         (413, "POST", "/api/check", 7 * long, {}),
         (403, "GET", "/api/teacher", None, {}), (403, "POST", "/api/check", b"", {"Sec-Fetch-Site": "cross-site"}),
@@ -117,6 +118,11 @@ def try_errors(tally: Tally, room: ClassRoom) -> None:
         got, _, told = room.send(method, path, body, headers)
         tally.expect(got == status and set(json.loads(told)) == {"error"}, method, path[:60], "is answered", got, told)
         fits(tally, "class", {"check": json.loads(told)})
+
+
+def recorded_picks(text: str) -> str:
+    """Returns a line `%%` and the picks of a run of a text, as `record` writes them after it."""
+    return call(["record"], text.encode())[1].decode().removeprefix(text)
 
 
 def lines_of(words: list[str], text: str) -> list[Any]:
@@ -134,6 +140,7 @@ def try_program(tally: Tally, room: ClassRoom) -> None:
     got |= {"states": room.ask("states", recorded.decode()), "explain": room.ask("explain?code=N3")}
     got["outcomes"] = room.ask("outcomes?lend=cash", DEVICES)
     got["rename"] = room.ask("rename?line=2&character=10&name=drive", DEVICES)
+    got["debug"] = room.ask("debug?at=3&command=wrote+p+x", LOST + recorded_picks(LOST))
     for name, answer in got.items():
         fits(tally, "class", {name: answer})
         tally.expect("error" not in answer, name, "is answered by the error", answer)
@@ -144,6 +151,9 @@ def try_program(tally: Tally, room: ClassRoom) -> None:
     tally.expect(got["plan"]["lines"] == lines_of(["plan"], DEVICES), "a plan", got["plan"])
     tally.expect(got["claims"]["lines"] == lines_of(["claims"], DEVICES), "claims", got["claims"])
     tally.expect(got["explain"] == lines_of(["explain", "N3"], ""), "a page of explain", got["explain"])
+    session = f"{LOST}{recorded_picks(LOST)}%%\nto 3\nwrote p x\n"
+    told = call(["debug"], session.encode())[1].decode().splitlines()
+    tally.expect(got["debug"]["answers"] == told[1:] and told[0] == "at 3", "an answer of the debugger", got["debug"], told)
     found = [it for it in got["outcomes"] if it["kind"] not in ("progress", "told", "time")]
     tally.expect(found == lines_of(["outcomes", "--lend", "cash"], DEVICES), "outcomes", found)
     tally.expect(got["check"]["diagnostics"] == [] and got["check"]["hints"], "a text that is a program", got["check"])

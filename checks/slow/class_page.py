@@ -180,7 +180,22 @@ def look_at_views(page: Page) -> None:
     it.key("2", alt=True)
     it.js("run.shown.go(run.shown.rows.length)")
     page.expect("the end of a run tells of others", "$('ending').textContent.startsWith('The run is over:')")
+    look_at_debugger(page)
     page.silent("the views by keys")
+
+
+def look_at_debugger(page: Page) -> None:
+    """Asks the debugger at a position of the run, which goes to where the answer leads."""
+    it = page.it
+    it.js("run.shown.go(2)")
+    for command, answer in (("who tape", "cash 0 tape"), ("next", "at 4 a.0 print 1"), ("fly", "")):
+        it.js(f"(document.querySelector('.answers').textContent = '', document.querySelector('.command').value = '{command}')")
+        it.js("document.querySelector('.command').focus()")
+        it.key("Enter")
+        said = "document.querySelector('.answers').textContent"
+        it.wait(f"{said}.includes('{answer}') && {said}")
+    page.expect("an answer leads to another position", "run.shown.picks[run.shown.at]", 4)
+    page.picture("wide-light-3-debugger")
 
 
 def look_at_quiz(page: Page) -> None:

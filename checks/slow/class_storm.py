@@ -50,7 +50,8 @@ QUERIES = (
     "&".join("a=1" for _ in range(100)),
 )
 ASKED = (
-    "check", "hover?line=1&character=2", "complete", "rename?name=x", "run?seed=1", "run", "record", "states", "plan",
+    "check", "hover?line=1&character=2", "complete", "rename?name=x", "debug?command=arms&at=3",
+    "run?seed=1", "run", "record", "states", "plan",
     "claims", "graph",
     "outcomes?states=2000", "outcomes?states=2000&prints=yes", "outcomes?expect=any&states=2000",
     "outcomes?lend=cash&first-deadlock=yes&states=2000", "outcomes?fair=yes&states=2000", "outcomes?endless=yes&states=2000",

@@ -78,8 +78,26 @@ run.choices = () => {
     ? [h("span", null, h("b", null, run.about), run.lend === "cash" ? ", by the cash alone" : ""), button("Back to the text", "back-to-text", "", () => open(writing)),
       button("Draw a run instead", "instead", "", () => run.drawn())]
     : [button("Draw another", "another", "A run by the next seed", () => { run.seed = String(Number(run.seed || 0) + 1); run.drawn(); }),
-      h("label", null, "seed ", seed), lender]));
+      h("label", null, "seed ", seed), lender]), debuggerField());
 };
+/** A field for commands of the debugger, which answers at the position of the run, and leads to another one. */
+function debuggerField() {
+  const said = h("output.answers", { role: "status" });
+  const field = h("input.command", { type: "text", maxlength: 256, autocomplete: "off", spellcheck: "false", "data-key": "command",
+    "aria-label": "Ask the debugger", placeholder: "wrote p x, why p.1, help .." });
+  field.onkeydown = async ({ key }) => {
+    if (key !== "Enter" || !field.value.trim() || !run.isOpen) return;
+    const { program, rows, picks, at } = run.shown, text = program.data.text.replace(/\n?$/, "\n");
+    const answer = await ask("debug", { command: field.value.trim(), at: picks[at], lend: program.data.lend },
+      `${text}%%\n${pickLines(program, rows)}`);
+    const lines = answer.answers ?? [answer.error ?? STOPPED[answer.stopped] ?? answer.refused];
+    const [, there] = /^at (\d+)/.exec(lines[0]) ?? [];
+    if (there !== undefined) run.shown.go(atMost(picks, +there) - 1);
+    said.textContent = lines.join("\n") || "Nothing.";
+  };
+  return h("div.debugger", null, field, said);
+}
+
 run.drawn = () => {
   run.picks = "";
   open(run);

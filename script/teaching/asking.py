@@ -24,6 +24,8 @@ MOST_TEXT, MOST_TOLD, PART = 65_536, 3_000, 1 << 16
 ROUNDS = (1_000, 10_000, 100_000)
 # The most configurations of a graph, rows of a run, and steps of one that is drawn.
 MOST_NODES, MOST_ROWS, MOST_STEPS, STEPS = 10_000, 20_000, 20_000, 5_000
+# A position of a run, and a command about it.
+MOST_PICKS, COMMAND = 10_000_000, re.compile("[ -~]{1,256}")
 # Seconds after which it is told how far a search is, at first and then.
 FIRST_PAUSE, PAUSE = 0.25, 0.5
 CODE, NAME = re.compile("[A-Z][0-9]{1,2}"), re.compile(r"\w{1,64}", re.ASCII)
@@ -40,6 +42,7 @@ class Asking:
             ("GET", "explain"): self.explain, ("POST", "check"): self.check, ("POST", "hover"): self.hover,
             ("POST", "complete"): self.complete, ("POST", "rename"): self.rename, ("POST", "run"): self.run,
             ("POST", "record"): self.record, ("POST", "states"): self.states, ("POST", "graph"): self.graph,
+            ("POST", "debug"): self.debug,
             ("POST", "outcomes"): self.outcomes, ("POST", "plan"): self.plan, ("POST", "claims"): self.claims,
         }
 
@@ -170,6 +173,21 @@ class Asking:
         """The document of a run that picks make."""
         (said,) = await self.calls(request, Call(self.words_of_states(request), self.with_more(request)))
         return self.document(said)
+
+    async def debug(self, request: Request) -> Answer:
+        """What the debugger answers to a command at a position of a run that picks make."""
+        command, at = request.query.get("command", ""), request.number("at", 0, MOST_PICKS, 0)
+        if not COMMAND.fullmatch(command):
+            raise Refused(400, "a command is a line of 256 letters at most")
+        text, _, picks = self.with_more(request).partition(b"\n%%\n")
+        if b"\n%%\n" in b"\n" + picks + b"\n":
+            raise Refused(400, "after the text there are picks alone")
+        picks = picks.rstrip(b"\n") + b"\n" if picks.strip() else b""
+        given = b"%s\n%%%%\n%s%%%%\nto %d\n%s\n" % (text, picks, at, command.encode())
+        (said,) = await self.calls(request, Call(["debug", "--lend", request.choice("lend", LEND)], given))
+        if said.stopped or said.status:
+            return self.refused(said)
+        return answer_json({"answers": said.out.decode("ascii", "replace").splitlines()[1:]})
 
     async def graph(self, request: Request) -> Answer:
         """All schedules, by the banker and by the cash alone."""
