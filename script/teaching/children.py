@@ -17,6 +17,7 @@ from dataclasses import dataclass
 from typing import IO
 
 from script.teaching.calls import MEMORY, Call, Said
+from script.teaching.pool import Busy
 from script.tools import command_of, path_of, tool_of
 
 MEGABYTE = 1 << 20
@@ -64,7 +65,12 @@ class Child:
         self.told, self.left, self.size, self.stopped = bytearray(), bytearray(), 0, ""
         self.is_last = False
         self.over: asyncio.Future[int] = self.loop.create_future()
-        self.ends = os.pidfd_open(self.process.pid)
+        try:
+            self.ends = os.pidfd_open(self.process.pid)
+        except OSError:
+            self.process.kill()
+            self.process.wait()
+            raise
         given, out, told = self.process.stdin, self.process.stdout, self.process.stderr
         assert given is not None and out is not None and told is not None
         for file in (given, out, told):
@@ -171,8 +177,11 @@ class Children:
         self.all: set[Child] = set()
 
     def begin(self, words: list[str], limits: Limits) -> Child:
-        """Starts a process."""
-        return Child(self, words, limits)
+        """Starts a process, or raises `Busy` if the system has no room for one more."""
+        try:
+            return Child(self, words, limits)
+        except OSError as fault:
+            raise Busy from fault
 
     async def call(self, it: Call, limits: Limits) -> Said:
         """Makes a call, and returns what it says; if it is cancelled its process is ended."""

@@ -4,12 +4,14 @@ from __future__ import annotations
 import asyncio
 import collections
 import hmac
+import sqlite3
 import time
 from collections.abc import Awaitable, Callable, Coroutine
 from dataclasses import dataclass, field
 from typing import Any
 from urllib.parse import unquote
 
+from script.places import say, shown
 from script.teaching.asking import Asking
 from script.teaching.calls import Call
 from script.teaching.checker import Checkers
@@ -163,7 +165,11 @@ class Room:
         except asyncio.TimeoutError:
             verdict = Verdict("limit", "This could not be judged: it took too long.")
         name = unquote(request.headers.get("x-name", ""), errors="replace")
-        self.results.note(request.headers.get("x-client", ""), name, exercise.name, verdict.right, verdict.said)
+        try:
+            self.results.note(request.headers.get("x-client", ""), name, exercise.name, verdict.right, verdict.said)
+        except sqlite3.Error as fault:
+            # (a student learns the verdict all the same)
+            say(f"{shown(self.settings.keep or '')}: a result is not kept: {fault}")
         return answer_json(verdict.shown())
 
     async def judged(self, judge: Any) -> Verdict:

@@ -12,7 +12,7 @@ import sqlite3
 import ssl
 import subprocess
 import sys
-from collections.abc import Iterator
+from collections.abc import Callable, Iterator
 from typing import NamedTuple
 
 from script.hosting import LOOPBACK, allow_files, bound_sockets, notify, read_address, tls_context
@@ -188,9 +188,9 @@ def welcome(room: Room, place: Place) -> bytes:
     return "".join(f"{one}\n" for one in said).encode() + qr
 
 
-async def serve(room: Room, place: Place) -> int:
+async def serve(make_room: Callable[[], Room], place: Place) -> int:
     """Serves a class until it is told to stop, and returns the status."""
-    ended = asyncio.Event()
+    ended, room = asyncio.Event(), make_room()
     for number in (signal.SIGINT, signal.SIGTERM, signal.SIGHUP):
         asyncio.get_running_loop().add_signal_handler(number, ended.set)
     service = Service(room.handle, POLICY, BOUNDS, place.hosts)
@@ -243,9 +243,9 @@ def call(start: list[str], words: list[str]) -> int:
         return DEVICE
     settings.url = place.url
     allow_files(BOUNDS.connections + 16 * (settings.jobs + settings.searches))
+    served, examples, picture = files.read_files(), files.read_examples(), drawn(place.url, "-t", "SVG", "-m", "2")
     try:
-        room = Room(settings, exercises, files.read_files(), files.read_examples(), drawn(place.url, "-t", "SVG", "-m", "2"))
+        return asyncio.run(serve(lambda: Room(settings, exercises, served, examples, picture), place))
     except sqlite3.Error as fault:
         say(f"{shown(settings.keep or '')}: {fault}")
         return DEVICE
-    return asyncio.run(serve(room, place))
