@@ -188,7 +188,7 @@ def look_at_debugger(page: Page) -> None:
     """Asks the debugger at a position of the run, which goes to where the answer leads."""
     it = page.it
     it.js("run.shown.go(2)")
-    for command, answer in (("who tape", "cash 0 tape"), ("next", "at 4 a.0 print 1"), ("fly", "")):
+    for command, answer in (("who tape", "cash 0 tape"), ("next", "at 4 a.0 print 1"), ("fly", "refused G4: ")):
         it.js(f"(document.querySelector('.answers').textContent = '', document.querySelector('.command').value = '{command}')")
         it.js("document.querySelector('.command').focus()")
         it.key("Enter")

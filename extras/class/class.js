@@ -84,7 +84,7 @@ run.choices = () => {
 function debuggerField() {
   const said = h("output.answers", { role: "status" });
   const field = h("input.command", { type: "text", maxlength: 256, autocomplete: "off", spellcheck: "false", "data-key": "command",
-    "aria-label": "Ask the debugger", placeholder: "wrote p x, why p.1, help .." });
+    "aria-label": "Ask the debugger", placeholder: "ask: why p.1, wrote p x, help .." });
   field.onkeydown = async ({ key }) => {
     if (key !== "Enter" || !field.value.trim() || !run.isOpen) return;
     const { program, rows, picks, at } = run.shown, text = program.data.text.replace(/\n?$/, "\n");
@@ -93,7 +93,8 @@ function debuggerField() {
     const lines = answer.answers ?? [answer.error ?? STOPPED[answer.stopped] ?? answer.refused];
     const [, there] = /^at (\d+)/.exec(lines[0]) ?? [];
     if (there !== undefined) run.shown.go(atMost(picks, +there) - 1);
-    said.textContent = lines.join("\n") || "Nothing.";
+    const [, code] = /^refused (\w+)$/.exec(lines[0]) ?? [], [meant] = code ? await ask("explain", { code }) : [];
+    said.textContent = `${lines.join("\n")}${meant?.text ? `: ${meant.text}` : ""}` || "Nothing.";
   };
   return h("div.debugger", null, field, said);
 }

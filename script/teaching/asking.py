@@ -187,7 +187,8 @@ class Asking:
         (said,) = await self.calls(request, Call(["debug", "--lend", request.choice("lend", LEND)], given))
         if said.stopped or said.status:
             return self.refused(said)
-        return answer_json({"answers": said.out.decode("ascii", "replace").splitlines()[1:]})
+        answers = said.out.decode("ascii", "replace").splitlines()[1:]
+        return answer_json({"answers": answers, "told": said.told[:MOST_TOLD]})
 
     async def graph(self, request: Request) -> Answer:
         """All schedules, by the banker and by the cash alone."""
