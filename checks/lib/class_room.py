@@ -6,6 +6,7 @@ import json
 import os
 import re
 import signal
+import socket
 import ssl
 import subprocess
 import time
@@ -15,6 +16,10 @@ from typing import Any
 WATCHDOG = 120
 # Limits that cannot matter, however slow the machine is.
 FAR = ("--rate", "0", "--seconds", "1200")
+# A text whose search takes long, and options by which it may.
+ARMS = "; ".join(f"while {name} < 90 do {name} := {name} + 1 od" for name in "abcd")
+LONG = f"process p begin integer a, b, c, d; parbegin {ARMS} parend; print a end\n"
+AT_LENGTH = ("--states", "4000000", "--memory", "8000")
 OWN = "0123456789abcdef" * 2
 
 
@@ -74,6 +79,34 @@ class ClassRoom:
             if int(parent) == self.process.pid and state != "Z":
                 found.append(int(path.parent.name))
         return found
+
+    def searches(self) -> list[int]:
+        """Returns those of them that are searches."""
+        found = []
+        for pid in self.processes():
+            try:
+                if b"outcomes" in Path(f"/proc/{pid}/cmdline").read_bytes():
+                    found.append(pid)
+            except OSError:
+                continue
+        return found
+
+    def searching(self) -> socket.socket:
+        """Returns a connection for which the server searches now. A search that is over before it is seen is begun anew."""
+        while True:
+            it = socket.create_connection(("127.0.0.1", self.port), WATCHDOG)
+            head = f"POST /api/outcomes HTTP/1.1\r\nHost: localhost\r\nContent-Length: {len(LONG)}\r\n\r\n"
+            it.sendall(head.encode() + LONG.encode())
+            it.settimeout(0.02)
+            said = b""
+            while b'"kind":"time"' not in said and b"HTTP/1.1 5" not in said:
+                if self.searches():
+                    return it
+                try:
+                    said += it.recv(1 << 16)
+                except socket.timeout:
+                    continue
+            it.close()
 
     def threads(self) -> int:
         """Returns how many threads the server has."""

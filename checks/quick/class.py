@@ -27,7 +27,7 @@ from typing import Any
 sys.path.insert(0, str(pathlib.Path(__file__).resolve().parents[1] / "lib"))
 
 from calls import DEVICE, DONE, REFUSED, TOP, WORDS, Tally, call, installed  # noqa: E402
-from class_room import ClassRoom, certified, is_gone, wait_until  # noqa: E402
+from class_room import AT_LENGTH, ClassRoom, certified, is_gone, wait_until  # noqa: E402
 from schemas import fits, tell_if_missing  # noqa: E402
 
 from script.teaching.exercises import Asked, read_pages  # noqa: E402
@@ -36,9 +36,6 @@ UNEXPECTED = 10
 DEVICES = (TOP / "examples/devices.pb").read_text()
 LOST = (TOP / "examples/lost.pb").read_text()
 EXERCISES = read_pages(str(TOP / "examples/exercises"))
-# A text whose search takes longer than any check.
-ARMS = "; ".join(f"while {name} < 90 do {name} := {name} + 1 od" for name in "abcd")
-LONG = f"process p begin integer a, b, c, d; parbegin {ARMS} parend; print a end\n"
 SPINS = "process p begin integer x; parbegin x := 1; while x = 0 do skip od parend end\n"
 
 
@@ -309,28 +306,22 @@ def try_end(tally: Tally, room: ClassRoom, number: int) -> None:
     """Ends a server that searches, has a language server, and a connection that says nothing."""
     room.start()
     room.ask("check", DEVICES)
-    address = ("127.0.0.1", room.port)
-    with socket.create_connection(address) as idle, socket.create_connection(address) as searching:
+    with socket.create_connection(("127.0.0.1", room.port)) as idle, room.searching():
         idle.sendall(b"GET / HTTP/1.1\r\n")
-        head = f"POST /api/outcomes HTTP/1.1\r\nHost: localhost\r\nContent-Length: {len(LONG)}\r\n\r\n"
-        searching.sendall(head.encode() + LONG.encode())
-        tally.expect(wait_until(lambda: len(room.processes()) == 2), "a search does not begin", room.processes())
         children, threads = room.processes(), room.threads()
         status, said = room.end(number)
         tally.expect((status, said) == (DONE, b""), "the end by", number, "has the status", status, said)
-        tally.expect(threads == 1, "the server has", threads, "threads")
+        tally.expect(threads == 1 and len(children) >= 2, "the server has", threads, "threads, and processes", children)
         tally.expect(all(wait_until(lambda pid=pid: is_gone(pid)) for pid in children), "a process is left", children)
     room.kill()
 
 
 def try_leaving(tally: Tally, room: ClassRoom) -> None:
-    """Leaves while a search goes on: its process ends."""
-    with socket.create_connection(("127.0.0.1", room.port)) as it:
-        before = set(room.processes())
-        it.sendall(f"POST /api/outcomes HTTP/1.1\r\nHost: localhost\r\nContent-Length: {len(LONG)}\r\n\r\n{LONG}".encode())
-        tally.expect(wait_until(lambda: set(room.processes()) - before), "a search does not begin")
-    is_over = wait_until(lambda: not set(room.processes()) - before)
-    tally.expect(is_over, "a search goes on whose client has left", room.processes())
+    """Leaves while a search goes on: the server notes that, and ends its process."""
+    room.searching().close()
+    tally.expect(wait_until(lambda: not room.searches()), "a search goes on whose client has left", room.processes())
+    calls = room.ask("teacher", None, {"X-Key": room.key})["calls"]
+    tally.expect(calls.get("searches left by the client") == 1, "a client that leaves is not noted", calls)
 
 
 def main() -> None:
@@ -340,7 +331,7 @@ def main() -> None:
         script = installed(folder / "installed")
         try_words(tally, script, folder)
         try_answers(tally, script, folder)
-        room = ClassRoom(script, folder)
+        room = ClassRoom(script, folder, *AT_LENGTH)
         room.start()
         try:
             for attempt in (try_files, try_errors, try_program, try_verdicts, try_leaving):
@@ -354,7 +345,7 @@ def main() -> None:
         try_tls(tally, script, folder)
         try_proxy(tally, script, folder)
         for number in (signal.SIGTERM, signal.SIGINT, signal.SIGHUP):
-            try_end(tally, ClassRoom(script, folder), number)
+            try_end(tally, ClassRoom(script, folder, *AT_LENGTH), number)
     tell_if_missing()
     tally.end("class")
 

@@ -28,7 +28,7 @@ from typing import Any
 sys.path.insert(0, str(Path(__file__).resolve().parents[1] / "lib"))
 
 from calls import DONE, TOP, Tally, installed  # noqa: E402
-from class_room import FAR, WATCHDOG, ClassRoom, is_gone, wait_until  # noqa: E402
+from class_room import AT_LENGTH, FAR, WATCHDOG, ClassRoom, is_gone, wait_until  # noqa: E402
 
 from script.teaching.exercises import read_pages  # noqa: E402
 
@@ -184,18 +184,6 @@ def try_often(tally: Tally, script: str, folder: Path) -> None:
         room.kill()
 
 
-def searches(room: ClassRoom) -> list[int]:
-    """Returns the searches that the server makes."""
-    found = []
-    for pid in room.processes():
-        try:
-            if b"outcomes" in Path(f"/proc/{pid}/cmdline").read_bytes():
-                found.append(pid)
-        except OSError:
-            continue
-    return found
-
-
 def try_greedy(tally: Tally, script: str, folder: Path) -> None:
     """One browser begins as many searches as it can, and leaves: others are answered meanwhile, and no process is left."""
     room = ClassRoom(script, folder, "--searches", "2", "--states", "4000000", limits=("--rate", "100000", "--seconds", "1200"))
@@ -204,15 +192,15 @@ def try_greedy(tally: Tally, script: str, folder: Path) -> None:
         own = [socket.create_connection(("127.0.0.1", room.port)) for _ in range(40)]
         for it in own:
             it.sendall(post("/api/outcomes", STEPS, student(1)))
-        tally.expect(wait_until(lambda: searches(room)), "a search does not begin")
+        tally.expect(wait_until(lambda: room.searches()), "a search does not begin")
         for number in range(2, 8):
             got = raw(room.port, post("/api/outcomes", SMALL, student(number)))
             tally.expect(b'"outcomes":1' in got, "a small search beside those of one browser", got[-200:])
-        tally.expect(len(searches(room)) <= 1, "one browser has all places")
+        tally.expect(len(room.searches()) <= 1, "one browser has all places")
         is_well(tally, room, "beside searches")
         for it in own:
             it.close()
-        tally.expect(wait_until(lambda: not searches(room)), "searches go on whose client has left")
+        tally.expect(wait_until(lambda: not room.searches()), "searches go on whose client has left")
     finally:
         room.kill()
 
@@ -339,13 +327,13 @@ def solved(room: ClassRoom) -> set[tuple[str, str]]:
 def try_ends(tally: Tally, script: str, folder: Path) -> None:
     """Ends servers that search, check, hold connections and write answers that nobody takes."""
     for number in range(ENDS):
-        room = ClassRoom(script, folder, "--states", "4000000")
+        room = ClassRoom(script, folder, *AT_LENGTH)
         room.start()
         open_ones = [socket.create_connection(("127.0.0.1", room.port)) for _ in range(8)]
         small = [b"GET / HT", post("/api/check", DEVICES), post("/api/graph", DEVICES)]
         for at, it in enumerate(open_ones):
             it.sendall([post("/api/outcomes", STEPS, student(at)), *small][at % 4])
-        tally.expect(wait_until(lambda: searches(room)), "a search does not begin")
+        open_ones.append(room.searching())
         children = room.processes()
         got = room.end((signal.SIGTERM, signal.SIGINT, signal.SIGHUP)[number % 3])
         tally.expect(got == (DONE, b""), "end", number, "has the status", *got)

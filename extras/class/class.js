@@ -93,8 +93,8 @@ function debuggerField() {
     const lines = answer.answers ?? [answer.error ?? STOPPED[answer.stopped] ?? answer.refused];
     const [, there] = /^at (\d+)/.exec(lines[0]) ?? [];
     if (there !== undefined) run.shown.go(atMost(picks, +there) - 1);
-    const [, code] = /^refused (\w+)$/.exec(lines[0]) ?? [], [meant] = code ? await ask("explain", { code }) : [];
-    said.textContent = `${lines.join("\n")}${meant?.text ? `: ${meant.text}` : ""}` || "Nothing.";
+    const [, code] = /^refused (\w+)$/.exec(lines[0]) ?? [], page = code ? await ask("explain", { code }) : [];
+    said.textContent = `${lines.join("\n")}${page[0] ? `: ${page[0].text}` : ""}` || "Nothing.";
   };
   return h("div.debugger", null, field, said);
 }

@@ -253,7 +253,6 @@ class Asking:
                     shown = {key: it for key, it in known.items() if key != "is_begun"}
                     yield line({**shown, "seconds": round(time.monotonic() - began, 1), "waiting": waiting})
             if not task.done():
-                self.room.calls["searches left by the client"] += 1
                 return
             for part in found_lines(task, known):
                 yield part
@@ -261,6 +260,7 @@ class Asking:
         finally:
             gone.cancel()
             if not task.done():
+                self.room.calls["searches left by the client"] += 1
                 task.cancel()
                 await asyncio.gather(task, return_exceptions=True)
 
