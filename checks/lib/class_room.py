@@ -80,19 +80,20 @@ class ClassRoom:
                 found.append(int(path.parent.name))
         return found
 
-    def searches(self) -> list[int]:
-        """Returns those of them that are searches."""
+    def searches(self, word: str = "outcomes") -> list[int]:
+        """Returns those of them that are searches, or that have this word."""
         found = []
         for pid in self.processes():
             try:
-                if b"outcomes" in Path(f"/proc/{pid}/cmdline").read_bytes():
+                if word.encode() in Path(f"/proc/{pid}/cmdline").read_bytes():
                     found.append(pid)
             except OSError:
                 continue
         return found
 
     def searching(self) -> socket.socket:
-        """Returns a connection for which the server searches now. A search that is over before it is seen is begun anew."""
+        """Returns a connection for which the server searches now, as far as `AT_LENGTH` allows. A search that is over before
+        that is seen is begun anew."""
         while True:
             it = socket.create_connection(("127.0.0.1", self.port), WATCHDOG)
             head = f"POST /api/outcomes HTTP/1.1\r\nHost: localhost\r\nContent-Length: {len(LONG)}\r\n\r\n"
@@ -100,7 +101,7 @@ class ClassRoom:
             it.settimeout(0.02)
             said = b""
             while b'"kind":"time"' not in said and b"HTTP/1.1 5" not in said:
-                if self.searches():
+                if self.searches(AT_LENGTH[1]):
                     return it
                 try:
                     said += it.recv(1 << 16)
