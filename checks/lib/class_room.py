@@ -19,7 +19,7 @@ FAR = ("--rate", "0", "--seconds", "1200")
 # A text whose search takes long, and options by which it may.
 ARMS = "; ".join(f"while {name} < 90 do {name} := {name} + 1 od" for name in "abcd")
 LONG = f"process p begin integer a, b, c, d; parbegin {ARMS} parend; print a end\n"
-AT_LENGTH = ("--states", "4000000", "--memory", "8000")
+AT_LENGTH = ("--states", "4000000", "--memory", "2000")
 OWN = "0123456789abcdef" * 2
 
 

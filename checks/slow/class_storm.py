@@ -28,7 +28,7 @@ from typing import Any
 sys.path.insert(0, str(Path(__file__).resolve().parents[1] / "lib"))
 
 from calls import DONE, TOP, Tally, installed  # noqa: E402
-from class_room import AT_LENGTH, FAR, WATCHDOG, ClassRoom, is_gone, wait_until  # noqa: E402
+from class_room import AT_LENGTH, FAR, LONG, WATCHDOG, ClassRoom, is_gone, wait_until  # noqa: E402
 
 from script.teaching.exercises import read_pages  # noqa: E402
 
@@ -332,7 +332,7 @@ def try_ends(tally: Tally, script: str, folder: Path) -> None:
         open_ones = [socket.create_connection(("127.0.0.1", room.port)) for _ in range(8)]
         small = [b"GET / HT", post("/api/check", DEVICES), post("/api/graph", DEVICES)]
         for at, it in enumerate(open_ones):
-            it.sendall([post("/api/outcomes", STEPS, student(at)), *small][at % 4])
+            it.sendall([post("/api/outcomes", LONG.encode(), student(at)), *small][at % 4])
         open_ones.append(room.searching())
         children = room.processes()
         got = room.end((signal.SIGTERM, signal.SIGINT, signal.SIGHUP)[number % 3])
