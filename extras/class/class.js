@@ -12,7 +12,8 @@ const keepSettings = () => sessionStorage.setItem("settings", [...settings].join
 
 /** A view whose document is asked for when it is opened, and again when it is of another text. */
 class Asked {
-  constructor(title, id, load) { Object.assign(this, { title, id: "stage", name: id, load, shown: null, of: null, number: 0 }); }
+  constructor(title, id, load) { Object.assign(this,
+    { title, id: "stage", name: id, load, shown: null, of: null, number: 0 }); }
 
   async open() {
     const key = this.key(), number = ++this.number;
@@ -50,7 +51,8 @@ class Asked {
   key() { return writing.text; }
 }
 
-const STOPPED = { processor: "It takes too long.", clock: "It takes too long.", memory: "It needs too much memory.", output: "It is too much to show." };
+const STOPPED = { processor: "It takes too long.", clock: "It takes too long.", memory: "It needs too much memory.",
+  output: "It is too much to show." };
 
 /** Why there is no document, with a way back to the text. */
 function why(said) {
@@ -63,27 +65,34 @@ function why(said) {
 
 const run = new Asked("A run", "run", async (it) => {
   const { picks, lend, seed } = it;
-  const said = picks ? await ask("states", { lend }, `${writing.text.replace(/\n?$/, "\n")}%%\n${picks}`) : await ask("run", { lend, seed }, writing.text);
+  const said = picks ? await ask("states", { lend }, `${writing.text.replace(/\n?$/, "\n")}%%\n${picks}`)
+    : await ask("run", { lend, seed }, writing.text);
   if (!said.run) return why(said);
   return new Run(said.run);
 });
 Object.assign(run, { lend: "banker", seed: "", picks: "", of: null });
 run.key = () => JSON.stringify([writing.text, run.lend, run.seed, run.picks]);
 run.choices = () => {
-  const seed = h("input", { type: "number", min: 0, max: 999999, value: run.seed, placeholder: "none", "aria-label": "Seed", "data-key": "seed",
+  const seed = h("input", { type: "number", min: 0, max: 999999, value: run.seed, placeholder: "none", "aria-label": "Seed",
+    "data-key": "seed",
     onchange: () => { run.seed = /^\d{1,6}$/.test(seed.value) ? seed.value : ""; run.drawn(); } });
-  const lender = h("select", { "aria-label": "Who lends", "data-key": "lend", onchange: () => { run.lend = lender.value; run.drawn(); } },
-    [["banker", "the banker lends"], ["cash", "the cash alone"]].map(([value, words]) => h("option", { value, selected: value === run.lend }, words)));
+  const lender = h("select", { "aria-label": "Who lends", "data-key": "lend",
+    onchange: () => { run.lend = lender.value; run.drawn(); } },
+    [["banker", "the banker lends"],
+      ["cash", "the cash alone"]].map(([value, words]) => h("option", { value, selected: value === run.lend }, words)));
   $("choices").replaceChildren(...(run.picks
-    ? [h("span", null, h("b", null, run.about), run.lend === "cash" ? ", by the cash alone" : ""), button("Back to the text", "back-to-text", "", () => open(writing)),
+    ? [h("span", null, h("b", null, run.about), run.lend === "cash" ? ", by the cash alone" : ""),
+      button("Back to the text", "back-to-text", "", () => open(writing)),
       button("Draw a run instead", "instead", "", () => run.drawn())]
-    : [button("Draw another", "another", "A run by the next seed", () => { run.seed = String(Number(run.seed || 0) + 1); run.drawn(); }),
+    : [button("Draw another", "another", "A run by the next seed",
+      () => { run.seed = String(Number(run.seed || 0) + 1); run.drawn(); }),
       h("label", null, "seed ", seed), lender]), debuggerField());
 };
 /** A field for commands of the debugger, which answers at the position of the run, and leads to another one. */
 function debuggerField() {
   const said = h("output.answers", { role: "status" });
-  const field = h("input.command", { type: "text", maxlength: 256, autocomplete: "off", spellcheck: "false", "data-key": "command",
+  const field = h("input.command",
+    { type: "text", maxlength: 256, autocomplete: "off", spellcheck: "false", "data-key": "command",
     "aria-label": "Ask the debugger", placeholder: "ask: why p.1, wrote p x, help .." });
   field.onkeydown = async ({ key }) => {
     if (key !== "Enter" || !field.value.trim() || !run.isOpen) return;
@@ -145,21 +154,24 @@ function prepareFiles() {
     $("file").value = "";
   };
   $("save").onclick = () => {
-    const link = h("a", { href: URL.createObjectURL(new Blob([writing.text], { type: "text/plain" })), download: `${tasks.chosen?.name ?? "program"}.pb` });
+    const link = h("a", { href: URL.createObjectURL(new Blob([writing.text], { type: "text/plain" })),
+      download: `${tasks.chosen?.name ?? "program"}.pb` });
     link.click();
     setTimeout(() => URL.revokeObjectURL(link.href), 1000);
   };
   $("share").onclick = async () => {
     const more = tasks.chosen ? { x: tasks.chosen.name } : {};
     $("link").value = await toLink(writing.text, more);
-    $("link-said").textContent = `${$("link").value.length} characters${$("link").value.length > 8000 ? ": some programs cut a link as long as that; a file is safer" : ""}`;
+    $("link-said").textContent = `${$("link").value.length} characters${$("link").value.length > 8000
+      ? ": some programs cut a link as long as that; a file is safer" : ""}`;
     $("sharing").showModal();
     $("link").select();
   };
   $("copy").onclick = () => {
     $("link").select();
     // (without TLS browsers have no other clipboard)
-    const isCopied = navigator.clipboard ? navigator.clipboard.writeText($("link").value).then(() => true, () => false) : Promise.resolve(document.execCommand("copy"));
+    const isCopied = navigator.clipboard ? navigator.clipboard.writeText($("link").value).then(() => true, () => false)
+      : Promise.resolve(document.execCommand("copy"));
     isCopied.then((it) => { $("link-said").textContent = it ? "Copied." : "Select it and copy it by hand."; });
   };
   $("go").onclick = () => run.drawn();
@@ -187,7 +199,8 @@ function showExamples(examples) {
 }
 
 async function start() {
-  $("tabs").replaceChildren(...views.map((it, i) => h("button", { type: "button", title: `Alt and ${i + 1}`, "aria-label": it.title, onclick: () => open(it) },
+  $("tabs").replaceChildren(...views.map((it, i) => h("button",
+    { type: "button", title: `Alt and ${i + 1}`, "aria-label": it.title, onclick: () => open(it) },
     h("span.long", null, it.title), h("span.brief", null, SHORT[it.title] ?? it.title))));
   prepareFiles();
   startFrame();

@@ -7,7 +7,9 @@ class Ends {
     this.id = "ends";
     this.lend = "banker";
     this.made = "";
-    const radio = (value, words) => h("label", null, h("input", { type: "radio", name: "ends-lend", value, checked: value === this.lend, onchange: () => { this.lend = value; this.search(); } }), words);
+    const radio = (value, words) => h("label", null,
+      h("input", { type: "radio", name: "ends-lend", value, checked: value === this.lend,
+      onchange: () => { this.lend = value; this.search(); } }), words);
     this.prints = h("input", { type: "checkbox", onchange: () => this.search() });
     this.fair = h("input", { type: "checkbox", onchange: () => this.search() });
     this.wanted = h("textarea", { rows: 3, "aria-label": "Wanted prints", placeholder: "p.0 print 2", spellcheck: "false" });
@@ -19,10 +21,13 @@ class Ends {
     this.list = h("ol.ends-list");
     $("ends").replaceChildren(
       h("section.card.search", { "aria-label": "What is searched for" },
-        h("div.buttons", null, h("fieldset", null, h("legend", null, "Who lends?"), radio("banker", "the banker"), radio("cash", "the cash alone")),
-          h("label", null, this.prints, " tell what is printed"), h("label", null, this.fair, " are all fair runs finite?"), h("span.gap"), this.stopper, this.finder),
+        h("div.buttons", null, h("fieldset", null, h("legend", null, "Who lends?"), radio("banker", "the banker"),
+          radio("cash", "the cash alone")),
+          h("label", null, this.prints, " tell what is printed"), h("label", null, this.fair, " are all fair runs finite?"),
+            h("span.gap"), this.stopper, this.finder),
         h("details", null, h("summary", null, "Compare with wanted prints"), this.wanted,
-          h("div.buttons", null, h("label", null, this.anyOrder, " in any order"), button("Compare", "compare", "", () => this.search(true)))),
+          h("div.buttons", null, h("label", null, this.anyOrder, " in any order"),
+            button("Compare", "compare", "", () => this.search(true)))),
         this.bar, this.said),
       this.list);
     this.stopper.disabled = true;
@@ -75,23 +80,33 @@ class Ends {
     const most = about.most ?? 100000;
     this.bar.max = Math.log10(most);
     if (configurations) this.bar.value = Math.log10(configurations);
-    this.say("warn", waiting ? "Waiting." : "Searching.", waiting ? `${waiting} searches are before this one.` :
-      `${configurations ? `More than ${configurations} configurations: ${outcomes} outcomes and ${deadlocks} deadlocks so far. ` : ""}${seconds} s.`);
+    const far = configurations
+      ? `More than ${configurations} configurations: ${outcomes} outcomes and ${deadlocks} deadlocks so far. ` : "";
+    this.say("warn", waiting ? "Waiting." : "Searching.",
+      waiting ? `${waiting} searches are before this one.` : `${far}${seconds} s.`);
   }
 
   tell(ends, last, told, seconds, isCompared) {
     const kind = last?.kind ?? "error", took = ` (${seconds < 1 ? "in less than a second" : `in ${Math.round(seconds)} s`})`;
     const deadlocks = ends.filter((it) => it.kind === "deadlock").length, outcomes = ends.length - deadlocks;
     const count = (n, word) => `${n} ${word}${n === 1 ? "" : "s"}`;
-    if (kind === "outcomes") this.say(deadlocks ? "bad" : "good", `${count(last.outcomes, "outcome")}${deadlocks ? `, ${count(deadlocks, "deadlock")}` : ""}, and no others.`,
+    if (kind === "outcomes") this.say(deadlocks ? "bad" : "good",
+      `${count(last.outcomes, "outcome")}${deadlocks ? `, ${count(deadlocks, "deadlock")}` : ""}, and no others.`,
       last.endless ? "Some schedules never end." : "Every schedule ends.", took,
-      this.fairly ? ` ${{ "every fair run ends": "Every fair run ends.", "some fair runs do not end": "Some fair runs do not end." }[this.fairly.kind] ?? "Of fair runs it is not known."}` : "");
-    else if (kind === "others") this.say("warn", "Not all is known.", `More than ${last.limit} ${last.of}: what is below can happen, and there may be others.`, took);
-    else if (kind === "as expected") this.say("good", "As wanted.", "Every schedule prints just that, and ends without a fault or a deadlock.", took);
+      this.fairly ? ` ${{ "every fair run ends": "Every fair run ends.",
+        "some fair runs do not end": "Some fair runs do not end." }[this.fairly.kind]
+        ?? "Of fair runs it is not known."}` : "");
+    else if (kind === "others") this.say("warn", "Not all is known.",
+      `More than ${last.limit} ${last.of}: what is below can happen, and there may be others.`, took);
+    else if (kind === "as expected") this.say("good", "As wanted.",
+      "Every schedule prints just that, and ends without a fault or a deadlock.", took);
     else if (kind === "not as expected") this.say("bad", "Not as wanted:", `${last.text}.`, took);
     else if (kind === "refused") this.say("bad", `Refused: ${last.code}.`, h("pre.told", null, told));
-    else if (kind === "stopped") this.say("bad", "Too much.", { memory: "It needs more memory", processor: "It takes longer", clock: "It takes longer", output: "It has more to say" }[last.by] ?? last.by,
-      ` than this server allows. More than ${last.known.configurations} configurations: ${last.known.outcomes} outcomes and ${last.known.deadlocks} deadlocks were found on the way.`);
+    else if (kind === "stopped") this.say("bad", "Too much.",
+      { memory: "It needs more memory", processor: "It takes longer", clock: "It takes longer",
+      output: "It has more to say" }[last.by] ?? last.by,
+      ` than this server allows. More than ${last.known.configurations} configurations: ${last.known.outcomes} outcomes and `,
+      `${last.known.deadlocks} deadlocks were found on the way.`);
     else if (kind === "left") this.say("warn", "Stopped.", "Nothing is said of the rest.");
     else this.say("bad", "Not done.", kind === "busy" ? "Too many are searching: try again in a moment." : last?.text ?? kind);
     const sorted = [...ends.filter((it) => it.kind === "deadlock"), ...ends.filter((it) => it.kind === "outcome")];
@@ -104,14 +119,18 @@ class Ends {
     const amount = (it) => listed(it.amounts.map((one) => `${one.amount} ${one.resource}`));
     const of = (list, process) => list.filter((it) => it.process === process);
     const rows = processes.map(({ process, kind }) => {
-      const own = of(integers, process), hold = of(holds, process).map((it) => `${it.amount} ${it.resource}`), asked = of(asks, process).map(amount);
+      const own = of(integers, process), hold = of(holds, process).map((it) => `${it.amount} ${it.resource}`),
+        asked = of(asks, process).map(amount);
       const words = kind === "waits" ? `holds ${listed(hold) || "nothing"}, asks for ${listed(asked) || "nothing"}` : kind;
-      return h("li", null, h("b", null, process), ` ${words}`, own.length ? [" ", own.map((it) => h("span.integer", null, `${it.integer} = `, h("b", null, it.value)))] : null);
+      return h("li", null, h("b", null, process), ` ${words}`,
+        own.length ? [" ", own.map((it) => h("span.integer", null, `${it.integer} = `, h("b", null, it.value)))] : null);
     });
     const way = picks.map((it) => `${it.process}.${it.arm} ${it.count}\n`).join("");
-    return h(`li.card.end${isDead ? ".dead" : ""}`, null, h("h2", null, `${isDead ? "Deadlock" : "Outcome"} ${number}`), h("ul", null, rows),
+    return h(`li.card.end${isDead ? ".dead" : ""}`, null, h("h2", null, `${isDead ? "Deadlock" : "Outcome"} ${number}`),
+      h("ul", null, rows),
       prints?.length ? h("p", null, "prints ", prints.slice(0, 60).map((it) => h("span.integer", null, `${it.value}`))) : null,
-      button("Step through it", `end${number}${end.kind}`, "A schedule that leads there, as a run", () => showPicks(way, this.lend, `${isDead ? "Deadlock" : "Outcome"} ${number}`)));
+      button("Step through it", `end${number}${end.kind}`, "A schedule that leads there, as a run",
+        () => showPicks(way, this.lend, `${isDead ? "Deadlock" : "Outcome"} ${number}`)));
   }
 
   close() {}

@@ -15,10 +15,13 @@ class Tasks {
     $("controls").replaceChildren();
     const items = this.all.map((it) => h("li.card", null,
       h("button.exercise", { type: "button", "data-key": it.name, onclick: () => this.choose(it) },
-        h("span.tick", { role: "img", "aria-label": this.solved.has(it.name) ? "solved" : "not solved" }, this.solved.has(it.name) ? "☑" : "☐"),
+        h("span.tick", { role: "img", "aria-label": this.solved.has(it.name) ? "solved" : "not solved" },
+          this.solved.has(it.name) ? "☑" : "☐"),
         h("b", null, it.title))));
     $("tasks").replaceChildren(
-      h("section.intro", null, h("p", null, `${this.solved.size} of ${this.all.length} solved. An answer is right if it is right under `, h("b", null, "every schedule"),
+      h("section.intro", null, h("p", null,
+        `${this.solved.size} of ${this.all.length} solved. An answer is right if it is right under `,
+        h("b", null, "every schedule"),
         "; if it is not, you are shown a schedule under which it is wrong."), about.names ? this.nameField() : null),
       this.all.length ? h("ol.exercises", null, items) : h("p.faint", null, "There are no exercises."));
   }
@@ -48,10 +51,12 @@ class Tasks {
     statement.innerHTML = it.statement;
     this.said = h("div.said", { role: "status" });
     this.hand = button("Judge it", "judge", "Under every schedule", () => this.judge(), { class: "main" });
-    box.replaceChildren(h("h2.task-title", null, it.title, this.solved.has(it.name) ? h("span.tick.done", { role: "img", "aria-label": "solved" }, " ☑") : null), statement,
+    box.replaceChildren(h("h2.task-title", null, it.title,
+      this.solved.has(it.name) ? h("span.tick.done", { role: "img", "aria-label": "solved" }, " ☑") : null), statement,
       h("div.buttons", null, this.hand,
         button("Begin anew", "anew", "With the text that was given", () => writing.show(it.start)),
-        button("Next", "following", "The next exercise", () => this.choose(this.all[(this.all.indexOf(it) + 1) % this.all.length])),
+        button("Next", "following", "The next exercise",
+          () => this.choose(this.all[(this.all.indexOf(it) + 1) % this.all.length])),
         button("Leave", "leave", "Write freely", () => this.leave())), this.said);
   }
 
@@ -76,8 +81,11 @@ class Tasks {
       sessionStorage.setItem("solved", JSON.stringify([...this.solved]));
     }
     const more = [...said.more.map((one) => h("p", null, one)), said.hint ? h("p.hint", null, said.hint) : null];
-    const shower = said.picks ? button("Step through such a schedule", "such", "", () => showPicks(said.picks, said.lend, `${said.said} ${said.kind === "endless" ? "" : said.more.at(-1) ?? ""}`), { class: "main" }) : null;
-    this.said.replaceChildren(h(`div.${said.right ? "good" : "bad"}`, null, h("strong", null, said.right ? "☑ " : "✕ ", said.said), more, shower));
+    const shower = said.picks ? button("Step through such a schedule", "such", "",
+      () => showPicks(said.picks, said.lend, `${said.said} ${said.kind === "endless" ? "" : said.more.at(-1) ?? ""}`),
+      { class: "main" }) : null;
+    this.said.replaceChildren(h(`div.${said.right ? "good" : "bad"}`, null,
+      h("strong", null, said.right ? "☑ " : "✕ ", said.said), more, shower));
     this.said.scrollIntoView({ block: "nearest" });
   }
 

@@ -9,7 +9,8 @@ const get = (path, method) => fetch(`/api/teacher${path}`, { method, headers: { 
 function cellOf(it) {
   if (!it) return h("td", null, "");
   const tries = it.tries > 1 ? ` ${it.tries}` : "";
-  return it.solved ? h("td.yes", { title: `solved ${it.solved}` }, `✓${tries}`) : h("td.no", { title: it.said }, `✕${tries}`);
+  if (it.solved) return h("td.yes", { title: `solved ${it.solved}` }, `✓${tries}`);
+  return h("td.no", { title: it.said }, `✕${tries}`);
 }
 
 async function draw() {
@@ -20,12 +21,16 @@ async function draw() {
   $("said").textContent = said.kept ? "Kept in a file" : "Forgotten when the server ends";
   const share = (name) => table.filter((it) => it.tried[name]?.solved).length;
   $("table").replaceChildren(table.length ? h("table.results", null,
-    h("thead", null, h("tr", null, h("th", { scope: "col" }, "student"), exercises.map((it) => h("th", { scope: "col" }, it.title)), h("th", { scope: "col" }, "solved"))),
-    h("tbody", null, table.map((it) => h("tr", null, h("th", { scope: "row" }, it.name), exercises.map(({ name }) => cellOf(it.tried[name])),
+    h("thead", null, h("tr", null, h("th", { scope: "col" }, "student"),
+      exercises.map((it) => h("th", { scope: "col" }, it.title)), h("th", { scope: "col" }, "solved"))),
+    h("tbody", null, table.map((it) => h("tr", null, h("th", { scope: "row" }, it.name),
+      exercises.map(({ name }) => cellOf(it.tried[name])),
       h("td", null, `${exercises.filter(({ name }) => it.tried[name]?.solved).length}`)))),
-    h("tfoot", null, h("tr", null, h("th", { scope: "row" }, `${table.length} student${table.length === 1 ? "" : "s"}`), exercises.map(({ name }) => h("td", null, `${share(name)}`)), h("td", null, ""))))
+    h("tfoot", null, h("tr", null, h("th", { scope: "row" }, `${table.length} student${table.length === 1 ? "" : "s"}`),
+      exercises.map(({ name }) => h("td", null, `${share(name)}`)), h("td", null, ""))))
     : h("p.faint", null, "Nobody has handed in anything yet."));
-  $("load").textContent = `waiting: ${said.waiting.join(" calls, ")} searches\n${Object.entries(said.times).map(([path, [p50, p99, n]]) => `${path.padEnd(16)} p50 ${p50} ms, p99 ${p99} ms of the last ${n}`).join("\n")}`;
+  $("load").textContent = `waiting: ${said.waiting.join(" calls, ")} searches\n${Object.entries(said.times).map(([path,
+    [p50, p99, n]]) => `${path.padEnd(16)} p50 ${p50} ms, p99 ${p99} ms of the last ${n}`).join("\n")}`;
   if (said.qr && $("qr").hidden) {
     const picture = await get("/qr");
     if (picture.ok) $("qr").src = `data:image/svg+xml;base64,${btoa(await picture.text())}`, $("qr").hidden = false;

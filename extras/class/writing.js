@@ -73,7 +73,8 @@ class Editor {
     $("renaming-said").textContent = "";
     const give = async () => {
       const said = await ask("rename", { line, character: ch, name: $("new-name").value }, writing.text);
-      if (!said.edits?.length) return $("renaming-said").textContent = said.error ?? "There is no name here, or the new one is taken or no name.";
+      if (!said.edits?.length) return $("renaming-said").textContent = said.error
+        ?? "There is no name here, or the new one is taken or no name.";
       $("renaming").close();
       this.edit(said.edits);
     };
@@ -101,9 +102,11 @@ class Editor {
 
   /** Makes edits, the last first, so that none moves the place of another. */
   edit(edits) {
-    const order = [...edits].sort((a, b) => b.range.start.line - a.range.start.line || b.range.start.character - a.range.start.character);
+    const order = [...edits].sort((a, b) => b.range.start.line - a.range.start.line
+      || b.range.start.character - a.range.start.character);
     const place = (it) => ({ line: it.line, ch: it.character });
-    if (this.cm) this.cm.operation(() => order.forEach((it) => this.cm.replaceRange(it.newText, place(it.range.start), place(it.range.end), "+mend")));
+    if (this.cm) this.cm.operation(() =>
+      order.forEach((it) => this.cm.replaceRange(it.newText, place(it.range.start), place(it.range.end), "+mend")));
     else {
       for (const it of order) this.area.setRangeText(it.newText, this.offset(it.range.start), this.offset(it.range.end), "end");
       this.area.dispatchEvent(new Event("input"));
@@ -128,13 +131,15 @@ class Editor {
       this.marks = [];
       for (const { range: { start, end }, message, code, relatedInformation } of diagnostics) {
         const isEmpty = start.line === end.line && start.character === end.character;
-        const from = { line: start.line, ch: start.character - (isEmpty && start.character ? 1 : 0) }, to = { line: end.line, ch: end.character + (isEmpty ? 1 : 0) };
+        const from = { line: start.line, ch: start.character - (isEmpty && start.character ? 1 : 0) },
+          to = { line: end.line, ch: end.character + (isEmpty ? 1 : 0) };
         const title = `${code}: ${message}`;
         this.marks.push(this.cm.markText(from, to, { className: "fault", attributes: { title } }));
         this.cm.setGutterMarker(start.line, "faults", h("span.fault-sign", { title, "aria-hidden": "true" }, "●"));
         for (const it of relatedInformation ?? []) {
           const place = it.location.range;
-          this.marks.push(this.cm.markText({ line: place.start.line, ch: place.start.character }, { line: place.end.line, ch: place.end.character },
+          this.marks.push(this.cm.markText({ line: place.start.line, ch: place.start.character },
+            { line: place.end.line, ch: place.end.character },
             { className: "related", attributes: { title: it.message } }));
         }
       }
@@ -156,7 +161,8 @@ function defineMode() {
       const [word] = stream.match(/^[A-Za-z]\w*/) ?? [];
       if (word) {
         state.depth = Math.max(0, state.depth + (depth[word] ?? 0));
-        return !WORDS.has(word) ? "variable" : /^(process|resource|parbegin|parend|hold|of)$/.test(word) ? "keyword strongly" : "keyword";
+        return !WORDS.has(word) ? "variable" : /^(process|resource|parbegin|parend|hold|of)$/.test(word) ? "keyword strongly"
+          : "keyword";
       }
       if (stream.match(/^\d+/)) return "number";
       if (stream.match(/^(:=|<>|<=|>=|[;,()+\-*=<>])/)) return "operator";
@@ -215,22 +221,26 @@ class Writing {
     const { diagnostics, mends } = this;
     $("state").className = `card ${diagnostics.length ? "bad" : "good"}`;
     if (!diagnostics.length) {
-      $("verdict").replaceChildren(h("b", null, "This is a program."), " With the banker it cannot deadlock, under any schedule.");
+      $("verdict").replaceChildren(h("b", null, "This is a program."),
+        " With the banker it cannot deadlock, under any schedule.");
       return $("faults").replaceChildren();
     }
     const [{ code, message, range, relatedInformation }] = diagnostics, [first, ...rest] = message.split("\n");
     $("verdict").replaceChildren(h("b", null, "Not yet a program."), ` Line ${range.start.line + 1}: ${first}`);
     const known = h("div.known");
-    const more = h("details", { ontoggle: () => this.explain(more, known, code) }, h("summary", null, `What ${code} means`), known);
+    const more = h("details", { ontoggle: () => this.explain(more, known, code) }, h("summary", null, `What ${code} means`),
+      known);
     $("faults").replaceChildren(
       ...rest.map((it) => h("p", null, it.replace(/^hint: /, ""))),
       ...(relatedInformation ?? []).map((it) => h("p", null, this.place(it.location.range.start), ` ${it.message}`)),
       h("div.buttons", null,
-        mends.map((it, i) => button(`Mend: ${it.title}`, `mend${i}`, i ? "" : "Alt and Enter", () => this.mend(i), { class: i ? "" : "main" })),
+        mends.map((it, i) => button(`Mend: ${it.title}`, `mend${i}`, i ? "" : "Alt and Enter", () => this.mend(i),
+          { class: i ? "" : "main" })),
         button("Show the place", "place", "F8", () => this.toFault())), more);
   }
 
-  place(start) { return button(`line ${start.line + 1}`, `line${start.line}`, "Show it", () => this.editor.go(start), { class: "inline" }); }
+  place(start) { return button(`line ${start.line + 1}`, `line${start.line}`, "Show it", () => this.editor.go(start),
+    { class: "inline" }); }
 
   async explain(more, known, code) {
     if (!more.open || known.firstChild) return;
@@ -245,7 +255,8 @@ class Writing {
   async plan(text) {
     if (!$("plan").open) return;
     const said = await ask("plan", {}, text);
-    if (text === this.text) $("plan-body").replaceChildren(...(said.lines ? planOf(said.lines, (line) => this.place({ line: line - 1, character: 0 })) : []));
+    if (text === this.text) $("plan-body").replaceChildren(...(said.lines
+      ? planOf(said.lines, (line) => this.place({ line: line - 1, character: 0 })) : []));
   }
 
   open() {
@@ -273,18 +284,23 @@ function planOf(lines, place) {
   const said = [];
   const [bottleneck] = of("bottleneck"), [order] = of("order"), nests = of("nest");
   const over = resources.filter((it) => it.least > it.capital);
-  for (const it of over) said.push(notice("bad", "Too little.", `One process alone may hold ${it.least} of ${it.resource}, and there are ${it.capital}.`));
+  for (const it of over) said.push(notice("bad", "Too little.",
+    `One process alone may hold ${it.least} of ${it.resource}, and there are ${it.capital}.`));
   if (of("no request waits").length) said.push(notice("good", "Nobody waits.", "There is enough for all claims at once."));
-  else if (bottleneck && !over.length) said.push(notice("warn", "Scarce.", `A request may have to wait. What is lacking most is ${bottleneck.resource}.`));
+  else if (bottleneck && !over.length) said.push(notice("warn", "Scarce.",
+    `A request may have to wait. What is lacking most is ${bottleneck.resource}.`));
   if (order) said.push(notice("good", "One order.", order.text.includes(" ")
     ? `Everybody asks for ${order.text.split(" ").join(", then ")}: even without the banker there is no deadlock.`
     : "No hold stands inside a hold of another resource: even without the banker there is no deadlock."));
   else if (!of("no request waits").length) said.push(notice("warn", "A circle.", "Without the banker there may be a deadlock:",
-    h("ul", null, nests.map((it) => h("li", null, `${it.process} asks for ${it.inner} (`, place(it.inner_line), `) while it has ${it.outer} (`, place(it.outer_line), ")")))));
+    h("ul", null, nests.map((it) => h("li", null, `${it.process} asks for ${it.inner} (`, place(it.inner_line),
+      `) while it has ${it.outer} (`, place(it.outer_line), ")")))));
   return [
     h("div.scroll", null, h("table.claim-table", null,
-      h("thead", null, h("tr", null, h("th", { scope: "col" }, "may hold at once"), resources.map((it) => h("th", { scope: "col" }, it.resource)))),
+      h("thead", null, h("tr", null, h("th", { scope: "col" }, "may hold at once"),
+        resources.map((it) => h("th", { scope: "col" }, it.resource)))),
       h("tbody", null, processes.map((it) => h("tr", null, h("th", { scope: "row" }, it), resources.map((r) => cell(it, r)))),
-        row("there are", (it) => it.capital, (it) => it.capital < it.least), row("at least", (it) => it.least), row("nobody waits from", (it) => it.free)))),
+        row("there are", (it) => it.capital, (it) => it.capital < it.least), row("at least", (it) => it.least),
+          row("nobody waits from", (it) => it.free)))),
     ...said];
 }
