@@ -10,6 +10,7 @@ from typing import NamedTuple
 from script.files import parts_of, read_input
 from script.places import UNEXPECTED, say
 from script.standard import write
+from script.where import faults_of, rounds_of
 
 PRINT = re.compile(r"\w+\.\d+ print -?\d+")
 PICK = re.compile(r"\w+\.\d+ \d+")
@@ -64,6 +65,8 @@ class Told:
     printed: list[str] = field(default_factory=list)
     picks: list[str] = field(default_factory=list)
     ends: dict[str, str] = field(default_factory=dict)
+    # By lines of the text: where processes faulted, or which lines arms go round.
+    where: list[str] = field(default_factory=list)
 
 
 def read_told(lines: list[str]) -> Told:
@@ -91,6 +94,28 @@ def circle_of(start: list[str], words: list[str], text: bytes) -> Circle | None:
         return None
     at = lines.index("round")
     return Circle(lines[lines.index("reached by") + 1 : at], lines[at + 1 : -1])
+
+
+def lending_of(words: list[str]) -> list[str]:
+    """Returns the words of a call that say who lends."""
+    found: list[str] = []
+    for at, word in enumerate(words):
+        if word == "--lend":
+            found = words[at : at + 2]
+        elif word.startswith("--lend="):
+            found = [word]
+    return found
+
+
+def find_where(start: list[str], words: list[str], text: bytes, told: Told) -> Circle | None:
+    """Adds to what is told of a text where processes faulted in the run that is told, or which lines arms go round in one that
+    never ends, and returns the latter run."""
+    if "faulted" in told.ends.values():
+        told.where = faults_of(start, text, told.picks, lending_of(words))
+    circle = circle_of(start, words, text) if told.verdict in ENDLESS else None
+    if circle is not None:
+        told.where = rounds_of(start, text, circle.lead, circle.around, lending_of(words))
+    return circle
 
 
 def prints_of(lines: list[str]) -> list[str]:
@@ -122,7 +147,9 @@ def difference_of_bags(wanted: list[str], printed: list[str]) -> Difference | No
 
 
 def ends_in_words(told: Told) -> str:
-    """Returns which processes faulted, or wait: `p faulted`, `p and q wait`."""
+    """Returns where processes faulted or go round, or else which faulted, or wait: `p faulted`, `p and q wait`."""
+    if told.where:
+        return ", ".join(told.where)
     faulted = [name for name, end in told.ends.items() if end == "faulted"]
     if faulted:
         return f"{' and '.join(faulted)} faulted"
@@ -144,8 +171,7 @@ def run_expected(start: list[str], words: list[str]) -> int:
         differs = difference(wanted, told.printed, "--any-order" in words)
         if differs:
             say(differs)
-    if told.verdict in ENDLESS:
-        circle = circle_of(start, words, parts[0])
-        if circle is not None:
-            say(circle)
+    circle = find_where(start, words, parts[0], told)
+    for line in [*([circle] if circle else []), *told.where]:
+        say(line)
     return ran.returncode if ran.returncode >= 0 else 128 - ran.returncode

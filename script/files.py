@@ -7,6 +7,7 @@ import stat
 import subprocess
 import sys
 import tempfile
+from collections.abc import Sequence
 from typing import BinaryIO, NamedTuple
 
 from script.places import DEVICE, say, shown
@@ -73,9 +74,11 @@ def named_unasked(command: str, words: list[str]) -> list[str]:
     return [word for word, is_value in zip(behind, values) if not word.startswith("-") and not is_value]
 
 
-def tell_too_many(command: str, names: list[str]) -> None:
+def tell_too_many(command: str, names: list[str], words: Sequence[str] = ()) -> None:
     """Says that a command reads one file, and not these."""
     several = "; `check --format json` tells of several" if command == "check" else ""
+    if "--expect" in words:
+        several = ": a text, a line %%, and the lines that are wanted; `grade FOLDER EXERCISE` judges texts by a file of lines"
     say(f"{command} reads one file, and here are {len(names)}: {', '.join(map(shown, names))}{several}")
 
 
@@ -204,7 +207,7 @@ def advice(command: str, words: list[str], name: str, given: bytes) -> str | Non
             return f"{name} is an object with picks: debug and states read it"
         return f"{name} is an object: exec runs it, and debug and migrate read it"
     if command in OF_TEXTS and len(parts) > 1 and has_picks(parts):
-        return f"{name} has picks behind a line %%: replay makes them, and debug and draw read them"
+        return f"{name} has picks after a line %%: replay makes them, and debug and draw read them"
     if command in OF_TEXTS and command != "plan" and len(parts) > 1:
         return f"{name} has several texts, between lines %%: check reads these, and {command} one text"
     if command in OF_MESSAGES and given.strip() and not given.startswith(MESSAGE):

@@ -10,7 +10,7 @@ from concurrent.futures import Executor
 from dataclasses import dataclass
 
 from script.expected import (
-    ENDLESS, WITHOUT, WITH_VALUE, Difference, Told, circle_of, difference, ends_in_words, prints_of, read_told,
+    ENDLESS, WITHOUT, WITH_VALUE, Difference, Told, difference, ends_in_words, find_where, prints_of, read_told,
 )
 from script.files import MOST_READ, opened, parts_of
 from script.gradebook import lines_of, sums, write_report
@@ -207,8 +207,8 @@ class Grader:
         told, differs = read_told(ran.stdout.decode(errors="replace").splitlines()), None
         if ran.returncode == UNEXPECTED and told.picks:
             differs = difference(prints_of(self.exercise.lines), told.printed, "--any-order" in self.exercise.options)
+        circle = find_where(self.start, self.exercise.words, given, told)
         if told.verdict in ENDLESS:
-            circle = circle_of(self.start, list(self.exercise.words), given)
             told.picks = [*circle.lead, *circle.around] if circle is not None else []
         # (a program that a signal ended has a status below 0)
         status = ran.returncode if ran.returncode >= 0 else 128 - ran.returncode

@@ -70,7 +70,7 @@ def run_on_file(start: list[str], command: str, words: files.Words) -> int:
     if words.missing:
         return DEVICE
     if len(words.named) > 1 and command != "plan":
-        files.tell_too_many(command, words.named)
+        files.tell_too_many(command, words.named, words.others)
         return WORDS
     if len(words.named) > 1:
         counts = files.give_together(words.named)

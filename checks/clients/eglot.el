@@ -84,7 +84,7 @@
       (take-action)
       (eglot--signal-textDocument/didChange)
       (wait-until "diagnostics of the mended text" (lambda () (null (flymake-diagnostics))))
-      (check "none behind the mend" (shown) nil)
+      (check "none after the mend" (shown) nil)
       (ask-names)
       (eglot-shutdown (eglot--current-server-or-lose))
       (set-buffer-modified-p nil)))

@@ -9,7 +9,7 @@ from page_asks import CONTRAST, LATER
 from page_made import BYSTANDER, in_a_ring, write_page
 from script.manual import TEXTBOOK
 
-# The events that are seen, those up to the position, and whether what is behind it is covered in the lanes.
+# The events that are seen, those up to the position, and whether what is after it is covered in the lanes.
 HIDDEN = """(() => {
   const {veil, cursor, box} = view.lanes, [a, b, c] = [veil, cursor, box].map((it) => it.getBoundingClientRect());
   return [[...document.querySelectorAll(".events li")].filter((it) => it.checkVisibility()).length,
@@ -20,7 +20,7 @@ HIDDEN = """(() => {
 TOLD = "[document.querySelectorAll('main :is(.why.no, .why.yes, .why.risk, .chip.waits, .edge.no, .edge.yes)').length, " \
        "document.querySelectorAll('button.arm[aria-disabled]').length]"
 
-# Whether what is told of the end has more green than red and blue behind it, or in its letters.
+# Whether what is told of the end has more green than red and blue after it, or in its letters.
 GREEN = """[document.querySelector("#ending > div"), document.querySelector(".goal.over")].filter(Boolean).some((it) =>
   ["color", "backgroundColor", "borderTopColor"].some((part) => {
     const pen = Object.assign(document.createElement("canvas"), {width: 1, height: 1}).getContext("2d");

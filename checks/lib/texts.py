@@ -20,7 +20,7 @@ def many(kind, count):
         "brackets": lambda: printed("(" * count + "1" + ")" * count),
         "sums in brackets": lambda: printed("1 + (" * count + "1" + ")" * count),
         "terms in brackets": lambda: printed("1 * (" * count + "1" + ")" * count),
-        "brackets behind an operator of each kind": lambda: printed(
+        "brackets after an operator of each kind": lambda: printed(
             "1 or 1 and not 1 = 1 + 1 * (" * count + "1" + ")" * count),
         "minus signs": lambda: printed("- " * count + "1"),
         "nots": lambda: printed("not " * count + "1"),
@@ -39,7 +39,7 @@ def many(kind, count):
 
 # The most of each kind that is accepted.
 LIMITS = {
-    "brackets": 255, "sums in brackets": 198, "terms in brackets": 198, "brackets behind an operator of each kind": 33,
+    "brackets": 255, "sums in brackets": 198, "terms in brackets": 198, "brackets after an operator of each kind": 33,
     "minus signs": 198, "nots": 198, "begins": 255, "whiles": 199, "ifs": 199, "holds": 200, "parbegins": 31,
     "arms of a parbegin": 16, "processes": 64, "resources": 16, "integers": 64, "letters of a name": 32,
 }

@@ -73,14 +73,14 @@ error H1: p.0 cannot make a pick after 1 pick
   = 1 of the 9 picks of this line was made
   = the arm has ended
   = line 3 of the input
-  = hint: leave the pick out, or make others before it; without it and those behind it, debug shows the run up to here"""
+  = hint: leave the pick out, or make others before it; without it and those after it, debug shows the run up to here"""
 NO_PICKS_WITH_A_SEED = """refused L2 at 25
 error L2: unexpected character `%`
   --> line 2, column 1
   |
 2 | %%
   | ^
-  = hint: a line %% has nothing else in it; behind it are further texts, for check, or picks, for replay, draw and debug"""
+  = hint: a line %% has nothing else in it; after it are further texts, for check, or picks, for replay, draw and debug"""
 AN_OBJECT = """refused P1 at 0
 error P1: this is an object, and not a program
   --> line 1, column 1
@@ -206,10 +206,10 @@ class Client:
         if event:
             told = self.hear()
             shown = {"event": told.get("event"), **(told.get("body") or {})}
-            self.check(f"the event behind request {seq}", event.items() <= shown.items(), told)
+            self.check(f"the event after request {seq}", event.items() <= shown.items(), told)
 
     def end(self) -> None:
-        self.check("nothing comes behind the last message", self.source.read() == b"", "more came")
+        self.check("nothing comes after the last message", self.source.read() == b"", "more came")
 
 
 def play(words: list[str], session: list[Asked]) -> int:

@@ -37,7 +37,7 @@ PLACES = [
     ("name.pb", 3, 3, "N3"), ("claim.pb", 4, 3, "C1"), ("several.pb", 3, 23, "N3"), ("early.pb", 1, 16, "P1"),
     ("many.pb", 65, 1, "N1"), ("odd name %.pb", 1, 26, "P1"), ("a\n\x1b[1m.pb", 1, 23, "N3"),
 ]
-# Texts behind another one, with the message of each and the further places that it shows, in lines of the file.
+# Texts after another one, with the message of each and the further places that it shows, in lines of the file.
 FURTHER = (
     (b"process p begin\n  while 1 do skip\nend\n", "`od` is missing: the `while` of line 4 is not closed", [(4, 3, "it is opened here")]),
     (b"process p begin\n  integer x,\n  x; skip end\n", "integer x is declared twice in process p", [(4, 11, "first declared here")]),

@@ -9,7 +9,7 @@ the lines up to the next command or the end of the block. If some of these begin
 `0/15> `, it is a session at a terminal, and what is after the prompts is typed. The commands of docs/COURSE.md are
 typed at a terminal too: there standard error is seen, and tables in the place of lines. The commands run in a folder
 with the script, as it is installed, and the examples; `--unproved` is left out, which changes nothing of what is
-written. A block that names a language and a path behind its opening backquotes, as in "rust crates/NAME/src/main.rt",
+written. A block that names a language and a path after its opening backquotes, as in "rust crates/NAME/src/main.rt",
 shows a file, and has to be that file. A path is a word of a document, in backquotes or not, that begins with the name
 of a folder at the top of the repository. A link has to lead to a file and a heading in it, and a heading that is named,
 as in docs/NAME.md, "Heading", or its first words, has to be there. No cell of a table of the formats has more than 40

@@ -110,7 +110,7 @@ def manual_commands():
     return {it.split()[0]: set(re.findall(r"\\-\\-([a-z]+)", it)) for it in parts}
 
 
-# What is completed behind some words, and one completion of it.
+# What is completed after some words, and one completion of it.
 COMPLETED = (
     (["outcomes", "--lend", ""], "cash"), (["help", "rep"], "replay"), (["check", "--format", ""], "sarif"),
     (["run", "a"], "a.pb"), (["--quiet", "debug", "a"], "a.pb"), (["explain", "N"], "N3"),

@@ -30,7 +30,7 @@ WANTED = "p.0 print 2\n"
 UNEXPECTED = 10
 # What is told of a run that is not as expected: the file, what was wanted and what came.
 CAME = {
-    "hurry.pb": ("p.0 print 2", "p.0 print 1"), "proof.pb": ("p.0 print 2", "no more, p faulted"),
+    "hurry.pb": ("p.0 print 2", "p.0 print 1"), "proof.pb": ("p.0 print 2", "no more, p.0 faulted in line 9: 2 div 0"),
     "halves.pb": ("", ""), "anna/=late.pb": ("p.0 print 2", "p.0 print 1"),
 }
 

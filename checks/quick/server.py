@@ -101,7 +101,7 @@ def check_positions(editor: Editor) -> None:
     changes = {"textDocument": {"uri": uri, "version": 3}, "contentChanges": [{"text": "process a begin\r\n\r x := 1 end"}]}
     editor.tell("textDocument/didChange", changes)
     found = editor.published(uri, 3)
-    editor.check("a fault behind carriage returns", [one["range"] for one in found], [{"start": at(2, 1), "end": at(2, 2)}])
+    editor.check("a fault after carriage returns", [one["range"] for one in found], [{"start": at(2, 1), "end": at(2, 2)}])
     asked = {"textDocument": {"uri": uri}, "range": found[0]["range"], "context": {"diagnostics": found}}
     mends = editor.ask("textDocument/codeAction", asked)["result"]
     edits = [edit for one in mends for edit in one["edit"]["changes"][uri]]
@@ -205,10 +205,10 @@ def play(program: str) -> int:
     said = editor.ask("textDocument/diagnostic", {"textDocument": {"uri": "file:///nosuch.pb"}})
     editor.check("a document that is not open", said["error"]["code"], -32602)
     editor.check("shutdown", editor.ask("shutdown")["result"], None)
-    editor.check("a request behind it", editor.ask("textDocument/diagnostic")["error"]["code"], -32600)
+    editor.check("a request after it", editor.ask("textDocument/diagnostic")["error"]["code"], -32600)
     editor.tell("exit")
     assert editor.child.stdout
-    editor.check("nothing comes behind the last message", editor.child.stdout.read(), b"")
+    editor.check("nothing comes after the last message", editor.child.stdout.read(), b"")
     editor.check("the status", editor.child.wait(10), 0)
     check_broken(editor, program)
     print(f"{looked} texts, {editor.checked} checks, {editor.wrong} wrong")

@@ -107,7 +107,7 @@ FAILED_INPUTS = {
     "input closed": lambda it: told(it, lambda: os.close(0)),
     "input a directory": directory,
     "input open for writing alone": written_only,
-    "input that fails behind its last byte": broken_input,
+    "input that fails after its last byte": broken_input,
 }
 
 

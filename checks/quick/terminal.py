@@ -127,7 +127,7 @@ class Player:
         return "\n".join(lines if at else lines[:-1] if not lines[-1] else lines)
 
     def type(self, line: str) -> str:
-        """Types a line, and returns what is shown behind it."""
+        """Types a line, and returns what is shown after it."""
         self.it.sendline(line)
         return self.shown().partition("\n")[2]
 

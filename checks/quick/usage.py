@@ -71,7 +71,7 @@ CALLS = [
     (["run", "cash"], DONE, "p end\n", None),
     (["run", "sum.pbo"], REFUSED, "refused ", "parbegin: sum.pbo is an object: exec runs it"),
     (["check", "sum.pbo"], REFUSED, "sum.pbo: refused ", "parbegin: sum.pbo is an object: exec runs it"),
-    (["run", "lost.run"], REFUSED, "refused L2 at 335", "parbegin: lost.run has picks behind a line %%: replay makes them"),
+    (["run", "lost.run"], REFUSED, "refused L2 at 335", "parbegin: lost.run has picks after a line %%: replay makes them"),
     (["claims", "two.pb"], REFUSED, "refused L2", "parbegin: two.pb has several texts, between lines %%: check reads these"),
     (["exec", "hello.pb"], REFUSED, "refused O1 at 0", "parbegin: hello.pb is no object"),
     (["lsp", "hello.pb"], REFUSED, "this is not the header of a message", "parbegin: hello.pb holds no messages: an editor starts lsp"),
@@ -98,7 +98,9 @@ CALLS = [
     (["outcomes", "--endless", "--run", "1", "hello.pb"], WORDS, None, "error: these options of 'outcomes' mean nothing together\n"),
     (["outcomes", "--any-order", "hello.pb"], WORDS, None, "  --any-order goes with --expect alone"),
     (["--json", "outcomes", "--endless", "spins.pb"], DONE, '{"kind":"round",', None),
-    (["outcomes", "--expect", "spins_wanted.pb"], UNEXPECTED, "some run does not end\n", "parbegin: a run that does not end: p.0 1, and then again and again p.1 5\n"),
+    (["outcomes", "--expect", "spins_wanted.pb"], UNEXPECTED, "some run does not end\n", "parbegin: a run that does not end: p.0 1, and then again and again p.1 5\nparbegin: p.1 goes round line 1\n"),
+    (["outcomes", "--expect", "divides_wanted.pb"], UNEXPECTED, "a fault\n", "got no more\nparbegin: p.0 faulted in line 1: 7 div 0\n"),
+    (["outcomes", "--expect", "hello.pb", "lost.pb"], WORDS, None, "`grade FOLDER EXERCISE` judges texts by a file of lines\n"),
     (["outcomes", "--expect", "--fair", "spins_wanted.pb"], DONE, "as expected\n", None),
     (["outcomes", "--expect", "hello.pb"], UNEXPECTED, "not as expected: other prints\n", "parbegin: hello.pb has no line %% with the prints"),
     (["hello.pb"], WORDS, None, "hello.pb is a file, and a command comes before it: parbegin run hello.pb"),
@@ -182,6 +184,7 @@ def fill(folder: pathlib.Path) -> None:
     spins = "process p begin integer x; parbegin while x = 0 do skip od; x := 1 parend; print x end\n"
     (folder / "spins.pb").write_text(spins)
     (folder / "spins_wanted.pb").write_text(f"{spins}%%\np.0 print 1\n")
+    (folder / "divides_wanted.pb").write_text("process p begin integer x; print 7 div x end\n%%\np.0 print 1\n")
     (folder / "too_few.pb").write_text("process p begin print 1 end\n%%\np.0 print 1\np.0 print 3\n")
     held = "resource tape = 2; process p begin hold 2 of tape do print 1 od end\n%%\nhas a hold\n"
     (folder / "required.pb").write_text(f"{held}claims at least 2 tape\np.0 print 3\n")

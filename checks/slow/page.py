@@ -301,7 +301,7 @@ def look_at_tabs(tally: Tally, it: Any, path: Path) -> None:
         for _ in range(3 * len(wanted)):
             it.key("Tab")
             seen.add(it.js("document.activeElement.dataset.stop ?? ''"))
-            # (behind the last stop the key may leave the page)
+            # (after the last stop the key may leave the page)
             if len(seen - {""}) == len(wanted):
                 break
         missed = [words for number, words in enumerate(wanted) if str(number) not in seen]

@@ -75,7 +75,7 @@ def at_the_limits(trial):
         trial.answer(f"{most} {kind}", OUTCOMES, many(kind, most))
         trial.expect(f"{most + 1} {kind}", OUTCOMES, many(kind, most + 1), REFUSED)
     # (refused for its height, which is measured by the same recursion)
-    kind = "brackets behind an operator of each kind"
+    kind = "brackets after an operator of each kind"
     trial.expect(f"255 {kind}", ["check"], many(kind, 255), REFUSED)
 
 
@@ -95,8 +95,8 @@ def full_inputs(trial):
         for begin in (b"", text + b"%%\n", b"PBO 2\n"):
             given = (begin + piece * (MOST_INPUT // len(piece) + 1))[:MOST_INPUT]
             for command in COMMANDS:
-                trial.answer(f"4,194,304 bytes of {name} behind {begin[:8]!r}", command, given)
-                status, said = trial.answer(f"4,194,305 bytes of {name} behind {begin[:8]!r}", command, given + b" ")
+                trial.answer(f"4,194,304 bytes of {name} after {begin[:8]!r}", command, given)
+                status, said = trial.answer(f"4,194,305 bytes of {name} after {begin[:8]!r}", command, given + b" ")
                 trial.tally.expect(status == REFUSED and said.startswith(b"refused"), name, command, status, said[:60])
     picks = text + b"%%\n" + pick * ((MOST_INPUT - 100) // len(pick))
     trial.expect("as many pick lines as fit", ["replay"], picks, DONE)

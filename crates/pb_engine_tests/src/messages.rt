@@ -94,7 +94,7 @@ fn explains(alloc: Global, text: &[u8], summary: &str, hint: &str) -> Option<boo
 fn words_of_other_languages(rt: HostRuntime) {
     let text = b"process p begin int x; x := 1 end";
     let summary = "`int` is not a word of the language";
-    let hint = "the integers of a process are declared behind its first begin: integer x, y;";
+    let hint = "the integers of a process are declared after its first begin: integer x, y;";
     assert!(rt; explains(rt.alloc(), text, summary, hint) == Some(true));
     let text = b"process p BEGIN print 1 END";
     let summary = "`BEGIN` is not a reserved word";
@@ -110,7 +110,7 @@ fn declarations_before_the_processes(rt: HostRuntime) {
     assert!(rt; explains(rt.alloc(), text, summary, hint) == Some(true));
     let text = b"resource tape = 2 process p begin print 1 end";
     let summary = "a semicolon is missing";
-    let hint = "a semicolon is behind the declaration before this: resource tape = 2;";
+    let hint = "a semicolon comes after the declaration before this: resource tape = 2;";
     assert!(rt; explains(rt.alloc(), text, summary, hint) == Some(true));
     let text = b"resource r = -1; process p begin print 1 end";
     let summary = "the capital of resource r is not a number";
@@ -135,7 +135,7 @@ fn what_is_joined_by_another_sign(rt: HostRuntime) {
 fn statements_that_are_not_closed(rt: HostRuntime) {
     let text = b"process p begin integer x; while x < 3 do x := x + 1 end";
     let summary = "`od` is missing: the `while` of line 1 is not closed";
-    let hint = "write od behind the last of its statements";
+    let hint = "write od after the last of its statements";
     assert!(rt; explains(rt.alloc(), text, summary, hint) == Some(true));
     let text = b"process p begin print 1 end end";
     let summary = "this `end` is one too many: process p has ended just before it";

@@ -84,7 +84,7 @@ b4-input =
 abbrev pub b4-entry : Explanation
 b4-entry = record {
   summary = codes "no resource of this name";
-  meaning = codes "The bank has no resource of the name that the command has behind an amount.";
+  meaning = codes "The bank has no resource of the name that the command has after an amount.";
   example = Some (record {
     command = codes "bank";
     input = Text b4-input;

@@ -19,7 +19,7 @@ abbrev pub n1-entry : Explanation
 n1-entry = record {
   summary = codes "too many of a kind";
   meaning =
-      codes "The word behind N1 says of what: over 64 `processes`, over 16 `resources`, over\n"
+      codes "The word after N1 says of what: over 64 `processes`, over 16 `resources`, over\n"
       ++ codes "64 `integers` in a process, over 16 arms in one parbegin (`fork`), or over 64\n"
       ++ codes "`arms` in a process, where its body counts as one.";
   example = Some (record {
@@ -80,7 +80,7 @@ n3-entry = record {
     answer = codes "refused N3 at 18";
   });
   mend =
-      codes "Declare it: an integer right behind the `begin` of its process, as in\n"
+      codes "Declare it: an integer right after the `begin` of its process, as in\n"
       ++ codes "`integer x;`, and a resource before the first process, as in\n"
       ++ codes "`resource tape = 2;`.";
 }

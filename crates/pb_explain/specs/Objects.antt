@@ -232,7 +232,7 @@ abbrev pub v6-entry : Explanation
 v6-entry = record {
   summary = codes "forks and joins that do not fit";
   meaning =
-      codes "A `fork` has no `join` of the same arms right behind it or a `join` no such `fork`\n"
+      codes "A `fork` has no `join` of the same arms right after it or a `join` no such `fork`\n"
       ++ codes "before it, a jump goes to a `join`, a fork starts an arm that is not there or not\n"
       ++ codes "above its own, or an arm above 0 is started by no fork or by two.";
   example = Some (record {

@@ -17,7 +17,7 @@ k1-entry = record {
       codes "A pick line is `P.a COUNT`: the name of a process, a point, the number of one of its\n"
       ++ codes "arms, a space, and how often the pick is made, from 1 to 10,000,000. This one is not\n"
       ++ codes "of this form, or names a process or an arm that is not there. The offset is that of\n"
-      ++ codes "the line, counted from behind the line `%%`. `outcomes --expect` reads print lines\n"
+      ++ codes "the line, counted from after the line `%%`. `outcomes --expect` reads print lines\n"
       ++ codes "there, `P.a print V`, and refuses them so.";
   example = Some (record {
     command = codes "replay";
@@ -101,8 +101,8 @@ abbrev pub g1-entry : Explanation
 g1-entry = record {
   summary = codes "no such position";
   meaning =
-      codes "The command of `debug` would go before position 0, or behind the last pick; or it is\n"
-      ++ codes "`pick`, at another position than the last, or behind 10,000,000 picks.";
+      codes "The command of `debug` would go before position 0, or after the last pick; or it is\n"
+      ++ codes "`pick`, at another position than the last, or after 10,000,000 picks.";
   example = Some (record {
     command = codes "debug";
     input = Text g1-input;

@@ -102,8 +102,8 @@ p1-entry = record {
   });
   mend =
       codes "Look at this offset, and just before it. A semicolon comes between statements, and\n"
-      ++ codes "not behind the last one, as in the example; `fi`, `od`, `parend` or `end` may be\n"
-      ++ codes "missing, or `=` may be written for `:=`. Integers are declared right behind the\n"
+      ++ codes "not after the last one, as in the example; `fi`, `od`, `parend` or `end` may be\n"
+      ++ codes "missing, or `=` may be written for `:=`. Integers are declared right after the\n"
       ++ codes "`begin` of their process, and resources before the first process. The grammar is\n"
       ++ codes "in docs/LANGUAGE.md.";
 }

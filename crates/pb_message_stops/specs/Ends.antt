@@ -20,11 +20,11 @@ ends_of line =
 
 -- what is usually meant, by what the lines say
 abbrev pub ends_hint : Form → Ends → List ℕ
-ends_hint Picks Empty = codes "each line behind the line %% is a pick line: leave empty lines out"
-ends_hint Prints Empty = codes "each line behind the line %% is a print line: leave empty lines out"
+ends_hint Picks Empty = codes "each line after the line %% is a pick line: leave empty lines out"
+ends_hint Prints Empty = codes "each line after the line %% is a print line: leave empty lines out"
 ends_hint Picks Return = codes "save the picks with the line ends of Unix: a line feed alone"
 ends_hint Prints Return = codes "save the prints with the line ends of Unix: a line feed alone"
-ends_hint Picks BlankBehind = codes "leave out the blank behind the count"
+ends_hint Picks BlankBehind = codes "leave out the blank after the count"
 ends_hint Prints BlankBehind = codes "leave out the blank at its end"
 ends_hint Picks BlankBefore = codes "leave out the blank before the process"
 ends_hint Prints BlankBefore = codes "leave out the blank before the process"

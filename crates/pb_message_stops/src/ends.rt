@@ -68,10 +68,10 @@ impl Ends {
     {
         match (form, self) {
             (Form::Picks, Ends::Empty) => {
-                "each line behind the line %% is a pick line: leave empty lines out"
+                "each line after the line %% is a pick line: leave empty lines out"
             }
             (Form::Prints, Ends::Empty) => {
-                "each line behind the line %% is a print line: leave empty lines out"
+                "each line after the line %% is a print line: leave empty lines out"
             }
             (Form::Picks, Ends::Return) => {
                 "save the picks with the line ends of Unix: a line feed alone"
@@ -79,7 +79,7 @@ impl Ends {
             (Form::Prints, Ends::Return) => {
                 "save the prints with the line ends of Unix: a line feed alone"
             }
-            (Form::Picks, Ends::BlankBehind) => "leave out the blank behind the count",
+            (Form::Picks, Ends::BlankBehind) => "leave out the blank after the count",
             (Form::Prints, Ends::BlankBehind) => "leave out the blank at its end",
             (Form::Picks | Form::Prints, Ends::BlankBefore) => {
                 "leave out the blank before the process"

@@ -73,7 +73,7 @@ pub(crate) fn first_line(text: &[u8]) -> (&[u8], &[u8])
 
 /// What is usually meant by a pick that is not enabled.
 const STOP_HINT: &str =
-    "hint: leave the pick out, or make others before it; without it and those behind it, debug shows the run up to here";
+    "hint: leave the pick out, or make others before it; without it and those after it, debug shows the run up to here";
 
 /// Returns the wording of a pick that is not enabled under a lending, after those before it.
 pub fn stop_wording(

@@ -142,7 +142,7 @@ fn meaning_of_pair(rest: &[u8]) -> &'static str {
     if rest.starts_with(b"/*") {
         "a comment begins with // and goes to the end of its line; there is no /* */"
     } else if rest.starts_with(b"%%") {
-        "a line %% has nothing else in it; behind it are further texts, for check, or picks, for replay, draw and debug"
+        "a line %% has nothing else in it; after it are further texts, for check, or picks, for replay, draw and debug"
     } else if rest.starts_with(b"#include") || rest.starts_with(b"#import") {
         "nothing is included: a program is one text, of resources and processes"
     } else if rest.starts_with(b"#define") {
@@ -218,7 +218,7 @@ fn meaning_of_colon(tokens: &[Token], open: Option<&Open>, rest: &[u8]) -> &'sta
     } else if is_lock(behind) {
         LOCK_HINT
     } else if is_type(behind) {
-        "the integers of a process are declared behind its first begin, without a type: integer x, y;"
+        "the integers of a process are declared after its first begin, without a type: integer x, y;"
     } else if behind.starts_with(b"=") {
         "an assignment is written x := 1, with no blank between `:` and `=`"
     } else if let Some(hint) = meaning_of_line_end(tokens, open) {
@@ -289,7 +289,7 @@ fn meaning_of_line_end(tokens: &[Token], open: Option<&Open>) -> Option<&'static
 fn meaning_of_point(tokens: &[Token], rest: &[u8]) -> &'static str {
     let last = tokens.len().saturating_sub(1);
     if is_at(tokens, last, Mark::End) {
-        "a process ends with end, and no point is behind it"
+        "a process ends with end, and no point comes after it"
     } else if is_number(tokens, last) {
         if ends_value(tokens) && !rest.get(1).is_some_and(|byte| byte.is_ascii_digit()) {
             "statements are separated by semicolons, and no point ends them: print 1; print 2"
@@ -472,6 +472,8 @@ fn ascii_for(number: u32) -> &'static str {
         0x2010..=0x2015 | 0x2212 => "write the minus sign of the keyboard in its place: -",
         0xD7 => "a product is written a * b",
         0xF7 => "a quotient is written a div b",
+        0x2190 | 0x21D0 | 0x2254 => "an assignment is written x := 1",
+        0xAC | 0x2227 | 0x2228 => "the logical operators are written not a, a and b, a or b",
         0x2260 => "not equal is written a <> b",
         0x2264 => "at most is written a <= b",
         0x2265 => "at least is written a >= b",

@@ -13,7 +13,7 @@ use pb_mistakes::signs::sign_mistake;
 use pb_mistakes::statements::{head_mistake, named_mistake};
 use pb_mistakes::tokens::{
     begins_list, begins_statement, ends_before, ends_list, is_at, is_declaration, is_name,
-    is_statement_start, mark_at, process_before, statement_before, text_at,
+    is_number, is_statement_start, mark_at, process_before, statement_before, text_at,
 };
 use pb_mistakes::values::value_mistake;
 use pb_mistakes::{Told, telling, usual};
@@ -140,7 +140,7 @@ fn list_mistake<'t>(tokens: &[Token<'t>], number: usize) -> Option<Told<'t>> {
     if begins_list(tokens, before) && is_at(tokens, number, Mark::Semicolon) {
         return Some(
             telling(
-                "there is a semicolon behind `@1`",
+                "there is a semicolon after `@1`",
                 "leave it out: a semicolon separates two statements",
             )
             .naming(text_at(tokens, before))
@@ -164,14 +164,14 @@ fn semicolon_mistake<'t>(tokens: &[Token<'t>], number: usize) -> Option<Told<'t>
     }
     if ends_list(tokens, number) && is_declaration(tokens, before) {
         return inserted(
-            "a statement is missing behind the declaration",
+            "a statement is missing after the declaration",
             SKIP_HINT,
             "skip",
         );
     }
     if ends_list(tokens, number) {
         return removed(
-            "a statement is missing behind the semicolon",
+            "a statement is missing after the semicolon",
             "a semicolon separates statements; the last one has none",
             before,
         );
@@ -207,7 +207,9 @@ fn declaration_mistake<'t>(tokens: &[Token<'t>], number: usize) -> Option<Told<'
             "integers begin at 0: write integer x; and assign below: x := 1",
         );
     }
-    if is_name(tokens, number) && !is_at(tokens, number.saturating_add(1), Mark::Assign) {
+    let next = number.saturating_add(1);
+    let is_assigned = is_at(tokens, next, Mark::Assign) || is_at(tokens, next, Mark::Equal);
+    if is_name(tokens, number) && !is_assigned {
         return inserted(
             "a comma is missing",
             "commas separate the names of integers: integer x, y;",
@@ -217,7 +219,7 @@ fn declaration_mistake<'t>(tokens: &[Token<'t>], number: usize) -> Option<Told<'
     if begins_statement(tokens, number) {
         return inserted(
             "a semicolon is missing",
-            "a semicolon is behind the names of the integers: integer x, y;",
+            "a semicolon comes after the names of the integers: integer x, y;",
             ";",
         );
     }
@@ -244,7 +246,7 @@ fn program_mistake<'t>(
     {
         return usual(
             "a process stands in no other one",
-            "a process begins behind the end of the one before: process p begin print 1 end process q begin print 2 end",
+            "a process begins after the end of the one before: process p begin print 1 end process q begin print 2 end",
         );
     }
     if is_at(tokens, before, Mark::End)
@@ -253,8 +255,8 @@ fn program_mistake<'t>(
         && !ends_list(tokens, number.saturating_add(1))
     {
         return removed(
-            "there is a semicolon behind the end of a process",
-            "a process ends with end, and no semicolon is behind it",
+            "there is a semicolon after the end of a process",
+            "a process ends with end, and no semicolon comes after it",
             number,
         );
     }
@@ -262,8 +264,8 @@ fn program_mistake<'t>(
         && is_at(tokens, number, Mark::Semicolon)
     {
         return removed(
-            "there is a semicolon behind the name of a process",
-            "begin is behind the name: process p begin print 1 end",
+            "there is a semicolon after the name of a process",
+            "begin comes after the name: process p begin print 1 end",
             number,
         );
     }
@@ -308,6 +310,12 @@ fn joined_mistake<'t>(tokens: &[Token<'t>], number: usize) -> Option<Told<'t>> {
             ";",
         );
     }
+    if is_grouped(tokens, number) {
+        return usual(
+            "a number has no comma",
+            "the digits of a number stand together: 1000, and not 1,000",
+        );
+    }
     if is_at(tokens, statement_before(tokens, number)?, Mark::Print) {
         return usual(
             "a print has one value",
@@ -315,6 +323,14 @@ fn joined_mistake<'t>(tokens: &[Token<'t>], number: usize) -> Option<Told<'t>> {
         );
     }
     None
+}
+
+/// Returns whether a comma is between two numbers of which the second has three digits, as in 1,000.
+fn is_grouped(tokens: &[Token], comma: usize) -> bool {
+    let next = comma.saturating_add(1);
+    is_number(tokens, comma.saturating_sub(1))
+        && is_number(tokens, next)
+        && text_at(tokens, next).len() == 3
 }
 
 /// Returns whether a statement begins with a token that cannot be part of an expression, or assigns.

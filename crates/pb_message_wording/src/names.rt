@@ -240,14 +240,20 @@ pub fn unknown<'t>(
             )
             .placed("`@3` is declared at ", tokens.get(meant))
             .replacing(number, text_at(tokens, meant)),
-        None if is_resource => undeclared(
-            tokens,
-            number,
-            is_resource,
-            "declare it before the first process, with the amount of it: resource @1 = 1;",
-        ),
+        None if is_resource => unknown_resource(tokens, number),
         None => unknown_integer(tokens, number),
     })
+}
+
+/// Returns what is told of a resource that is not declared and that no other name is near.
+fn unknown_resource<'t>(tokens: &[Token<'t>], number: usize) -> Told<'t> {
+    let is_integer = integer_in_other_letters(tokens, number) == Some(text_at(tokens, number));
+    let hint = if is_integer {
+        "@1 is an integer, and only resources are held: write resource s = 1; before the first process, and hold 1 of s"
+    } else {
+        "declare it before the first process, with the amount of it: resource @1 = 1;"
+    };
+    undeclared(tokens, number, true, hint)
 }
 
 /// Returns that a name is not declared, with a hint.

@@ -8,7 +8,7 @@ use Rattle.pb_messages.specs.declared.message.Reading.TheVariants.{Debugged}
 
 -- of one of the two parts before the commands, if it is too long
 abbrev pub long_part : List ℕ
-long_part = codes "error input: the text or the pick lines, with the line %% behind them, are longer than 4194304 bytes\n"
+long_part = codes "error input: the text or the pick lines, with the line %% after them, are longer than 4194304 bytes\n"
 
 -- what is before the rest of some bytes, with the line `%%` after it, is over 4,194,304 bytes
 abbrev pub IsLongBefore : (bytes rest : List ℕ) → Type 0

@@ -11,7 +11,7 @@ use std::alloc::Global;
 
 /// What is said if one of the two parts before the commands is too long.
 const LONG_PART: &[u8] =
-    b"error input: the text or the pick lines, with the line %% behind them, are longer than 4194304 bytes\n";
+    b"error input: the text or the pick lines, with the line %% after them, are longer than 4194304 bytes\n";
 
 /// Returns the message of a refused input whose commands are read as they come: each of the two parts before
 /// them may have 4,194,304 bytes, with the line `%%` after it. Its picks are made under a lending.

@@ -114,7 +114,7 @@ fn has_one_too_many(tokens: &[Token], number: usize) -> bool {
 /// Returns the mistake of a word that closes nothing, just before the one that closes what is open.
 fn closed_behind<'t>(tokens: &[Token<'t>], number: usize, last: &Open) -> Told<'t> {
     telling(
-        "this `@1` is one too many: the `@2` behind it closes the `@3` of line @n",
+        "this `@1` is one too many: the `@2` after it closes the `@3` of line @n",
         "leave it out, or look for a begin that is missing above",
     )
     .with_words(
@@ -132,7 +132,7 @@ fn else_mistake<'t>(tokens: &[Token<'t>], last: &Open, open: &[Open]) -> Option<
     if last.word == Mark::If && last.part == Some(Mark::Else) {
         return Some(telling(
             "the `if` of line @n has two `else`",
-            "an if has one else; another if behind it has a fi of its own",
+            "an if has one else; another if after it has a fi of its own",
         )
         .on_line(line_at(tokens, last.number)));
     }
@@ -148,9 +148,9 @@ fn else_mistake<'t>(tokens: &[Token<'t>], last: &Open, open: &[Open]) -> Option<
 /// Returns the mistake of a statement that is not closed.
 fn not_closed<'t>(tokens: &[Token<'t>], open: &Open) -> Told<'t> {
     let hint = if is_else_if(tokens, open) {
-        "each if has a fi of its own, also one behind else: else if .. fi fi"
+        "each if has a fi of its own, also one after else: else if .. fi fi"
     } else {
-        "write @1 behind the last of its statements"
+        "write @1 after the last of its statements"
     };
     telling("`@1` is missing: the `@2` of line @n is not closed", hint)
         .with_words(
@@ -275,7 +275,7 @@ fn behind_mistake<'t>(tokens: &[Token<'t>], number: usize) -> Option<Told<'t>> {
     if text_at(tokens, number) == name {
         return Some(
             telling(
-                "the name of process @1 stands behind its end",
+                "the name of process @1 stands after its end",
                 "a process ends with end alone",
             )
             .naming(name)
@@ -284,7 +284,7 @@ fn behind_mistake<'t>(tokens: &[Token<'t>], number: usize) -> Option<Told<'t>> {
     }
     Some(telling(
         "process @1 has ended before this",
-        "behind the end of a process only another process follows: look for an end that is one too many above",
+        "after the end of a process only another process follows: look for an end that is one too many above",
     )
     .naming(name))
 }

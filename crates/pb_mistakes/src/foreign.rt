@@ -71,7 +71,7 @@ fn called<'t>(tokens: &[Token<'t>], number: usize) -> Option<Told<'t>> {
         )
     } else if is_declared(tokens, number) {
         telling(
-            "an operator is missing behind @1",
+            "an operator is missing after @1",
             "a product is written @1 * (2): there are no functions",
         )
     } else {

@@ -63,12 +63,12 @@ const MEANINGS: [Meaning; 42] = [
     },
     Meaning {
         words: "int var let bool boolean float real char string long double short unsigned signed byte number auto dim local global shared declare integer32 uint mut ref i8 i16 i32 i64 u8 u16 u32 u64 usize isize int8 int16 int32 int64 uint8 uint16 uint32 uint64 float32 float64 size_t natural cardinal str num numeric decimal word bit",
-        hint: "the integers of a process are declared behind its first begin: integer x, y;",
+        hint: "the integers of a process are declared after its first begin: integer x, y;",
         instead: "",
     },
     Meaning {
         words: "const constant final static define enum type typedef record struct array object list union volatile register sizeof dict tuple vector map sub_type subtype",
-        hint: "there are only integers, which a process declares behind its first begin: integer n; and assigns: n := 5",
+        hint: "there are only integers, which a process declares after its first begin: integer n; and assigns: n := 5",
         instead: "",
     },
     Meaning {

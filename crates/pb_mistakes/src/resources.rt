@@ -70,7 +70,7 @@ fn missing_capital<'t>(tokens: &[Token<'t>], number: usize) -> Told<'t> {
         b"1"
     };
     let told = telling(
-        "`=` is missing behind resource @1",
+        "`=` is missing after resource @1",
         "a resource is declared with its capital, how much there is of it: resource @1 = @2;",
     )
     .with_words(text_at(tokens, number.saturating_sub(1)), capital, b"");
@@ -104,7 +104,7 @@ fn missing_semicolon<'t>(tokens: &[Token<'t>], number: usize) -> Told<'t> {
     }
     telling(
         "a semicolon is missing",
-        "a semicolon is behind the declaration before this: resource @1 = @2;",
+        "a semicolon comes after the declaration before this: resource @1 = @2;",
     )
     .with_words(
         text_at(tokens, number.saturating_sub(3)),

@@ -129,7 +129,7 @@ fn number_as_name<'t>(tokens: &[Token<'t>], number: usize) -> Told<'t> {
 
 fn missing_begin<'t>(tokens: &[Token<'t>], name: usize) -> Told<'t> {
     telling(
-        "`begin` is missing behind process @1",
+        "`begin` is missing after process @1",
         "a process is written process @1 begin .. end",
     )
     .naming(text_at(tokens, name))

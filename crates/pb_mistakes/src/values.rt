@@ -31,7 +31,7 @@ pub fn value_mistake<'t>(
     }
     if is_at(tokens, number, Mark::Open) && is_number(tokens, before) {
         return Some(telling(
-            "an operator is missing behind @1",
+            "an operator is missing after @1",
             "a product is written @1 * (x + 1)",
         )
         .naming(text_at(tokens, before)));
@@ -70,7 +70,7 @@ fn parenthesis_mistake<'t>(tokens: &[Token<'t>], number: usize) -> Option<Told<'
     Some(
         telling(
             "`)` is missing",
-            "write it behind the value that stands in parentheses",
+            "write it after the value that stands in parentheses",
         )
         .placed("`(`: ", tokens.get(opened?))
         .inserting(")"),
@@ -118,7 +118,7 @@ fn choice_mistake<'t>(tokens: &[Token<'t>], number: usize) -> Option<Told<'t>> {
         );
     }
     usual(
-        "an `if` stands behind its statement",
+        "an `if` stands after its statement",
         "the test comes first: if x = 1 then print 1 fi",
     )
 }

@@ -23,7 +23,7 @@ pub(crate) fn meaning(mark: Mark) -> Option<&'static str>
             "Has these amounts lent while its statements run. It is entered when the banker lends them.",
         ),
         Mark::If => Some(
-            "Runs the statements behind `then` if the test is not 0, otherwise those behind `else`.",
+            "Runs the statements after `then` if the test is not 0, otherwise those after `else`.",
         ),
         Mark::Integer => Some("Declares the integers of the process, which are 0 at first."),
         Mark::Mod => Some(

@@ -58,7 +58,7 @@ ready",
 
 pub static B4: Entry = Entry {
     summary: "no resource of this name",
-    meaning: "The bank has no resource of the name that the command has behind an amount.",
+    meaning: "The bank has no resource of the name that the command has after an amount.",
     example: Some(Example {
         command: "bank",
         input: ExampleInput::Text(

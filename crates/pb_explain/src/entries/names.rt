@@ -5,7 +5,7 @@ use super::{Entry, Example, ExampleInput};
 
 pub static N1: Entry = Entry {
     summary: "too many of a kind",
-    meaning: "The word behind N1 says of what: over 64 `processes`, over 16 `resources`, over
+    meaning: "The word after N1 says of what: over 64 `processes`, over 16 `resources`, over
 64 `integers` in a process, over 16 arms in one parbegin (`fork`), or over 64
 `arms` in a process, where its body counts as one.",
     example: Some(Example {
@@ -62,7 +62,7 @@ end
         ),
         answer: "refused N3 at 18",
     }),
-    mend: "Declare it: an integer right behind the `begin` of its process, as in
+    mend: "Declare it: an integer right after the `begin` of its process, as in
 `integer x;`, and a resource before the first process, as in
 `resource tape = 2;`.",
 };

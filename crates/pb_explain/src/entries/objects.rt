@@ -173,7 +173,7 @@ code 2
 
 pub static V6: Entry = Entry {
     summary: "forks and joins that do not fit",
-    meaning: "A `fork` has no `join` of the same arms right behind it or a `join` no such `fork`
+    meaning: "A `fork` has no `join` of the same arms right after it or a `join` no such `fork`
 before it, a jump goes to a `join`, a fork starts an arm that is not there or not
 above its own, or an arm above 0 is started by no fork or by two.",
     example: Some(Example {

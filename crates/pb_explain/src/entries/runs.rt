@@ -7,7 +7,7 @@ pub static K1: Entry = Entry {
     meaning: "A pick line is `P.a COUNT`: the name of a process, a point, the number of one of its
 arms, a space, and how often the pick is made, from 1 to 10,000,000. This one is not
 of this form, or names a process or an arm that is not there. The offset is that of
-the line, counted from behind the line `%%`. `outcomes --expect` reads print lines
+the line, counted from after the line `%%`. `outcomes --expect` reads print lines
 there, `P.a print V`, and refuses them so.",
     example: Some(Example {
         command: "replay",
@@ -73,8 +73,8 @@ one, `why` says why an arm does not go on.",
 
 pub static G1: Entry = Entry {
     summary: "no such position",
-    meaning: "The command of `debug` would go before position 0, or behind the last pick; or it is
-`pick`, at another position than the last, or behind 10,000,000 picks.",
+    meaning: "The command of `debug` would go before position 0, or after the last pick; or it is
+`pick`, at another position than the last, or after 10,000,000 picks.",
     example: Some(Example {
         command: "debug",
         input: ExampleInput::Text(

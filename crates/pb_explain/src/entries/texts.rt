@@ -83,8 +83,8 @@ it is the end of the last token.",
         answer: "refused P1 at 25",
     }),
     mend: "Look at this offset, and just before it. A semicolon comes between statements, and
-not behind the last one, as in the example; `fi`, `od`, `parend` or `end` may be
-missing, or `=` may be written for `:=`. Integers are declared right behind the
+not after the last one, as in the example; `fi`, `od`, `parend` or `end` may be
+missing, or `=` may be written for `:=`. Integers are declared right after the
 `begin` of their process, and resources before the first process. The grammar is
 in docs/LANGUAGE.md.",
 };

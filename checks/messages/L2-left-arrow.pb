@@ -1,0 +1,5 @@
+process p
+begin
+  integer x;
+  x ← 1
+end

@@ -1,0 +1,5 @@
+process p
+begin
+  integer x;
+  if x ∧ 1 then skip fi
+end

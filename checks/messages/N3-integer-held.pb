@@ -1,0 +1,5 @@
+process p
+begin
+  integer x;
+  hold 1 of x do x := x + 1 od
+end
