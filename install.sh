@@ -7,8 +7,8 @@
 #
 # All tools are built first if they have to be. PREFIX/bin/parbegin is the script, PREFIX/bin/parbegin-hold is `hold` in C, if
 # there is a C compiler; PREFIX/libexec/parbegin/parbegin-TOOL each tool, PREFIX/libexec/parbegin/script what the script does,
-# PREFIX/share/parbegin/page the template of `page`; the manual page and the completions for bash and fish go to PREFIX/share.
-# The script needs python3.
+# PREFIX/share/parbegin/page the template of `page`, PREFIX/share/parbegin/class and PREFIX/share/parbegin/exercises what `class`
+# serves; the manual page and the completions for bash and fish go to PREFIX/share. The script needs python3.
 set -eu
 top=$(CDPATH= cd -- "$(dirname -- "$0")" && pwd)
 prefix=${1:-/usr/local}
@@ -39,12 +39,21 @@ fi
 for module in "$top"/script/*.py; do
     put 644 "$module" "$prefix/libexec/parbegin/script" "${module##*/}"
 done
+for module in "$top"/script/teaching/*.py; do
+    put 644 "$module" "$prefix/libexec/parbegin/script/teaching" "${module##*/}"
+done
 for file in "$top"/script/serving/*.py "$top"/script/serving/page.html; do
     put 644 "$file" "$prefix/libexec/parbegin/script/serving" "${file##*/}"
 done
 put 755 "$top/script/tools.sh" "$prefix/libexec/parbegin/script" tools.sh
 for file in "$top"/extras/page/*.js "$top"/extras/page/page.css "$top"/extras/page/page.html "$top"/extras/page/make_page.py; do
     put 644 "$file" "$prefix/share/parbegin/page" "${file##*/}"
+done
+for file in "$top"/extras/class/*; do
+    put 644 "$file" "$prefix/share/parbegin/class" "${file##*/}"
+done
+for file in "$top"/examples/exercises/*.md; do
+    put 644 "$file" "$prefix/share/parbegin/exercises" "${file##*/}"
 done
 put 644 "$top/docs/parbegin.1" "$prefix/share/man/man1" parbegin.1
 put 644 "$top/extras/completion/parbegin.bash" "$prefix/share/bash-completion/completions" parbegin

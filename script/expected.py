@@ -21,6 +21,8 @@ REQUIRES = re.compile(r"(claims|has) ")
 VERDICT = re.compile(r"as expected|not as expected: .*|refused \w+.*|more than \d+ .*|memory")
 # The verdicts of a text of which each run that ends is as expected.
 ENDLESS = ("not as expected: some run does not end", "not as expected: some fair run does not end")
+# Options of the program by which runs are compared: those with a value, and those without.
+WITH_VALUE, WITHOUT = ("--lend", "--states"), ("--any-order", "--fair")
 # The most pick lines of each part of a run that never ends that are said.
 MOST_SAID = 8
 # What is said of prints that end before those that are wanted do, and of wanted ones that end before.

@@ -136,12 +136,12 @@ def report_row(it: Grade, page: str | None) -> str:
 
 def write_page(grader: Grader, it: Grade, folder: str) -> str | None:
     """Writes the page of the run that is told of a submission, and returns its path in the folder, if there is such a run."""
-    pages, options = maker(), grader.exercise.options
+    pages = maker()
     if not it.told.picks:
         return None
     picks = "".join(f"{line}\n" for line in it.told.picks).encode()
     try:
-        lend = pages.Options(lend=options.get("--lend"))
+        lend = pages.Options(lend=it.lend)
         made = pages.make_page([*grader.start, "--quiet"], shown(it.name), it.given + b"%%\n" + picks, lend)
     except pages.Refusal:
         return None

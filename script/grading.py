@@ -9,7 +9,9 @@ from collections.abc import Iterator
 from concurrent.futures import Executor
 from dataclasses import dataclass
 
-from script.expected import ENDLESS, Difference, Told, difference, ends_in_words, find_where, prints_of, read_told
+from script.expected import (
+    ENDLESS, WITHOUT, WITH_VALUE, Difference, Told, difference, ends_in_words, find_where, prints_of, read_told,
+)
 from script.files import MOST_READ, opened, parts_of
 from script.gradebook import lines_of, sums, write_report
 from script.helping import are_refused
@@ -17,6 +19,8 @@ from script.options import Given, WrongWords, read_options
 from script.places import DEVICE, REFUSED, UNEXPECTED, WORDS, say, shown
 from script.side_by_side import workers
 from script.standard import write
+from script.teaching.exercises import Asked, Unusable, read_page
+from script.teaching.judge import Verdict, judged_here
 
 USE = "parbegin grade [--any-order] [--fair] [--lend WHO] [--states N] [--jobs N] [--csv] [--html FILE] FOLDER EXERCISE"
 HELP = """Judge the texts of a folder, each against one exercise
@@ -26,7 +30,8 @@ Usage: parbegin grade [OPTIONS] FOLDER EXERCISE
 FOLDER has the submissions: all files below it whose names end in .pb. EXERCISE is a file with the lines that each run
 has to print, as `outcomes --expect` reads them after a line %%, and before these any that require something of the text:
 `has a parbegin`, `has a hold`, or `claims at least K R`, of a resource R. Lines before them that begin with // are
-comments, and one that begins so and goes on with an option has options of the exercise, as in `// --any-order`.
+comments, and one that begins so and goes on with an option has options of the exercise, as in `// --any-order`. Or EXERCISE is
+a page as `class` has it, FILE.md (docs/TEACHING.md, "An exercise").
 
 Options:
       --any-order    As for `outcomes --expect`
@@ -40,20 +45,19 @@ Options:
 
 The status is the greatest of all: 0 if each submission is as expected.
 """
-# Options that are the program's: those with a value, and those without.
-WITH_VALUE, WITHOUT = ("--lend", "--states"), ("--any-order", "--fair")
-SUBMISSION = ".pb"
+SUBMISSION, PAGE = ".pb", ".md"
 
 
 @dataclass(frozen=True)
 class Exercise:
     """What is wanted of a text: lines, as they stand in the file, the options with which they are compared, and how many
-    comments are before the lines."""
+    comments are before the lines. Of a page of a class also the page, and the lines are those of its blocks for the judge."""
 
     name: str
     given: bytes
     options: dict[str, str]
     comments: int = 0
+    page: Asked | None = None
 
     @property
     def lines(self) -> list[str]:
@@ -77,6 +81,7 @@ class Grade:
     message: str
     reason: str
     differs: Difference | None
+    lend: str | None = None
 
     @property
     def wanted(self) -> str:
@@ -86,7 +91,7 @@ class Grade:
     @property
     def came(self) -> str:
         """Returns what came in its place and what went wrong beside the prints, or the reason of a refusal."""
-        if self.status == REFUSED:
+        if self.status == REFUSED or self.reason:
             return self.reason
         came = [self.differs.came if self.differs else "", ends_in_words(self.told)]
         return ", ".join(it for it in came if it)
@@ -137,6 +142,24 @@ def read_exercise(name: str, given: bytes, options: dict[str, str]) -> Exercise:
     return Exercise(name, b"".join(lines), own | options, given.count(b"\n") - b"".join(lines).count(b"\n"))
 
 
+def read_page_of(name: str, given: bytes, options: dict[str, str]) -> Exercise:
+    """Reads an exercise that is a page of a class. Options of the call count before its own."""
+    try:
+        page = read_page(shown(os.path.basename(name)), given.decode(errors="replace"))
+    except Unusable as why:
+        raise WrongWords(str(why)) from None
+    page.options |= options
+    lines = "".join(page.blocks.get(kind, "") for kind in ("prints", "outcomes", "rules"))
+    return Exercise(name, lines.encode(), page.options, page=page)
+
+
+def grade_of(name: str, given: bytes, it: Verdict) -> Grade:
+    """Returns the grade of a submission that a judge has judged."""
+    verdicts = {0: "as expected", UNEXPECTED: f"not as expected: {it.said}", REFUSED: f"refused: {it.said}"}
+    told = Told(verdicts.get(it.status, it.said), picks=it.picks.splitlines())
+    return Grade(name, given, it.status, told, "", " ".join(it.more), None, it.lend)
+
+
 def submissions(folder: str) -> Iterator[str]:
     """Yields the paths below a folder of the texts that were handed in, in order."""
     for at, folders, names in os.walk(folder):
@@ -177,6 +200,8 @@ class Grader:
         given = self.read(name)
         if given is None:
             return None
+        if self.exercise.page is not None:
+            return grade_of(name, given, judged_here(self.start, self.exercise.page, given))
         words = [*self.start, "outcomes", "--expect", *self.exercise.words]
         ran = subprocess.run(words, input=given + b"%%\n" + self.exercise.given, capture_output=True, check=False)
         told, differs = read_told(ran.stdout.decode(errors="replace").splitlines()), None
@@ -189,8 +214,8 @@ class Grader:
         status = ran.returncode if ran.returncode >= 0 else 128 - ran.returncode
         message = ran.stderr.decode(errors="replace")
         has_several = told.verdict.startswith("refused K1 ") and len(parts_of(given)) > 1
-        reason = SEVERAL if has_several else reason_of(message, self.exercise, name)
-        return Grade(name, given, status, told, message, reason, differs)
+        reason = SEVERAL if has_several else reason_of(message, self.exercise, name) if status == REFUSED else ""
+        return Grade(name, given, status, told, message, reason, differs, self.exercise.options.get("--lend"))
 
 
 def read_words(words: list[str]) -> tuple[Given, str, str]:
@@ -213,7 +238,8 @@ def call(start: list[str], words: list[str]) -> int:
         return DEVICE
     with file:
         of_program = {option: value for option, value in given.options.items() if option in WITH_VALUE + WITHOUT}
-        exercise = read_exercise(name, file.read(MOST_READ + 1), of_program)
+        read = read_page_of if name.endswith(PAGE) else read_exercise
+        exercise = read(name, file.read(MOST_READ + 1), of_program)
     names = list(submissions(folder))
     if not names:
         say(f"{shown(folder)}: {'no names below it end in .pb' if os.path.isdir(folder) else 'no such folder'}")

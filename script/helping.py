@@ -16,6 +16,7 @@ together. With --json before the command each line is a JSON object. This text a
 here, and with 2 if the program is called by itself.
 
 Further commands, each with a help of its own:
+  class   Serve the program to a class, as pages for browsers
   grade   Judge the texts of a folder, each against one exercise
   hold    Run a command while it holds resources of a served bank
   page    Make a page of a program for a browser

@@ -11,7 +11,7 @@ from script.standard import write
 from script.tools import CALLS
 
 # The module of each. It has its USE, its HELP, and `call`, which returns the status.
-MODULES = {"grade": "grading", "page": "pages", "sample": "sampling", "serve": "serving.serve"}
+MODULES = {"class": "teaching.teach", "grade": "grading", "page": "pages", "sample": "sampling", "serve": "serving.serve"}
 BEFORE = ("--quiet", "--json", "help")
 
 

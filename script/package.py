@@ -46,6 +46,7 @@ Version: {version}
 Architecture: amd64
 Maintainer: {maintainer}
 Depends: python3 (>= 3.9), libc6
+Recommends: libjs-codemirror, qrencode
 Section: devel
 Priority: optional
 Installed-Size: {size}

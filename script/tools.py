@@ -18,7 +18,7 @@ COMMANDS = tuple(sorted(command for commands in COMMANDS_OF.values() for command
 # What each command of the script calls.
 CALLS = {
     "page": ("emit", "states"), "grade": ("outcomes", "states"), "sample": ("record", "replay"), "package": COMMANDS, "build": COMMANDS,
-    "library": (), "serve": ("bank",), "hold": (),
+    "library": (), "serve": ("bank",), "hold": (), "class": ("check", "outcomes", "lsp", "debug"),
 }
 # Becomes the tool that has the command of its words.
 FRONT = f"{TOP}/script/tools.sh"

@@ -51,7 +51,8 @@ def installed(folder):
     folder = pathlib.Path(folder)
     ignored = shutil.ignore_patterns("__pycache__")
     shutil.copytree(TOP / "script", folder / "libexec/parbegin/script", ignore=ignored)
-    shutil.copytree(TOP / "extras/page", folder / "share/parbegin/page", ignore=ignored)
+    for part, place in (("extras/page", "page"), ("extras/class", "class"), ("examples/exercises", "exercises")):
+        shutil.copytree(TOP / part, folder / "share/parbegin" / place, ignore=ignored)
     for tool in COMMANDS_OF:
         shutil.copy(path_of(tool), folder / f"libexec/parbegin/parbegin-{tool}")
     (folder / "bin").mkdir(parents=True)

@@ -37,6 +37,10 @@ OF_SCRIPT = {
     "bank": {"connect", "lease"}, "check": {"format", "jobs"}, "plan": {"format", "table", "csv", "jobs"}, "run": {"seed", "lend"},
 }
 COMMANDS_OF_SCRIPT = {
+    "class": {
+        "listen", "exercises", "try", "title", "names", "keep", "teacher", "cert", "key", "host", "proxied", "states", "seconds", "memory",
+        "searches", "jobs", "rate",
+    },
     "grade": {"any", "fair", "lend", "states", "jobs", "csv", "html"}, "page": {"seed", "lend", "from", "rows", "states"},
     "sample": {"runs", "seed", "lend", "steps", "events", "jobs"},
     "hold": {"socket", "claim", "name", "nowait", "timeout", "conflict", "lease", "verbose"},

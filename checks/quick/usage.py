@@ -122,6 +122,11 @@ CALLS = [
     (["--json", "page", "hello.pb"], WORDS, None, "page has no '--json'"),
     (["page", "wrong.pb"], REFUSED, "refused N3 at 16\n", "error N3: "),
     (["page", "folder"], DEVICE, None, "parbegin: folder: Is a directory\n"),
+    (["class", "--help"], DONE, "--names", None),
+    (["help", "class"], DONE, "--names", None),
+    (["class", "hello.pb"], WORDS, None, "unexpected argument 'hello.pb' found"),
+    (["--json", "class"], WORDS, None, "class has no '--json'"),
+    (["grade", "folder", "wrong.md"], WORDS, None, "wrong.md: the first line is no heading"),
     (["grade", "--help"], DONE, "FOLDER EXERCISE", None),
     (["help", "sample"], DONE, "--runs <N>", None),
     (["check", "--format", "gcc", "--format", "json", "hello.pb"], WORDS, None, "cannot be used multiple times"),
@@ -192,6 +197,7 @@ def fill(folder: pathlib.Path) -> None:
     (folder / "no_amount.pb").write_text(f"{held}claims at least 0 tape\np.0 print 1\n")
     (folder / "wanted.txt").write_text("p.0 print 1\n")
     (folder / "wrong.pb").write_text("process p begin x := 1 end\n")
+    (folder / "wrong.md").write_text("no heading\n")
     (folder / "folder").mkdir()
 
 

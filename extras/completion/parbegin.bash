@@ -6,7 +6,7 @@ _parbegin() {
         at=$((at + 1))
     done
     if ((COMP_CWORD <= at)); then
-        local commands="bank check claims dap debug draw emit exec explain grade hold lsp migrate outcomes page plan record replay run sample serve states help --help --version"
+        local commands="bank check claims class dap debug draw emit exec explain grade hold lsp migrate outcomes page plan record replay run sample serve states help --help --version"
         if [[ ${COMP_WORDS[at - 1]} != --quiet && ${COMP_WORDS[at - 1]} != --json ]]; then
             commands+=" --quiet"
         fi
@@ -33,12 +33,12 @@ _parbegin() {
         mapfile -t COMPREPLY < <(compgen -W "text gcc json sarif" -- "$word")
         return
         ;;
-    --html)
+    --html | --exercises | --keep | --teacher | --cert | --key)
         compopt -o filenames 2>/dev/null
         mapfile -t COMPREPLY < <(compgen -f -- "$word")
         return
         ;;
-    --capital | --jobs | --heap | --workers | --quantum | --steps | --seed | --states | --rows | --runs | --from | --width | --scale)
+    --capital | --listen | --title | --host | --seconds | --memory | --searches | --rate | --jobs | --heap | --workers | --quantum | --steps | --seed | --states | --rows | --runs | --from | --width | --scale)
         return
         ;;
     esac
@@ -47,6 +47,7 @@ _parbegin() {
     dap | lsp) options="" ;;
     check) options="--heap --format --jobs" ;;
     claims) options="" ;;
+    class) options="--listen --exercises --try --title --names --keep --teacher --cert --key --host --proxied --states --seconds --memory --searches --jobs --rate" ;;
     debug) options="--live --lend" ;;
     draw) options="--lend --width --scale" ;;
     emit) options="--object" ;;
@@ -72,7 +73,7 @@ _parbegin() {
     states) options="--rows --from --lend" ;;
     help)
         # its word is a command
-        local named="bank check claims dap debug draw emit exec explain grade hold lsp migrate outcomes page plan record replay run sample serve states"
+        local named="bank check claims class dap debug draw emit exec explain grade hold lsp migrate outcomes page plan record replay run sample serve states"
         mapfile -t COMPREPLY < <(compgen -W "$named" -- "$word")
         return
         ;;

@@ -107,9 +107,11 @@ def read_style() -> str:
 
 
 def read_scripts(tags: str) -> str:
-    """Returns the scripts that tags name, as one, without comments that have lines of their own, and without empty lines."""
+    """Returns the scripts that tags name, as one, without comments, which have lines of their own, without empty lines, and
+    without the ends of lines that go on."""
     texts = "".join(read(name).removeprefix(STRICT) for name in re.findall(r'src="(.*)"', tags))
-    return STRICT + re.sub(r"^(//[^\n]*|/\*\*.*?\*/|)\n", "", texts, flags=re.MULTILINE | re.DOTALL)
+    bare = re.sub(r"^(//[^\n]*|/\*\*.*?\*/|)\n", "", texts, flags=re.MULTILINE | re.DOTALL)
+    return STRICT + re.sub(r"(?<=[(\[{,;])\n", "", bare)
 
 
 def fill_template(title: str, data: str) -> str:

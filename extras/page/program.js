@@ -1,5 +1,5 @@
 "use strict";
-// The page of a program: a recorded run to go along, and all schedules to walk through.
+// The page of a program: a recorded run to go along, and all schedules to walk through. A class has it too (extras/class).
 //
 // It shows what the program `parbegin` has written (docs/formats/pictures.md, "Documents for a page"). What is enabled, what a
 // pick changes, why an arm waits and how the banker can finish is in the data; words.js computes in words what a pick does.
@@ -24,6 +24,8 @@ function h(name, properties, ...children) {
   if (classes.length) it.className = classes.join(" ");
   for (const [key, value] of Object.entries(properties ?? {})) {
     if (key.startsWith("on")) it[key] = value;
+    // (as an attribute it would be an inline style, which the policy of a class forbids)
+    else if (key === "style") it.style.cssText = value;
     else if (value !== false && value != null) it.setAttribute(key, value === true ? "" : value);
   }
   it.append(...children.flat(9).filter((one) => one != null && one !== false));

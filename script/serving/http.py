@@ -3,24 +3,22 @@ from __future__ import annotations
 
 import asyncio
 import json
+import socket
 import time
-from collections.abc import Iterator
-from functools import partial
+from collections.abc import AsyncGenerator, Iterator
 from pathlib import Path
 from typing import Any, NamedTuple
 
 from script.serving.server import Server
+from script.web import Answer, Bounds, Refused, Request, Service
 
 PAGE = Path(__file__).with_name("page.html")
 # The most browsers that are told of changes, and the seconds between two looks at the bank.
 MOST_VIEWERS, BETWEEN_LOOKS = 32, 0.5
-# Bytes of a request, and the seconds in which it has to come.
-MOST_HEAD, PATIENCE = 16_384, 5
-HEAD = (
-    "HTTP/1.1 {status}\r\nContent-Type: {kind}\r\n{length}Connection: close\r\nCache-Control: no-store\r\n"
-    "X-Content-Type-Options: nosniff\r\nContent-Security-Policy: default-src 'none'; style-src 'unsafe-inline'; "
-    "script-src 'unsafe-inline'; connect-src 'self'; frame-ancestors 'none'\r\n\r\n"
-)
+# How many browsers and others may look, and the seconds in which a request has to come.
+BOUNDS = Bounds(head=16_384, head_time=5.0, connections=96, of_one_address=96)
+POLICY = "default-src 'none'; style-src 'unsafe-inline'; script-src 'unsafe-inline'; connect-src 'self'; frame-ancestors 'none'"
+TEXT = "text/plain; charset=utf-8"
 COUNTERS = {
     "entries": "Entries that were carried out.", "repeated": "Requests that came again.", "granted": "Grants.",
     "queued": "Wishes that joined the queue.", "refused": "Commands that the bank refused.", "ended": "Sessions that ended.",
@@ -100,63 +98,42 @@ class Pages:
             self.looked, self.seen = time.monotonic(), json.dumps(picture(self.server), separators=(",", ":"))
         return self.seen
 
-    def answer(self, verb: str, path: str) -> bytes:
+    async def answer(self, request: Request) -> Answer:
         """Returns the answer to a request."""
-        if verb != "GET":
-            return self.whole("405 Method Not Allowed", "text/plain", "only GET\n")
-        if path == "/":
-            return self.whole("200 OK", "text/html; charset=utf-8", PAGE.read_text(encoding="utf-8"))
-        if path == "/metrics":
+        if request.method == "POST":
+            raise Refused(405, "only GET")
+        if request.path == "/":
+            return Answer(PAGE.read_bytes(), "text/html; charset=utf-8")
+        if request.path == "/metrics":
             metrics = "".join(it.text() for it in families(self.server))
-            return self.whole("200 OK", "text/plain; version=0.0.4; charset=utf-8", metrics)
-        if path == "/state":
-            return self.whole("200 OK", "application/json", self.state())
-        if path == "/health":
+            return Answer(metrics.encode(), "text/plain; version=0.0.4; charset=utf-8")
+        if request.path == "/state":
+            return Answer(self.state().encode())
+        if request.path == "/health":
             is_well = not self.server.stopping.is_set()
-            told = "ends\n" if not is_well else "serves\n" if self.server.is_answering() else "follows\n"
-            return self.whole("200 OK" if is_well else "503 Service Unavailable", "text/plain", told)
-        if path == "/events":
-            return self.whole("503 Service Unavailable", "text/plain", f"{MOST_VIEWERS} browsers are told of changes already\n")
-        return self.whole("404 Not Found", "text/plain", "/, /events, /state, /metrics, /health\n")
+            told = b"ends\n" if not is_well else b"serves\n" if self.server.is_answering() else b"follows\n"
+            return Answer(told, TEXT, 200 if is_well else 503)
+        if request.path != "/events":
+            return Answer(b"/, /events, /state, /metrics, /health\n", TEXT, 404)
+        if self.viewers >= MOST_VIEWERS:
+            return Answer(f"{MOST_VIEWERS} browsers are told of changes already\n".encode(), TEXT, 503)
+        return Answer(kind="text/event-stream", parts=self.events())
 
-    @staticmethod
-    def whole(status: str, kind: str, body: str) -> bytes:
-        """Returns a whole answer."""
-        given = body.encode()
-        return HEAD.format(status=status, kind=kind, length=f"Content-Length: {len(given)}\r\n").encode() + given
-
-    async def tell_events(self, writer: asyncio.StreamWriter) -> None:
-        """Tells a browser of each change, until it goes."""
+    async def events(self) -> AsyncGenerator[bytes, None]:
+        """Yields each change, for a browser, until it leaves."""
         self.viewers += 1
         last = ""
         try:
-            writer.write(HEAD.format(status="200 OK", kind="text/event-stream", length="").encode())
-            while not writer.is_closing() and not self.server.stopping.is_set():
+            while not self.server.stopping.is_set():
                 told = self.state()
-                writer.write(f"data: {told}\n\n".encode() if told != last else b": \n\n")
+                yield f"data: {told}\n\n".encode() if told != last else b": \n\n"
                 last = told
-                await writer.drain()
                 await asyncio.sleep(BETWEEN_LOOKS)
         finally:
             self.viewers -= 1
 
 
-async def accept(pages: Pages, reader: asyncio.StreamReader, writer: asyncio.StreamWriter) -> None:
-    """Answers one request."""
-    try:
-        head = await asyncio.wait_for(reader.readuntil(b"\r\n\r\n"), PATIENCE)
-        verb, path, _ = head.decode("latin-1").split(" ", 2)
-        if verb == "GET" and path == "/events" and pages.viewers < MOST_VIEWERS:
-            await pages.tell_events(writer)
-        else:
-            writer.write(pages.answer(verb, path))
-        await writer.drain()
-    except (OSError, asyncio.TimeoutError, asyncio.IncompleteReadError, asyncio.LimitOverrunError, ValueError):
-        pass
-    finally:
-        writer.close()
-
-
-async def listen_http(server: Server, host: str, port: int) -> asyncio.AbstractServer:
-    """Answers GET over HTTP/1.1, one request for each connection."""
-    return await asyncio.start_server(partial(accept, Pages(server)), host, port, limit=MOST_HEAD, start_serving=False)
+async def listen_http(server: Server, sockets: list[socket.socket]) -> list[asyncio.AbstractServer]:
+    """Answers over HTTP/1.1, from when it is started."""
+    service = Service(Pages(server).answer, POLICY, BOUNDS)
+    return [await service.listen(it) for it in sockets]

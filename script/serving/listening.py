@@ -11,6 +11,7 @@ from functools import partial
 from pathlib import Path
 from typing import NamedTuple
 
+from script.hosting import LOOPBACK, read_address, tls_context
 from script.options import WrongWords
 from script.serving.server import Server
 from script.serving.words import MAX_LINE
@@ -18,7 +19,6 @@ from script.serving.words import MAX_LINE
 BACKLOG = 1_024
 # The first file that systemd hands on.
 FIRST_HANDED = 3
-LOOPBACK = ("localhost", "127.0.0.1", "::1")
 # Seconds for the greeting of TLS.
 GREETING = 5
 
@@ -29,14 +29,6 @@ class Network(NamedTuple):
     host: str
     port: int
     context: ssl.SSLContext | None
-
-
-def read_address(text: str) -> tuple[str, int]:
-    """Reads `HOST:PORT`."""
-    host, _, port = text.rpartition(":")
-    if not host or not (port.isascii() and port.isdigit()) or int(port) > 65_535:
-        raise WrongWords(f"'{text}' is no address, as 'localhost:4004'")
-    return host.strip("[]"), int(port)
 
 
 def read_tokens(file: str) -> frozenset[str]:
@@ -52,14 +44,7 @@ def read_network(address: str, cert: str | None, key: str | None) -> Network:
     host, port = read_address(address)
     if cert is None and host not in LOOPBACK:
         raise WrongWords("TCP to other machines wants TLS: '--cert', '--key' and '--tokens'")
-    context = None
-    if cert is not None:
-        context = ssl.SSLContext(ssl.PROTOCOL_TLS_SERVER)
-        try:
-            context.load_cert_chain(cert, key)
-        except ssl.SSLError as fault:
-            raise WrongWords(f"{cert} and {key} are no certificate with its key: {fault.reason}") from fault
-    return Network(host, port, context)
+    return Network(host, port, None if cert is None else tls_context(cert, key))
 
 
 def free_path(path: str) -> None:
@@ -106,13 +91,3 @@ async def listen_handed(server: Server) -> list[asyncio.AbstractServer]:
     """Answers at the sockets that systemd has opened, which are of Unix."""
     accept = partial(server.accept, is_trusted=True)
     return [await asyncio.start_unix_server(accept, sock=it, limit=MAX_LINE, start_serving=False) for it in handed()]
-
-
-def notify(text: str) -> None:
-    """Tells systemd something, as `READY=1`, if it has asked for that."""
-    path = os.environ.get("NOTIFY_SOCKET")
-    if not path:
-        return
-    with socket.socket(socket.AF_UNIX, socket.SOCK_DGRAM | socket.SOCK_CLOEXEC) as it:
-        it.connect(f"\0{path[1:]}" if path.startswith("@") else path)
-        it.sendall(text.encode())

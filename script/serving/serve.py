@@ -2,12 +2,12 @@
 from __future__ import annotations
 
 import asyncio
-import resource
 import signal
 import sqlite3
 from collections.abc import Sequence
 from contextlib import closing
 
+from script.hosting import allow_files, bound_sockets, notify, read_address
 from script.options import Given, WrongWords
 from script.places import DEVICE, FAULT, say, shown
 from script.serving import copies, listening
@@ -21,9 +21,6 @@ from script.serving.server import Limits, Server, Tokens
 from script.serving.snapshots import WrongSnapshot
 
 __all__ = ["HELP", "USE", "call"]
-
-# The files of a server beside its connections, with those of browsers.
-SPARE_FILES = 128
 
 
 def try_capital(bank: Sequence[str], capital: Sequence[str]) -> None:
@@ -56,7 +53,7 @@ async def listen(server: Server, options: dict[str, str], network: listening.Net
         # (needed here alone)
         from script.serving.http import listen_http
 
-        opened.append(await listen_http(server, *listening.read_address(options["--http"])))
+        opened += await listen_http(server, bound_sockets(*read_address(options["--http"])))
     if "--socket" in options:
         opened.append(await listening.listen_unix(server, options["--socket"], int(options.get("--mode", "600"), 8)))
     return opened
@@ -97,9 +94,9 @@ async def answer(server: Server, capital: Sequence[str], opened: Sequence[asynci
     for it in opened:
         await it.start_serving()
     say(f"serves: {server.meters.recovered} entries after the snapshot, {len(server.desk.sessions)} sessions")
-    listening.notify("READY=1")
+    notify("READY=1")
     await running
-    listening.notify("STOPPING=1")
+    notify("STOPPING=1")
 
 
 async def replay(bank: Sequence[str], given: Given) -> None:
@@ -116,13 +113,6 @@ async def replay(bank: Sequence[str], given: Given) -> None:
             log.close()
 
 
-def allow_files(clients: int) -> None:
-    """Lets this process have as many files as its clients need, as far as it may."""
-    soft, hard = resource.getrlimit(resource.RLIMIT_NOFILE)
-    wanted = clients + SPARE_FILES
-    if resource.RLIM_INFINITY != soft < wanted:
-        most = wanted if hard == resource.RLIM_INFINITY else min(wanted, hard)
-        resource.setrlimit(resource.RLIMIT_NOFILE, (max(soft, most), hard))
 
 
 def carry_out(bank: Sequence[str], given: Given, limits: Limits) -> None:
