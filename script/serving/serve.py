@@ -113,8 +113,6 @@ async def replay(bank: Sequence[str], given: Given) -> None:
             log.close()
 
 
-
-
 def carry_out(bank: Sequence[str], given: Given, limits: Limits) -> None:
     """Does what the words of a call say."""
     options = given.options
