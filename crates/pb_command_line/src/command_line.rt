@@ -222,7 +222,8 @@ fn check_texts<'a>(alloc: Global) -> Result<Command<'a>, AllocError>
     let check = Command::new(alloc, "check").about(
         "Check the programs read from standard input, which lines of %% separate",
     );
-    with_option(check, heap)
+    let check = with_option(check, heap);
+    with_flag(alloc, check, "warn", "Tell warnings after the ok of a program")
 }
 
 fn debug_picks<'a>(alloc: Global) -> Result<Command<'a>, AllocError>
