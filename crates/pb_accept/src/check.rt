@@ -36,11 +36,7 @@ enum Told {
 }
 
 /// Looks whether a text is accepted. Its trees are in the memory of `trees`.
-fn accept<A: Allocator + Clone>(
-    alloc: Global,
-    trees: A,
-    text: &[u8],
-) -> Result<(), CompileFault>
+fn accept<A: Allocator + Clone>(alloc: Global, trees: A, text: &[u8]) -> Result<(), CompileFault>
     ensures accepted { OnOk result (IsAcceptedText text.now) }
     ensures refused { IfErr result (IsRefused text.now) }
 {

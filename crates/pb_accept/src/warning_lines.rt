@@ -12,11 +12,7 @@ use pb_voice::Voice;
 use pb_warnings::Warning;
 
 /// Tells the line of a parbegin with one arm.
-fn tell_lone<O: Output>(
-    voice: &mut Voice,
-    output: &mut O,
-    line: usize,
-) -> Result<(), DeviceFault>
+fn tell_lone<O: Output>(voice: &mut Voice, output: &mut O, line: usize) -> Result<(), DeviceFault>
     ensures ok { OnOk result (Adds (at O.written O.failures voice.old output.old) (warning_line (spec.OneArm line))
         (at O.written O.failures voice.new output.new)) }
     ensures err { OnErr result (Breaks (at O.written O.failures voice.old output.old) (warning_line (spec.OneArm line))
@@ -25,11 +21,7 @@ fn tell_lone<O: Output>(
     let mut digits = Buffer::new();
     voice.say_all(
         output,
-        &[
-            b"warning W1 line ",
-            digits.format(line).as_bytes(),
-            b"\n",
-        ],
+        &[b"warning W1 line ", digits.format(line).as_bytes(), b"\n"],
     )
 }
 

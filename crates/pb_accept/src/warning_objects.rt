@@ -12,11 +12,7 @@ use pb_voice::{Voice, say_pieces};
 use pb_warnings::Warning;
 
 /// Tells the object of a parbegin with one arm.
-fn tell_lone<O: Output>(
-    voice: &mut Voice,
-    output: &mut O,
-    line: usize,
-) -> Result<(), DeviceFault>
+fn tell_lone<O: Output>(voice: &mut Voice, output: &mut O, line: usize) -> Result<(), DeviceFault>
     ensures ok { OnOk result (Adds (at O.written O.failures voice.old output.old) (warning_json (spec.OneArm line))
         (at O.written O.failures voice.new output.new)) }
     ensures err { OnErr result (Breaks (at O.written O.failures voice.old output.old) (warning_json (spec.OneArm line))

@@ -223,7 +223,8 @@ fn check_texts<'a>(alloc: Global) -> Result<Command<'a>, AllocError>
         "Check the programs read from standard input, which lines of %% separate",
     );
     let check = with_option(check, heap);
-    with_flag(alloc, check, "warn", "Tell warnings after the ok of a program")
+    let warn = "Tell after each ok what is probably a mistake in the program";
+    with_flag(alloc, check, "warn", warn)
 }
 
 fn debug_picks<'a>(alloc: Global) -> Result<Command<'a>, AllocError>

@@ -595,7 +595,13 @@ fn is_told(alloc: Global, words: &[&str], part: &str) -> bool {
 #[test]
 fn refusals_tell_what_there_is(rt: HostRuntime) {
     let unknown = ["parbegin", "explain", "N5"];
-    assert!(rt; is_told(rt.alloc(), &unknown, "error: no refusal and no warning has this code"));
+    assert!(rt;
+        is_told(
+            rt.alloc(),
+            &unknown,
+            "error: no refusal and no warning has this code"
+        )
+    );
     assert!(rt; is_told(rt.alloc(), &unknown, " N1 N2 N3 N4 N6 C1 "));
     let nobody = "error: the value of '--lend' is banker or cash";
     for command in [

@@ -109,7 +109,13 @@ fn warnings_are_told(rt: HostRuntime) {
         b"{\"kind\":\"ok\"}\n{\"kind\":\"warning\",\"code\":\"W3\",\"line\":1,\"resource\":\"r\",\"claims\":1,\"capital\":2}\n{\"kind\":\"warning\",\"code\":\"W2\",\"line\":1,\"process\":\"p\",\"integer\":\"x\"}\n{\"kind\":\"warning\",\"code\":\"W1\",\"line\":1}\n";
     assert!(rt;
         matches!(
-            tells(rt.alloc(), Command::CheckAndWarn, WARNINGS, objects, Status::Done),
+            tells(
+                rt.alloc(),
+                Command::CheckAndWarn,
+                WARNINGS,
+                objects,
+                Status::Done
+            ),
             Ok(true)
         )
     );

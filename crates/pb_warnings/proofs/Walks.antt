@@ -1,6 +1,6 @@
 -- What a walk over a list has found in its first elements: one more at a time.
 use Rattle.std.proofs.Common.{◌≡◌, ◌∙◌, ℕ, zero, suc, ◌+◌, ◌<◌, ◌||◌, List, [], ◌∷◌, ◌++◌, Vec, length, take, get_or, arith}
-use Rattle.std.proofs.Common.{Bool, true, false, ap, sym, add-one, append-nil, map, refl}
+use Rattle.std.proofs.Common.{Result, Ok, Err, OnOk, Bool, true, false, ap, sym, add-one, append-nil, map, refl}
 use Rattle.std.specs.List.{flat_map}
 use Rattle.std.proofs.lemmas.List.{append_assoc}
 use Rattle.pb_base.specs.Banker.{cell}
@@ -38,6 +38,16 @@ walked_more {X} {Y} f F none more before now after xs i x here h so_far added =
     ∙ append_assoc before (F (take i xs)) (f x)
     ∙ ap (λ (l : List Y). before ++ l) (ap (λ (y : X). F (take i xs) ++ f y) here
     ∙ sym (flat_suc f F none more xs i x h)))
+
+-- what is appended first, and what is appended then
+pub lone_then : {V E : Type 0} (r : Result V E) (before mid after first later whole : List Warning) → mid ≡ before ++ first
+    → whole ≡ first ++ later → OnOk r (after ≡ mid ++ later) → OnOk r (after ≡ before ++ whole)
+lone_then (Ok v) before mid after first later whole mid_is whole_is after_is =
+    after_is
+    ∙ ap (λ (l : List Warning). l ++ later) mid_is
+    ∙ append_assoc before first later
+    ∙ ap (λ (l : List Warning). before ++ l) (sym whole_is)
+lone_then (Err e) before mid after first later whole mid_is whole_is after_is = tt
 
 -- one more statement, arm, integer and process
 

@@ -10,7 +10,6 @@ use pb_tree::Stmt;
 use std::alloc::Allocator;
 
 /// Appends the warning of a parbegin, if it has one arm.
-#[tactic(auto, using(crate::proofs::Walks::one_is_lone, crate::proofs::Walks::others_are_not))]
 fn add_lone<A: Allocator>(
     out: &mut Vec<Warning>,
     line: u32,

@@ -32,10 +32,7 @@ fn stmt_reads<A: Allocator>(stmt: &Stmt<A>, name: &[u8]) -> bool
             on_true,
             on_false,
             ..
-        } => {
-            expr_reads(test, name)
-                || (list_reads(on_true, name) || list_reads(on_false, name))
-        }
+        } => { expr_reads(test, name) || (list_reads(on_true, name) || list_reads(on_false, name)) }
         Stmt::While { test, body, .. } => expr_reads(test, name) || list_reads(body, name),
         Stmt::Hold { body, .. } => list_reads(body, name),
         Stmt::Parbegin { arms, .. } => arms_read(arms, name),

@@ -4,7 +4,9 @@
 #[derive(Drop)]
 pub enum Warning {
     /// A parbegin has one arm, which runs beside no other. The line is that of the parbegin.
-    OneArm { line: usize },
+    OneArm {
+        line: usize,
+    },
     /// No expression of a process has this integer of it, which is only assigned or declared.
     NeverRead {
         line: usize,

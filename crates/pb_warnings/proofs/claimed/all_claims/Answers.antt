@@ -5,7 +5,7 @@ use Rattle.pb_warnings.proofs.claimed.all_claims.Goals as goal
 pub loop-p-preserved : goal.loop-p-preserved
 loop-p-preserved c =
     let t = c.loop-p-test.true in
-    let n = c.processes-end.ensures.number in
+    let n = c.processes-p-end.ensures.number in
     let more = claims_more c.args.claims.now c.loop-p.p c.args.resource (omega (arith, t, n)) in
     let v = c.loop-p.invariant.value in
     let w = c.loop-p.invariant.small in
