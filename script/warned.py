@@ -12,7 +12,7 @@ WARNING = re.compile(r"warning (?P<code>\w+) line (?P<line>\d+)(?: (?P<words>.*)
 SENTENCES = {
     "W1": "this parbegin has one arm, and nothing runs beside it",
     "W2": "the integer `{1}` of process `{0}` is never read",
-    "W3": "all processes together claim {2} of resource `{0}`, of which there is {4}",
+    "W3": "the capital of resource `{0}` is {4}, and all claims on it together are {2}",
 }
 # Which word of the source line it is about, as a number of the line's words; of a parbegin that word itself.
 ABOUT = {"W2": 1, "W3": 0}
