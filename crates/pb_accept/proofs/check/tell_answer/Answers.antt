@@ -14,3 +14,6 @@ returns-in-Err-tell_acceptance g c =
     let program = rw c.in-Ok.is at c.requires.accepted in
     λ warn told. let warned = rw c.in-Ok.is at told in
     (acceptance (map warning c.in-Ok.found.items), false, well (map warning c.in-Ok.found.items) program warned, c.in-Err-tell_acceptance.ensures.broken)
+
+pub returns-in-Err : goal.returns-in-Err
+returns-in-Err g c = λ warn told. c.tell_refusal.ensures warn
