@@ -7,7 +7,7 @@ import re
 import subprocess
 import sys
 from collections.abc import Callable, Iterable, Iterator
-from dataclasses import dataclass
+from dataclasses import dataclass, replace
 from typing import Tuple, Union
 
 from script import files, helping
@@ -15,6 +15,7 @@ from script.findings import Finding, Text, Unread, finding, texts_of
 from script.places import DEVICE, WORDS, say, shown, write_message
 from script.reports import gcc_lines, json_lines, sarif_document
 from script.standard import drop_output
+from script.warned import by_text, messages, warning
 
 FORMATS = ("text", "gcc", "json", "sarif")
 STANDARD_INPUT = "<stdin>"
@@ -78,13 +79,14 @@ class Checker:
         """Checks inputs by one call, and returns the answer to each that is accepted whole."""
         given = b"%%\n".join(it if it.endswith(b"\n") or not it else it + b"\n" for it in inputs)
         counts = [len(files.parts_of(it)) for it in inputs]
-        lines = self.ask(given).lines
-        if len(lines) != sum(counts):
+        texts = by_text(self.ask(given).lines)
+        if len(texts) != sum(counts):
             return [None] * len(inputs)
         answers: list[Answer | None] = []
         for count in counts:
-            own, lines = lines[:count], lines[count:]
-            answers.append(Answer(0, own, b"") if own == ["ok"] * count else None)
+            own, texts = texts[:count], texts[count:]
+            is_accepted = all(text[0] == "ok" for text in own)
+            answers.append(Answer(0, [line for text in own for line in text], b"") if is_accepted else None)
         return answers
 
     def ask_all(self, inputs: list[bytes], jobs: int) -> list[Answer]:
@@ -137,14 +139,16 @@ def groups(read: Iterable[Read]) -> Iterator[list[Read]]:
         yield group
 
 
-def tell_text(name: str, answer: Answer) -> None:
+def tell_text(name: str, given: bytes, answer: Answer, is_quiet: bool) -> None:
     """Writes the lines of an answer after the name of its file, and its messages to standard error."""
     out = sys.stdout
     out.writelines(f"{shown(name)}: {line}\n" for line in answer.lines)
     out.flush()
     # (no other line of a message begins so)
-    messages = re.sub(rb"^(?=error )", lambda _: os.fsencode(f"{shown(name)}: "), answer.messages, flags=re.M)
-    write_message(messages)
+    told = re.sub(rb"^(?=error )", lambda _: os.fsencode(f"{shown(name)}: "), answer.messages, flags=re.M)
+    write_message(told)
+    if not is_quiet:
+        write_message("".join(messages(texts_to_check(name, given), answer.lines)))
 
 
 @dataclass
@@ -167,9 +171,10 @@ def check_as_text(checker: Checker, source: Source, jobs: int, sums: Sums) -> No
     for group in groups(it for it in source.read() if not isinstance(it[1], Unread)):
         for (name, given), answer in zip(group, checker.ask_all([given for _, given in group], jobs)):
             sums.add(answer)
-            tell_text(name, answer)
+            is_quiet = "--quiet" in checker.call
+            tell_text(name, given, answer, is_quiet)
             told = files.advice("check", [], shown(name), given)
-            if told and "--quiet" not in checker.call:
+            if told and not is_quiet:
                 say(told)
 
 
@@ -191,8 +196,10 @@ def findings_of(group: list[Read], checker: Checker, jobs: int, sums: Sums) -> I
         for text in of_file:
             answer = next(answers)
             worst = max(worst, answer, key=lambda it: it.status)
-            line = answer.lines[-1] if answer.lines else ""
-            yield finding(text, line, answer.messages.decode(errors="replace"))
+            line, *warnings = answer.lines or [""]
+            found = finding(text, line, answer.messages.decode(errors="replace"))
+            is_warned = found.is_accepted and "--warn" in checker.call
+            yield replace(found, warnings=[warning(text, it) for it in warnings]) if is_warned else found
         sums.add(worst)
 
 

@@ -51,6 +51,8 @@ class Finding:
     hints: list[str] = field(default_factory=list)
     notes: list[str] = field(default_factory=list)
     level: str = "error"
+    # (none of a text of which they were not asked for)
+    warnings: list[Finding] | None = None
 
     @property
     def is_accepted(self) -> bool:

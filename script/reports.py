@@ -20,9 +20,13 @@ START = Place(1, 1, "")
 
 
 def gcc_lines(finding: Finding | Unread) -> Iterator[str]:
-    """Yields the lines of a finding as compilers write them; none of a text that is accepted, or of a file that cannot be
-    read, which standard error tells."""
-    if isinstance(finding, Unread) or finding.is_accepted:
+    """Yields the lines of a finding as compilers write them; of a text that is accepted those of its warnings, and none of a
+    file that cannot be read, which standard error tells."""
+    if isinstance(finding, Unread):
+        return
+    if finding.is_accepted:
+        for warning in finding.warnings or []:
+            yield from gcc_lines(warning)
         return
     first, *others = finding.places or [Place(finding.text.lines_before + 1, 1, "")]
 
@@ -56,11 +60,17 @@ def message_object(finding: Finding) -> dict[str, Any]:
     return {**given, "places": [place_object(it) for it in finding.places], **lists}
 
 
+def warning_object(finding: Finding) -> dict[str, Any]:
+    """Returns a warning for JSON."""
+    return {"code": finding.code, "warning": finding.line, "message": finding.message, **place_object(finding.places[0])}
+
+
 def json_object(finding: Finding) -> dict[str, Any]:
     """Returns a finding for JSON, as docs/schema/check.json describes it."""
     given: dict[str, Any] = {"file": finding.text.file, "text": finding.text.number, "accepted": finding.is_accepted}
     if finding.is_accepted:
-        return given
+        warnings = {} if finding.warnings is None else {"warnings": [warning_object(it) for it in finding.warnings]}
+        return {**given, **warnings}
     return {**given, "code": finding.code, "refusal": finding.line, **message_object(finding)}
 
 
@@ -116,14 +126,15 @@ def rules(start: list[str], codes: Iterable[str]) -> list[dict[str, Any]]:
 
 
 def sarif_document(start: list[str], said: list[Finding | Unread]) -> str:
-    """Returns the findings as one SARIF document; texts that are accepted are not in it."""
-    refused = [it for it in said if isinstance(it, Finding) and not it.is_accepted]
+    """Returns the findings as one SARIF document; of texts that are accepted their warnings are in it."""
+    findings = [it for it in said if isinstance(it, Finding)]
+    told = [one for it in findings for one in (it.warnings or [] if it.is_accepted else [it])]
     unread = [it for it in said if isinstance(it, Unread)]
     _, version, _ = ran_on(start[:1], ["--version"])
     number = re.search(r"\d+\.\d+(?:\.\d+)?", version.decode(errors="replace"))
-    driver = {"name": "parbegin", "rules": rules(start, (it.code for it in refused))}
+    driver = {"name": "parbegin", "rules": rules(start, (it.code for it in told))}
     if number:
         driver["version"] = number[0]
     run = {"tool": {"driver": driver}, "invocations": [sarif_invocation(unread)], "columnKind": "utf16CodeUnits"}
-    run["results"] = [sarif_result(it) for it in refused]
+    run["results"] = [sarif_result(it) for it in told]
     return json.dumps({"$schema": SARIF, "version": "2.1.0", "runs": [run]}, indent=2) + "\n"

@@ -45,6 +45,9 @@ FURTHER = (
      [(4, 11, "`count` is declared here")]),
     (b"process p begin\n  prnt 1 end\n", "`prnt` is not a word of the language", [(4, 3, "`prnt`")]),
 )
+# A text with each warning, and their places behind a text of a line and a line `%%`.
+WARNED = b"resource tape = 2;\nprocess p\nbegin\n  integer x;\n  parbegin x := 1 parend\nend\n"
+WARNINGS = [(3, 10, "W3"), (6, 11, "W2"), (7, 3, "W1")]
 NAMES = [*FILES, "nosuch.pb", "folder"]
 # Why those that are no files cannot be read.
 UNREAD = {"nosuch.pb": "no such file", "folder": "Is a directory"}
@@ -118,6 +121,33 @@ def try_json(tally: Tally, it: Script) -> None:
     tally.expect(json.loads(told)["file"] == "<stdin>", "JSON of standard input")
 
 
+def try_warnings(tally: Tally, it: Script) -> None:
+    """Tries warnings in each format, of a text behind another one."""
+    (it.folder / "warned.pb").write_bytes(WARNED)
+    status, told, said = it.run("check", "--warn", "warned.pb", "fine.pb")
+    own = [f"warned.pb: {line}" for line in call(["check", "--warn"], WARNED)[1].decode().splitlines()]
+    tally.expect((status, told.splitlines()) == (DONE, [*own, "fine.pb: ok"]), "warnings as text", status, told)
+    tally.expect("warned.pb: warning W2: the integer `x` of process `p` is never read\n  --> line 4, column 11\n" in said,
+                 "warnings in words", said)
+    lines = "".join(f"{line}\n" for line in own)
+    tally.expect(it.run("--quiet", "check", "--warn", "warned.pb") == (DONE, lines, ""), "warnings are not quiet")
+    several = FINE + b"%%\n" + WARNED
+    _, told, _ = it.run("check", "--warn", "--format", "gcc", given=several)
+    wanted = [[f"<stdin>:{line}:{column}", "warning", code] for line, column, code in WARNINGS]
+    tally.expect([line.split(": ")[:3] for line in told.splitlines()] == wanted, "warnings as compilers write them", told)
+    status, told, _ = it.run("check", "--warn", "--format", "json", given=several)
+    fine, warned = map(json.loads, told.splitlines())
+    for value in (fine, warned):
+        fits(tally, "check", value)
+    found = [(at["line"], at["column"], at["code"]) for at in warned["warnings"]]
+    tally.expect((status, fine["warnings"], found) == (DONE, [], WARNINGS), "warnings as JSON", fine, warned)
+    _, told, _ = it.run("check", "--warn", "--format", "sarif", given=several)
+    document = json.loads(told)
+    fits(tally, "sarif", document)
+    levels = [(at["ruleId"], at["level"]) for at in document["runs"][0]["results"]]
+    tally.expect(levels == [(code, "warning") for *_, code in WARNINGS], "warnings in SARIF", levels)
+
+
 def try_further_places(tally: Tally, it: Script) -> None:
     """Tries the places that a message shows beside its first one, and the lines that it names."""
     for given, message, places in FURTHER:
@@ -175,7 +205,7 @@ def main() -> None:
     tally = Tally()
     with tempfile.TemporaryDirectory(prefix="parbegin-formats-") as folder:
         it = Script(pathlib.Path(folder))
-        for attempt in (try_text, try_gcc, try_json, try_further_places, try_sarif, try_many, try_words):
+        for attempt in (try_text, try_gcc, try_json, try_warnings, try_further_places, try_sarif, try_many, try_words):
             attempt(tally, it)
     tell_if_missing()
     tally.end("check formats")

@@ -5,8 +5,8 @@
     checks/quick/refusals.py --write [PROGRAM]     writes docs/REFUSALS.md anew, after a change of crates/pb_explain
 
 The list that `explain` writes must be the first lines of the pages. Each example must write what its page shows, with one
-refusal line, which has the code of the page. Every refusal line of docs/formats/ must have a page, and both completions
-every code. Its status is 0 if all is as wanted, and 1 if not.
+line of a refusal or a warning, which has the code of the page. Every such line of docs/formats/ must have a page, and both
+completions every code. Its status is 0 if all is as wanted, and 1 if not.
 """
 import os
 import pathlib
@@ -30,7 +30,7 @@ PAGE = re.compile(
 )
 HEAD = """# Refusals
 
-What each refusal of an input means, an example that is refused so, and what to do about it.
+What each refusal and each warning of an input means, an example that is told so, and what to do about it.
 checks/quick/refusals.py writes this page from what `parbegin explain` says, and makes the calls. docs/formats/program.md
 has the order in which the causes are looked for.
 """
@@ -62,8 +62,8 @@ def try_example(tally, code, page, folder):
     ran = subprocess.run(words, env=where, stdout=subprocess.PIPE, stderr=subprocess.DEVNULL, check=False)
     said = ran.stdout.decode()
     tally.expect(said == it["answer"], code, "the example shows", said)
-    refused = re.findall(r"^refused (\w+)", it["answer"], re.M)
-    tally.expect(refused == [code], code, "the example is refused with", refused)
+    refused = re.findall(r"^(?:refused|warning) (\w+)", it["answer"], re.M)
+    tally.expect(refused == [code], code, "the example is refused with, or warned of by", refused)
 
 
 def main():
@@ -76,7 +76,7 @@ def main():
         for code, page in found.items():
             tally.expect(PAGE.fullmatch(page), code, "the page is not of its form:", page)
             try_example(tally, code, page, folder)
-    told = {code for page in FORMATS for code in re.findall(r"^\| `refused (\w+)", page.read_text(), re.M)}
+    told = {code for page in FORMATS for code in re.findall(r"^\| `(?:refused|warning) (\w+)", page.read_text(), re.M)}
     tally.expect(told == set(found), "the codes of docs/formats/:", told ^ set(found))
     for file in COMPLETIONS:
         missing = [code for code in found if not re.search(rf"\b{code}\b", file.read_text())]

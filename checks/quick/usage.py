@@ -28,7 +28,7 @@ CALLS = [
     (["run", "nosuch.pb"], DEVICE, None, "parbegin: no such file: nosuch.pb\n"),
     (["explain", "N3"], DONE, "N3: ", None),
     (["explain", "n3"], DONE, "N3: ", None),
-    (["explain", "nosuch"], WORDS, None, "no refusal has this code"),
+    (["explain", "nosuch"], WORDS, None, "no refusal and no warning has this code"),
     (["run", "folder"], DEVICE, None, "parbegin: folder: Is a directory\n"),
     (["run", "hello.pb", "lost.pb"], WORDS, None, "run reads one file, and here are 2"),
     (["plan", "hello.pb", "missing.pb"], DEVICE, None, "no such file: missing.pb"),

@@ -9,7 +9,7 @@ use Rattle.pb_accept.specs.Checks.{AreFirstParts, AreTold, IsLeft, SaysOfChecks,
 use Rattle.pb_accept.specs.Sayings.{Saying, NoMemory}
 use Rattle.pb_voice.specs.Tellings.{Ends, Speaks, whole, broken}
 use Rattle.pb_accept.specs.declared.check.Told.TheVariants as told
-use Rattle.pb_voice.proofs.TellingLemmas.{telling_then, breaking_later, breaking_at, ends_later}
+use Rattle.pb_voice.proofs.TellingLemmas.{telling_more, breaking_later, ends_later}
 
 -- the parts of what is left, of which one more is done
 one_more_done : (bytes rest part more_rest : List ℕ) (done : List (List ℕ)) → IsLeft bytes done rest → IsCutAt rest part more_rest
@@ -30,34 +30,34 @@ no_device : (refused : Bool) → check_status refused ≢ Device
 no_device true e = cc
 no_device false e = cc
 
-module _ {T : Type 0} (tells breaks : T → Saying → T → Type 0) (bytes rest : List ℕ) (start : T) (refused : Bool) (old : T)
-    (are : AreTold tells bytes rest start refused old) where
+module _ {T : Type 0} (tells breaks : T → Saying → T → Type 0) (warn : Bool) (bytes rest : List ℕ) (start : T) (refused : Bool)
+    (old : T) (are : AreTold tells warn bytes rest start refused old) where
   pub told_one_more : (part more_rest : List ℕ) (is : Bool) (new : T) → IsCutAt rest part more_rest
-      → TellsAnswer tells breaks part old new (told.Answered is) → AreTold tells bytes more_rest start (refused || is) new
+      → TellsAnswer tells breaks warn part old new (told.Answered is) → AreTold tells warn bytes more_rest start (refused || is) new
   told_one_more part more_rest is new cut (one, answer, step) = record {
     done = are.done ++ part ∷ [];
-    said = are.said ++ one ∷ [];
+    said = are.said ++ one;
     left = one_more_done bytes rest part more_rest are.done are.left cut;
     answers = checks.more are.done are.said refused part one is are.answers answer;
-    told = telling_then tells start old new are.said one are.told step;
+    told = telling_more tells start old new are.said one are.told step;
   }
 
   -- all parts are answered
   pub told_all : (part : List ℕ) (is : Bool) (new : T) (given : Status) → part ≡ rest → ((at : ℕ) → ¬ IsMarkAt rest at)
-      → TellsAnswer tells breaks part old new (told.Answered is) → given ≡ check_status (refused || is)
-      → Speaks tells breaks (SaysOfChecks bytes) start new given
+      → TellsAnswer tells breaks warn part old new (told.Answered is) → given ≡ check_status (refused || is)
+      → Speaks tells breaks (SaysOfChecks warn bytes) start new given
   told_all part is new given same no_mark (one, answer, step) given_is = (
-    are.said ++ one ∷ [],
+    are.said ++ one,
     check_status (refused || is),
-    answered (are.done ++ part ∷ []) (are.said ++ one ∷ []) (refused || is) (last_done bytes rest part are.done are.left same no_mark)
+    answered (are.done ++ part ∷ []) (are.said ++ one) (refused || is) (last_done bytes rest part are.done are.left same no_mark)
         (checks.more are.done are.said refused part one is are.answers answer),
-    subst (λ (s : Status). Ends tells breaks start (are.said ++ one ∷ []) (check_status (refused || is)) new s) (sym given_is)
-        (whole (no_device (refused || is)) (telling_then tells start old new are.said one are.told step)),
+    subst (λ (s : Status). Ends tells breaks start (are.said ++ one) (check_status (refused || is)) new s) (sym given_is)
+        (whole (no_device (refused || is)) (telling_more tells start old new are.said one are.told step)),
   )
 
   -- out of memory for the next text
   pub told_until_memory : (mid new : T) (given : Status) → mid ≡ old → Ends tells breaks mid (NoMemory ∷ []) Memory new given
-      → Speaks tells breaks (SaysOfChecks bytes) start new given
+      → Speaks tells breaks (SaysOfChecks warn bytes) start new given
   told_until_memory mid new given same ends =
       let ends' = subst (λ (m : T). Ends tells breaks m (NoMemory ∷ []) Memory new given) same ends in (
         are.said ++ NoMemory ∷ [],
@@ -67,19 +67,19 @@ module _ {T : Type 0} (tells breaks : T → Saying → T → Type 0) (bytes rest
       )
 
   -- a write failed
-  broken_in : (part : List ℕ) (new : T) → AreFirstParts bytes (are.done ++ part ∷ []) → TellsAnswer tells breaks part old new told.Broken
-      → Speaks tells breaks (SaysOfChecks bytes) start new Device
+  broken_in : (part : List ℕ) (new : T) → AreFirstParts bytes (are.done ++ part ∷ []) → TellsAnswer tells breaks warn part old new told.Broken
+      → Speaks tells breaks (SaysOfChecks warn bytes) start new Device
   broken_in part new first (one, is, answer, step) = (
-    are.said ++ one ∷ [],
+    are.said ++ one,
     Device,
-    cut_off (are.done ++ part ∷ []) (are.said ++ one ∷ []) (refused || is) first
+    cut_off (are.done ++ part ∷ []) (are.said ++ one) (refused || is) first
         (checks.more are.done are.said refused part one is are.answers answer),
-    broken (breaking_later tells breaks start old new are.said (one ∷ []) are.told (breaking_at tells breaks old new one step)),
+    broken (breaking_later tells breaks start old new are.said one are.told step),
   )
 
   pub told_broken : {R : Type 0} (seen : R → List ℕ) (part : List ℕ) (more_rest : Option R) (new : T)
       → IfSome more_rest (λ r. IsCutAt rest part (seen r)) → IfNone more_rest ((part ≡ rest) × ((at : ℕ) → ¬ IsMarkAt rest at))
-      → TellsAnswer tells breaks part old new told.Broken → Speaks tells breaks (SaysOfChecks bytes) start new Device
+      → TellsAnswer tells breaks warn part old new told.Broken → Speaks tells breaks (SaysOfChecks warn bytes) start new Device
   told_broken seen part None new cut all step = broken_in part new (inl (last_done bytes rest part are.done are.left all.0 all.1)) step
   told_broken seen part (Some r) new cut all step =
       broken_in part new (inr (seen r, one_more_done bytes rest part (seen r) are.done are.left cut)) step

@@ -9,4 +9,5 @@ pub mod ReplayLemmas
 pub mod RunTextLemmas
 pub mod ShownLemmas
 pub mod StillLemmas
+pub mod WarnedLemmas
 pub mod WrittenLemmas

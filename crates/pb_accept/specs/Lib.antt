@@ -14,3 +14,4 @@ pub mod Sayings
 pub mod Stillness
 pub mod ToldEvents
 pub mod View
+pub mod Warned

@@ -5,7 +5,8 @@ use Rattle.std.specs.List.{concat}
 use Rattle.pb_accept.specs.Causes.{lex_cause, lines_cause, load_cause, names_cause, parse_cause}
 use Rattle.pb_accept.specs.EventObjects.{event_json}
 use Rattle.pb_accept.specs.Sayings.{Saying, Accepted, Refused, Claim, NoCode, NoPicks, BeyondFirst, Text, Shows, Ended, Limit, Threads}
-use Rattle.pb_accept.specs.Sayings.{TooLong, NoMemory, line_of}
+use Rattle.pb_accept.specs.Sayings.{Warns, TooLong, NoMemory, line_of}
+use Rattle.pb_accept.specs.Warned.{warning_json}
 use Rattle.pb_accept.specs.declared.cause.Cause.{Cause}
 use Rattle.pb_accept.specs.declared.ending.Ending.{Ending}
 use Rattle.pb_accept.specs.declared.ending.Ending.TheVariants.{Over, Stuck, Open}
@@ -89,6 +90,7 @@ json_of (Text text) = lines_json (codes "line") text
 json_of (Shows names shown) = event_json names shown
 json_of (Ended ending) = ending_json ending
 json_of (Limit steps) = concat (codes "{\"kind\":\"limit\",\"limit\":" ∷ decimal steps ∷ codes "}\n" ∷ [])
+json_of (Warns warning) = warning_json warning
 json_of Threads = codes "{\"kind\":\"threads\"}\n"
 json_of TooLong = codes "{\"kind\":\"refused\",\"code\":\"input\"}\n"
 json_of NoMemory = memory_json

@@ -4,6 +4,7 @@ use Rattle.std.specs.Fmt.{decimal}
 use Rattle.std.specs.List.{concat}
 use Rattle.pb_accept.specs.Causes.{cause_line, lex_cause, lines_cause, load_cause, names_cause, parse_cause}
 use Rattle.pb_accept.specs.Refusals.{claims_line, limit_words}
+use Rattle.pb_accept.specs.Warned.{warning_line}
 use Rattle.pb_accept.specs.declared.cause.Cause.{Cause}
 use Rattle.pb_accept.specs.declared.ending.Ending.{Ending}
 use Rattle.pb_accept.specs.declared.ending.Ending.TheVariants.{Over, Stuck, Open}
@@ -16,6 +17,7 @@ use Rattle.pb_codegen.specs.declared.fault.CompileFault.{CompileFault}
 use Rattle.pb_codegen.specs.declared.fault.CompileFault.TheVariants as fault
 use Rattle.pb_command_io.specs.Answers.{memory_line}
 use Rattle.pb_names.specs.Program.{Name}
+use Rattle.pb_warnings.specs.Warnings.{Warning}
 
 -- one thing that is said
 pub data Saying : Type 0 where
@@ -29,6 +31,7 @@ pub data Saying : Type 0 where
   Shows : NameTable → Event → Saying
   Ended : Ending → Saying
   Limit : (steps : ℕ) → Saying
+  Warns : Warning → Saying
   Threads TooLong NoMemory : Saying
 
 -- the line of a cause with words after it; there is no cause if out of memory
@@ -67,6 +70,7 @@ line_of (Text text) = text
 line_of (Shows names shown) = line (event.line_of names shown)
 line_of (Ended ending) = line (last_line ending)
 line_of (Limit steps) = line (codes "limit " ++ decimal steps)
+line_of (Warns warning) = warning_line warning
 line_of Threads = line (codes "threads")
 line_of TooLong = line (codes "refused input")
 line_of NoMemory = memory_line

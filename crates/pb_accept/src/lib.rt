@@ -22,6 +22,9 @@ mod replay;
 pub mod run_text;
 mod said;
 mod teller;
+mod warned;
+mod warning_lines;
+mod warning_objects;
 mod written;
 
 pub use accept::{Refusal, code_of_text, compile_text, refuse};

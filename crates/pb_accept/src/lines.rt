@@ -14,6 +14,7 @@ use crate::load::load_cause;
 use crate::refusal::limit_words;
 use crate::replay::lines_cause;
 use crate::said::Said;
+use crate::warning_lines::tell_warning_line;
 use itoa::Buffer;
 use pb_base::{DeviceFault, Output};
 use pb_codegen::{ClaimsFault, CompileFault};
@@ -145,6 +146,7 @@ pub(crate) fn tell_line<O: Output>(
             let mut digits = Buffer::new();
             voice.say_all(output, &[b"limit ", digits.format(steps).as_bytes(), b"\n"])
         }
+        Said::Warns(warning) => tell_warning_line(voice, output, warning),
         Said::Threads => voice.say(output, b"threads\n"),
         Said::TooLong => voice.say(output, b"refused input\n"),
         Said::NoMemory => voice.say(output, b"memory\n"),

@@ -14,6 +14,7 @@ use crate::event_objects::tell_event_object;
 use crate::load::load_cause;
 use crate::replay::lines_cause;
 use crate::said::{Claim, Said};
+use crate::warning_objects::tell_warning_object;
 use itoa::Buffer;
 use pb_base::{DeviceFault, Output};
 use pb_codegen::{ClaimsFault, CompileFault};
@@ -214,6 +215,7 @@ pub(crate) fn tell_object<O: Output>(
                 ],
             )
         }
+        Said::Warns(warning) => tell_warning_object(voice, output, warning),
         Said::Threads => voice.say(output, b"{\"kind\":\"threads\"}\n"),
         Said::TooLong => voice.say(output, b"{\"kind\":\"refused\",\"code\":\"input\"}\n"),
         Said::NoMemory => voice.say(output, b"{\"kind\":\"memory\"}\n"),

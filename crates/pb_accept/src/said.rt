@@ -5,6 +5,7 @@ use crate::load::LoadFault;
 use crate::replay::LinesFault;
 use pb_base::{Event, Names};
 use pb_codegen::CompileFault;
+use pb_warnings::Warning;
 
 /// The most that a process may hold of a resource.
 #[derive(Clone, Copy)]
@@ -45,6 +46,8 @@ pub enum Said<'t> {
     Ended(Ending),
     /// A run made as many picks as it may.
     Limit(u32),
+    /// An accepted text is warned of this.
+    Warns(&'t Warning),
     /// A thread could not be started.
     Threads,
     /// The input is too long.

@@ -34,7 +34,7 @@ pub fn write_checks<I: Input, O: Output>(
     output: &mut O,
 ) -> Status
     ensures text { IfSome (I.rest input.old) (λ bytes.
-        Tells (SaysOfInput (Written line_of SaysOfChecks) bytes) (O.written output.old) (O.written output.new) result) }
+        Tells (SaysOfInput (Written line_of (SaysOfChecks options.warn)) bytes) (O.written output.old) (O.written output.new) result) }
     ensures faults { TellsFaults
         (record { reads = I.failures input.old; writes = O.failures output.old; written = O.written output.old })
         (record { reads = I.failures input.new; writes = O.failures output.new; written = O.written output.new })

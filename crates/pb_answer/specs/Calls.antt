@@ -40,7 +40,7 @@ use Rattle.pb_words.specs.declared.words.Options.TheVariants as option
 -- what a command may say of an input
 abbrev pub CommandSays : Options → List ℕ → List ℕ → Status → Type 0
 CommandSays option.Bank = SaysOfBank
-CommandSays (option.Check numbers) = SaysOfInput (Written line_of SaysOfChecks)
+CommandSays (option.Check numbers) = SaysOfInput (Written line_of (SaysOfChecks numbers.warn))
 CommandSays option.Claims = SaysOfInput (Written line_of SaysOfClaims)
 CommandSays option.Dap = SaysOfAdapter
 CommandSays (option.Debug flags) = says_of_commands flags.live (lending_for flags.lend)

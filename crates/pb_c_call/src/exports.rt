@@ -54,12 +54,15 @@ pub extern "C" fn pb_call(
 /// reply as `pb_call` does.
 #[unsafe(no_mangle)]
 pub extern "C" fn pb_check(alloc: Global, text: &[u8], output: &mut [u8], needed: &mut usize) -> u8
-    ensures given { IsGiven (Tellings (Written line_of SaysOfChecks) text.now) output.new result needed.new }
+    ensures given { IsGiven (Tellings (Written line_of (SaysOfChecks false)) text.now) output.new result needed.new }
     ensures no_device { result ≢ 6 }
 {
     let mut source = MemoryInput::new(text);
     let mut reply = Kept::new(alloc);
-    let options = CheckOptions { heap: None };
+    let options = CheckOptions {
+        heap: None,
+        warn: false,
+    };
     let status = write_checks(alloc, options, &mut source, &mut reply);
     let bytes = reply.as_slice();
     put_front(output, bytes);

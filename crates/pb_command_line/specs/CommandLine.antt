@@ -37,9 +37,10 @@ with_run_rules a =
     (with_rule (with_rule a (number_rule_or (codes "workers") 1 16 (codes "1"))) (number_rule_or (codes "quantum") 1 4096 (codes "64")))
     (number_rule_or (codes "steps") 0 10000000 (codes "1000000"))
 
--- `check`, for which the size of the heap may be given
+-- `check`: the size of the heap may be given, and whether warnings are told
 unfoldable pub check_command : App
-check_command = with_rule (new_app (codes "check")) (number_rule (codes "heap") 1024 16777216)
+check_command =
+    with_rule (with_rule (new_app (codes "check")) (number_rule (codes "heap") 1024 16777216)) (flag_rule (codes "warn"))
 
 -- `claims`, which has no options
 unfoldable pub claims_command : App

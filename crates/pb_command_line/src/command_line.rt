@@ -213,16 +213,15 @@ fn with_run_options<'a>(
     with_number(alloc, command, "steps", 0, 10_000_000, "1000000", steps)
 }
 
-#[tactic(auto, unfolding(crate::specs::CommandLine::check_command))]
 fn check_texts<'a>(alloc: Global) -> Result<Command<'a>, AllocError>
     ensures { IfOk result (IsCommand check_command) }
 {
-    let heap = number_option(alloc, "heap", 1_024, 16_777_216);
-    let heap = heap.help("Keep the syntax trees of each text in a heap of this many bytes");
-    let check = Command::new(alloc, "check").about(
-        "Check the programs read from standard input, which lines of %% separate",
-    );
-    with_option(check, heap)
+    let about = "Check the programs read from standard input, which lines of %% separate";
+    let check = plain(alloc, "check", about);
+    let heap = "Keep the syntax trees of each text in a heap of this many bytes";
+    let check = with_given_number(alloc, check, "heap", 1_024, 16_777_216, heap);
+    let warn = "Tell after each ok what is probably a mistake in the program";
+    with_flag(alloc, check, "warn", warn)
 }
 
 fn debug_picks<'a>(alloc: Global) -> Result<Command<'a>, AllocError>

@@ -34,7 +34,13 @@ fn commands_have_their_defaults(rt: HostRuntime) {
         ("bank", Options::Bank),
         ("dap", Options::Dap),
         ("lsp", Options::Lsp),
-        ("check", Options::Check(CheckOptions { heap: None })),
+        (
+            "check",
+            Options::Check(CheckOptions {
+                heap: None,
+                warn: false,
+            }),
+        ),
         ("claims", Options::Claims),
         (
             "debug",
@@ -115,7 +121,18 @@ fn options_with_one_word_are_read(rt: HostRuntime) {
         (
             "check",
             "--heap=1024",
-            Options::Check(CheckOptions { heap: Some(1_024) }),
+            Options::Check(CheckOptions {
+                heap: Some(1_024),
+                warn: false,
+            }),
+        ),
+        (
+            "check",
+            "--warn",
+            Options::Check(CheckOptions {
+                heap: None,
+                warn: true,
+            }),
         ),
         (
             "debug",
@@ -462,6 +479,7 @@ fn other_words_are_refused(rt: HostRuntime) {
         ("bank", "text"),
         ("check", "--heap=1023"),
         ("check", "--heap=16777217"),
+        ("check", "--warn=true"),
         ("claims", "--steps=3"),
         ("debug", "--live=true"),
         ("debug", "--lend=till"),
@@ -577,7 +595,13 @@ fn is_told(alloc: Global, words: &[&str], part: &str) -> bool {
 #[test]
 fn refusals_tell_what_there_is(rt: HostRuntime) {
     let unknown = ["parbegin", "explain", "N5"];
-    assert!(rt; is_told(rt.alloc(), &unknown, "error: no refusal has this code"));
+    assert!(rt;
+        is_told(
+            rt.alloc(),
+            &unknown,
+            "error: no refusal and no warning has this code"
+        )
+    );
     assert!(rt; is_told(rt.alloc(), &unknown, " N1 N2 N3 N4 N6 C1 "));
     let nobody = "error: the value of '--lend' is banker or cash";
     for command in [

@@ -6,3 +6,4 @@ pub mod Objects
 pub mod Pages
 pub mod Runs
 pub mod Texts
+pub mod Warnings

@@ -27,7 +27,7 @@ shell_text command (Text text) =
 shell_text command (Repeated repeated times) =
     repetition_text repeated times ++ codes "; echo print 1 end) | parbegin " ++ line command
 
--- a call that is refused, and what it writes
+-- a call that is refused or warned of, and what it writes
 abbrev pub example_text : PlainExample → List ℕ
 example_text example =
     codes "\nFor example:\n\n" ++ shell_text example.command example.input

@@ -1,4 +1,4 @@
-//! What there is to say of each refusal.
+//! What there is to say of each refusal and each warning.
 ghost use Rattle.std.specs.Prelude.{◌≡◌};
 ghost use Rattle.pb_explain.specs.Entries.{entry_of};
 ghost use Rattle.pb_explain.specs.Explanation.{plain_entry};
@@ -8,10 +8,11 @@ mod names;
 mod objects;
 mod runs;
 mod texts;
+mod warnings;
 
 use pb_options::Code;
 
-/// What there is to say of the refusals with one code. Its texts are lines of at most 84 bytes, with no line
+/// What there is to say of the refusals or warnings with one code. Its texts are lines of at most 84 bytes, with no line
 /// feed after the last one.
 #[derive(Clone, Copy, Debug)]
 pub struct Entry {
@@ -19,13 +20,13 @@ pub struct Entry {
     pub summary: &'static str,
     /// What the refusal means.
     pub meaning: &'static str,
-    /// A call that is refused so, if an input of the program can be.
+    /// A call that is refused or warned of so, if an input of the program can be.
     pub example: Option<Example>,
     /// What to do about it.
     pub mend: &'static str,
 }
 
-/// A call of the program that is refused.
+/// A call of the program that is refused, or warned of.
 #[derive(Clone, Copy, Debug)]
 pub struct Example {
     /// The words after the name of the program, with single spaces.
@@ -107,6 +108,9 @@ fn entry_at(code: Code) -> &'static Entry
         Code::B11 => &bank::B11,
         Code::B12 => &bank::B12,
         Code::B13 => &bank::B13,
+        Code::W1 => &warnings::W1,
+        Code::W2 => &warnings::W2,
+        Code::W3 => &warnings::W3,
         Code::Input => &texts::INPUT,
         Code::Output => &texts::OUTPUT,
     }

@@ -81,7 +81,7 @@ fn put_call(text: &mut Vec<u8>, command: &str, input: ExampleInput) -> Result<()
     }
 }
 
-/// Appends a call that is refused to a text, with what it writes.
+/// Appends a call that is refused, or warned of, to a text, with what it writes.
 fn put_example(text: &mut Vec<u8>, example: &Example) -> Result<(), NoMemory>
     ensures { OnOk result (text.new.items ≡ text.old.items ++ example_text (plain_example example.now)) }
 {
@@ -162,7 +162,7 @@ fn explanation(alloc: Global, asked: Option<Code>) -> Result<Reply, NoMemory>
     })
 }
 
-/// Writes what refusals with a code mean, an example of one, and what to do about it; or, if no code is
+/// Writes what refusals or warnings with a code mean, an example of one, and what to do about it; or, if no code is
 /// given, a line for each code, in the order of `Code::ALL`.
 ///
 /// After a write that failed, a prefix of it is written.

@@ -1,4 +1,4 @@
-//! The command `explain`: for each code of a refusal what it means, an example and what to do.
+//! The command `explain`: for each code of a refusal or a warning what it means, an example and what to do.
 #![tactic(auto)]
 
 mod entries;

@@ -22,6 +22,7 @@ const TEXTS: [&[u8]; 6] = [
 #[derive(Clone, Copy)]
 enum Command {
     Check,
+    CheckAndWarn,
     Claims,
 }
 
@@ -35,9 +36,14 @@ fn status_of<O: Output>(
 ) -> Status {
     let mut input = MemoryInput::new(text);
     let mut voice = Voice::new(alloc, form);
-    let options = CheckOptions { heap: None };
+    let options = CheckOptions {
+        heap: None,
+        warn: matches!(command, Command::CheckAndWarn),
+    };
     let given = match command {
-        Command::Check => check_engine(alloc, options, &mut input, &mut voice, output),
+        Command::Check | Command::CheckAndWarn => {
+            check_engine(alloc, options, &mut input, &mut voice, output)
+        }
         Command::Claims => claims_engine(alloc, &mut input, &mut voice, output),
     };
     voice.finish(output, given)
@@ -89,6 +95,27 @@ fn objects_are_told(rt: HostRuntime) {
     assert!(rt;
         matches!(
             tells(rt.alloc(), Command::Check, TEXTS[2], over, Status::Refused),
+            Ok(true)
+        )
+    );
+}
+
+const WARNINGS: &[u8] =
+    b"resource r = 2; process p begin integer x; parbegin hold 1 of r do skip od parend end";
+
+#[test]
+fn warnings_are_told(rt: HostRuntime) {
+    let objects =
+        b"{\"kind\":\"ok\"}\n{\"kind\":\"warning\",\"code\":\"W3\",\"line\":1,\"resource\":\"r\",\"claims\":1,\"capital\":2}\n{\"kind\":\"warning\",\"code\":\"W2\",\"line\":1,\"process\":\"p\",\"integer\":\"x\"}\n{\"kind\":\"warning\",\"code\":\"W1\",\"line\":1}\n";
+    assert!(rt;
+        matches!(
+            tells(
+                rt.alloc(),
+                Command::CheckAndWarn,
+                WARNINGS,
+                objects,
+                Status::Done
+            ),
             Ok(true)
         )
     );

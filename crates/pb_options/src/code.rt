@@ -1,11 +1,11 @@
-//! The codes of refusals.
+//! The codes of refusals and warnings.
 ghost use Rattle.std.specs.Prelude.{◌≡◌, All, IfNone, IfSome, Some};
 ghost use Rattle.pb_options.specs.Codes.{code_name, IsCodeOf};
 
 use std::fmt;
 use std::str::FromStr;
 
-/// The code of a refusal: the word after `refused` in the line of a refused input.
+/// The code of a refusal or a warning: the word after `refused` in the line of a refused input, or after `warning`.
 // To add one: specs/Codes, proofs/CodeLemmas, pb_explain, the wording of messages; docs/CHANGING.md.
 #[derive(Clone, Copy, Debug, PartialEq, Eq)]
 pub enum Code {
@@ -99,6 +99,12 @@ pub enum Code {
     B12,
     /// No wish of this job.
     B13,
+    /// A parbegin of one arm.
+    W1,
+    /// An integer that is never read.
+    W2,
+    /// A capital that cannot be used.
+    W3,
     /// The input is too long.
     Input,
     /// What `record` would write is too long.
@@ -107,13 +113,13 @@ pub enum Code {
 
 /// The text is not the name of a code.
 #[derive(Clone, Copy, Debug, PartialEq, Eq, thiserror::Error)]
-#[error("no refusal has this code")]
+#[error("no refusal and no warning has this code")]
 pub struct UnknownCode;
 
 impl Code {
     /// All codes, in the order in which they are listed: those of texts, of objects, of picks, of sessions and of
-    /// the bank, and then those of inputs and outputs that are too long.
-    pub const ALL: [Code; 47] = [
+    /// the bank, those of warnings, and then those of inputs and outputs that are too long.
+    pub const ALL: [Code; 50] = [
         Code::L1,
         Code::L2,
         Code::L3,
@@ -159,11 +165,14 @@ impl Code {
         Code::B11,
         Code::B12,
         Code::B13,
+        Code::W1,
+        Code::W2,
+        Code::W3,
         Code::Input,
         Code::Output,
     ];
 
-    /// Returns the code as it is written in a refusal line.
+    /// Returns the code as it is written in the line of a refusal or a warning.
     pub fn name(self) -> &'static str
         ensures { result.now ≡ code_name self }
     {
@@ -213,6 +222,9 @@ impl Code {
             Code::B11 => "B11",
             Code::B12 => "B12",
             Code::B13 => "B13",
+            Code::W1 => "W1",
+            Code::W2 => "W2",
+            Code::W3 => "W3",
             Code::Input => "input",
             Code::Output => "output",
         }
@@ -240,7 +252,7 @@ impl fmt::Display for Code {
     }
 }
 
-/// Reads a code as it is written in a refusal line.
+/// Reads a code as it is written in the line of a refusal or a warning.
 impl FromStr for Code {
     type Err = UnknownCode;
 

@@ -29,6 +29,8 @@ pub const MAX_SCALE: u64 = 400;
 pub struct CheckOptions {
     /// The size of the heap for the trees of each text, in bytes, if they are to be in one.
     pub heap: Option<u64>,
+    /// Whether an accepted text is told with its warnings.
+    pub warn: bool,
     pub ghost heap_suffices: { (size : ℕ) → heap ≡ Some size → MIN_HEAP ≤ size },
     pub ghost heap_fits: { (size : ℕ) → heap ≡ Some size → size ≤ MAX_HEAP },
 }

@@ -24,7 +24,7 @@ use Rattle.pb_words.specs.declared.words.Options.TheVariants as option
 
 -- what its commands may say of an input
 abbrev pub says : Options → List ℕ → List ℕ → Status → Type 0
-says (option.Check numbers) = SaysOfInput (Written line_of SaysOfChecks)
+says (option.Check numbers) = SaysOfInput (Written line_of (SaysOfChecks numbers.warn))
 says option.Claims = SaysOfInput (Written line_of SaysOfClaims)
 says (option.Emit numbers) = SaysOfInput (Written line_of (SaysOfEmission numbers.object))
 says (option.Exec numbers) = SaysOfInput (Written line_of (SaysOfExecution numbers.steps))

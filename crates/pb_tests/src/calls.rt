@@ -30,7 +30,10 @@ pub enum Call {
 }
 
 /// `check` with trees in the memory of the machine.
-pub const CHECK: Call = Call::Check(CheckOptions { heap: None });
+pub const CHECK: Call = Call::Check(CheckOptions {
+    heap: None,
+    warn: false,
+});
 
 /// By one worker, at most a million picks.
 pub const MILLION: RunOptions = RunOptions {

@@ -18,7 +18,7 @@ use Rattle.clap.proofs.WalkLemmas.{one_text-rows, raw_values-rows}
 use Rattle.pb_capitals.specs.Changes.{AreChanges, changes_in}
 use Rattle.pb_capitals.specs.declared.change.Change.{Change}
 use Rattle.pb_capitals.specs.declared.changes.Changes.{Changes}
-use Rattle.pb_words.specs.Read.{BlamesWords, HasChanges, HasCheckNumbers, HasCode, HasEmitNumber, HasFlag, HasNumber, HasNumberIn}
+use Rattle.pb_words.specs.Read.{BlamesWords, HasChanges, HasCheckOptions, HasCode, HasEmitNumber, HasFlag, HasNumber, HasNumberIn}
 use Rattle.pb_words.specs.Read.{HasDebugOptions, HasDrawOptions, HasLend, HasOptionalNumber, HasOptionalNumberIn, HasPlanLend, HasReplayLend}
 use Rattle.pb_words.specs.Read.{HasSearchOptions, HasStatesOptions}
 use Rattle.pb_words.specs.Read.{HasRecordNumbers, HasRunNumbers}
@@ -110,7 +110,7 @@ nothing_read m name rows named is none o (other, found, entered, says) =
     none o (subst (λ (n : Text). IsReadFrom n rows o) same_name (subst (λ (r : List Row). IsReadFrom other r o) same says))
 
 -- if its options cannot be read, the rows of `check` say nothing
-pub no_check : (rows : List Row) → ((o : CheckOptions) → HasCheckNumbers rows o → ⊥) → (o : Options)
+pub no_check : (rows : List Row) → ((o : CheckOptions) → HasCheckOptions rows o → ⊥) → (o : Options)
     → IsReadFrom (codes "check") rows o → ⊥
 no_check rows none Bank says =
     let m : 99 ≡ 98 = ap (λ (l : Text). get_or l 0 0) says in omega (arith, m)
@@ -603,9 +603,9 @@ lend_unread E f value lend has =
     (value (lend_word lend) (one_text-rows f (codes "lend") ∙ has)).1 lend refl
 
 -- if neither is read, nothing is
-pub no_check_numbers : (rows : List Row) → ((n : ℕ) → HasNumberIn rows (codes "heap") 1024 16777216 n → ⊥)
-    → (one_of (codes "heap") rows ≡ None → ⊥) → (o : CheckOptions) → HasCheckNumbers rows o → ⊥
-no_check_numbers rows none given o says = go o.heap refl says
+pub no_check_options : (rows : List Row) → ((n : ℕ) → HasNumberIn rows (codes "heap") 1024 16777216 n → ⊥)
+    → (one_of (codes "heap") rows ≡ None → ⊥) → (o : CheckOptions) → HasCheckOptions rows o → ⊥
+no_check_options rows none given o says = go o.heap refl says.0
   where
     go : (heap : Option ℕ) → o.heap ≡ heap → HasOptionalNumber rows (codes "heap") heap → ⊥
     go None is h = given h

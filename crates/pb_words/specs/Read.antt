@@ -55,13 +55,13 @@ abbrev pub HasOptionalNumberIn : List Row → Text → (least most : ℕ) → Op
 HasOptionalNumberIn rows id least most (Some n) = HasNumberIn rows id least most n
 HasOptionalNumberIn rows id least most None = one_of id rows ≡ None
 
--- the number of `check`, if it is given
-abbrev pub HasCheckNumbers : List Row → CheckOptions → Type 0
-HasCheckNumbers rows o = HasOptionalNumber rows (codes "heap") o.heap
-
 -- the flag is set exactly if it was matched with the text that clap has for one that is given
 abbrev pub HasFlag : List Row → Text → Bool → Type 0
 HasFlag rows id set = IsTrue set ↔ (one_of id rows ≡ Some (codes "true"))
+
+-- the number of `check`, if it is given, and whether warnings are asked for
+abbrev pub HasCheckOptions : List Row → CheckOptions → Type 0
+HasCheckOptions rows o = HasOptionalNumber rows (codes "heap") o.heap × HasFlag rows (codes "warn") o.warn
 
 -- the word was matched for who decides on a request
 abbrev pub HasLend : List Row → Lend → Type 0
@@ -128,7 +128,7 @@ HasStatesOptions rows o = HasNumber rows (codes "rows") o.rows × HasNumber rows
 -- the options are those of this subcommand with these matches
 abbrev pub IsReadFrom : Text → List Row → Options → Type 0
 IsReadFrom name rows option.Bank = name ≡ codes "bank"
-IsReadFrom name rows (option.Check o) = (name ≡ codes "check") × HasCheckNumbers rows o
+IsReadFrom name rows (option.Check o) = (name ≡ codes "check") × HasCheckOptions rows o
 IsReadFrom name rows option.Claims = name ≡ codes "claims"
 IsReadFrom name rows option.Dap = name ≡ codes "dap"
 IsReadFrom name rows (option.Debug o) = (name ≡ codes "debug") × HasDebugOptions rows o

@@ -1,7 +1,7 @@
 //! Reads the words of a call.
 ghost use Rattle.std.specs.Prelude.{◌≡◌, ◌↔◌, IfErr, IfNone, IfOk, IfSome, IsTrue, None, Option, ℕ};
 ghost use Rattle.clap.specs.Words.{found_of, kind_of, one_of, rows_of, subcommand_rows_of};
-ghost use Rattle.pb_words.specs.Read.{BlamesWords, HasCheckNumbers, HasChanges, HasCode, HasDebugOptions, HasDrawOptions, HasEmitNumber};
+ghost use Rattle.pb_words.specs.Read.{BlamesWords, HasCheckOptions, HasChanges, HasCode, HasDebugOptions, HasDrawOptions, HasEmitNumber};
 ghost use Rattle.pb_words.specs.Read.{HasFlag, HasNumberIn, HasOptionalNumberIn, HasRecordNumbers, HasRunNumbers, HasLend, HasPlanLend, HasReplayLend, HasSearchOptions};
 ghost use Rattle.pb_words.specs.Read.{HasStatesOptions, IsReadFromMatches, WordsSay};
 ghost use Rattle.pb_words.specs.declared.words.Options.{Options as AnyOptions};
@@ -83,14 +83,18 @@ fn number_if_given(matches: &ArgMatches<'_>, id: &str, least: u32, most: u32) ->
 }
 
 fn check_options(matches: &ArgMatches<'_>) -> Option<CheckOptions>
-    ensures some { IfSome result (HasCheckNumbers (rows_of (found_of matches.now))) }
-    ensures none { IfNone result ((o : AnyCheckOptions) → HasCheckNumbers (rows_of (found_of matches.now)) o → ⊥) }
+    ensures some { IfSome result (HasCheckOptions (rows_of (found_of matches.now))) }
+    ensures none { IfNone result ((o : AnyCheckOptions) → HasCheckOptions (rows_of (found_of matches.now)) o → ⊥) }
 {
+    let warn = flag(matches, "warn");
     if is_absent(matches, "heap") {
-        return Some(CheckOptions { heap: None });
+        return Some(CheckOptions { heap: None, warn });
     }
     let size = number(matches, "heap", MIN_HEAP, MAX_HEAP)?;
-    Some(CheckOptions { heap: Some(size) })
+    Some(CheckOptions {
+        heap: Some(size),
+        warn,
+    })
 }
 
 /// Returns whether a flag was matched with the text of one that is given.
@@ -353,7 +357,7 @@ fn is_cash(matches: &ArgMatches<'_>) -> bool {
 /// Returns the text of a code that is not there, with those that are.
 fn codes_text(alloc: Global) -> Result<String, AllocError> {
     let mut text = String::new(alloc);
-    text.push_str("error: no refusal has this code\n\n  codes:")?;
+    text.push_str("error: no refusal and no warning has this code\n\n  codes:")?;
     for code in Code::ALL {
         text.push(' ')?;
         text.push_str(code.name())?;

@@ -17,6 +17,11 @@ use std::thread::Threads;
 /// The longest output that is expected, in bytes.
 const MAX_OUTPUT: usize = 4_096;
 
+const CHECKED: CheckOptions = CheckOptions {
+    heap: None,
+    warn: false,
+};
+
 const BY_BANKER: ReplayOptions = ReplayOptions { lend: Lend::Banker };
 
 const BY_CASH: ReplayOptions = ReplayOptions { lend: Lend::Cash };
@@ -81,7 +86,7 @@ fn status_of(
     let none = Changes::none();
     Some(match call.command {
         Command::Bank => bank_engine(alloc, &mut input, output),
-        Command::Check => write_checks(alloc, CheckOptions { heap: None }, &mut input, output),
+        Command::Check => write_checks(alloc, CHECKED, &mut input, output),
         Command::Claims => write_claims(alloc, &mut input, output),
         Command::Emit => {
             let options = EmitOptions {

@@ -1,10 +1,19 @@
-use Rattle.std.proofs.Common.{false}
-use Rattle.pb_accept.specs.Checks.{well}
-use Rattle.pb_accept.specs.Sayings.{Accepted}
+use Rattle.std.proofs.Common.{false, map}
+use Rattle.pb_accept.specs.Checks.{acceptance, well}
+use Rattle.pb_warnings.specs.Warnings.{warning}
 use Rattle.pb_accept.proofs.check.tell_answer.Goals as goal
 
-pub returns-in-Ok-tell : goal.returns-in-Ok-tell
-returns-in-Ok-tell g c = let program = rw c.in-Ok.is at c.requires.accepted in (Accepted, well program, c.in-Ok-tell.ensures.told)
+pub returns-in-Ok-tell_acceptance : goal.returns-in-Ok-tell_acceptance
+returns-in-Ok-tell_acceptance g c =
+    let program = rw c.in-Ok.is at c.requires.accepted in
+    λ warn told. let warned = rw c.in-Ok.is at told in
+    (acceptance (map warning c.in-Ok.found.items), well (map warning c.in-Ok.found.items) program warned, c.in-Ok-tell_acceptance.ensures.told)
 
-pub returns-in-Err-tell : goal.returns-in-Err-tell
-returns-in-Err-tell g c = let program = rw c.in-Ok.is at c.requires.accepted in (Accepted, false, well program, c.in-Err-tell.ensures.broken)
+pub returns-in-Err-tell_acceptance : goal.returns-in-Err-tell_acceptance
+returns-in-Err-tell_acceptance g c =
+    let program = rw c.in-Ok.is at c.requires.accepted in
+    λ warn told. let warned = rw c.in-Ok.is at told in
+    (acceptance (map warning c.in-Ok.found.items), false, well (map warning c.in-Ok.found.items) program warned, c.in-Err-tell_acceptance.ensures.broken)
+
+pub returns-in-Err : goal.returns-in-Err
+returns-in-Err g c = λ warn told. c.tell_refusal.ensures warn

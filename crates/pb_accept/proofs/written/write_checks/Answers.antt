@@ -9,7 +9,7 @@ use Rattle.pb_accept.proofs.written.write_checks.Goals as goal
 
 pub returns-clause-text : goal.returns-clause-text
 returns-clause-text g c =
-    lines_written SaysOfChecks (at g.O.Output.written g.O.Output.failures c.new-voice.result c.args.output.now)
+    lines_written (SaysOfChecks c.args.options.warn) (at g.O.Output.written g.O.Output.failures c.new-voice.result c.args.output.now)
     (at g.O.Output.written g.O.Output.failures c.check_engine-given.new.teller c.check_engine-given.new.output)
     c.check_engine-given.result c.finish.result (g.O.Output.written c.finish.new.output) (g.O.Output.failures c.finish.new.output)
     c.new-voice.ensures c.finish.ensures.text c.finish.ensures.faults
@@ -26,6 +26,6 @@ returns-clause-faults g c =
     (ap (λ (h : Held). h.waits) c.new-voice.ensures) c.finish.ensures.text c.finish.ensures.faults
     (λ device. let kept = c.finish.ensures.device device in
     (ap g.O.Output.written kept.0, ap g.O.Output.failures kept.0, kept.1))
-    (SaysOfAny SaysOfChecks) (λ bytes. nothing)
+    (SaysOfAny (SaysOfChecks c.args.options.warn)) (λ bytes. nothing)
     (g.I.Input.rest c.args.input.now) (g.I.Input.failures c.args.input.now) (g.I.Input.failures c.check_engine-given.new.input)
     c.check_engine-given.ensures

@@ -182,6 +182,18 @@ pub returns-in-B13 : goal.returns-in-B13
 unfolding entry_of
 returns-in-B13 c = ap entry_of (sym c.in-B13.is)
 
+pub returns-in-W1 : goal.returns-in-W1
+unfolding entry_of
+returns-in-W1 c = ap entry_of (sym c.in-W1.is)
+
+pub returns-in-W2 : goal.returns-in-W2
+unfolding entry_of
+returns-in-W2 c = ap entry_of (sym c.in-W2.is)
+
+pub returns-in-W3 : goal.returns-in-W3
+unfolding entry_of
+returns-in-W3 c = ap entry_of (sym c.in-W3.is)
+
 pub returns-in-Input : goal.returns-in-Input
 unfolding entry_of
 returns-in-Input c = ap entry_of (sym c.in-Input.is)
