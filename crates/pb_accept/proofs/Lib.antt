@@ -9,4 +9,3 @@ pub mod ReplayLemmas
 pub mod RunTextLemmas
 pub mod ShownLemmas
 pub mod StillLemmas
-pub mod WrittenLemmas

@@ -9,6 +9,7 @@ use pb_debug_tool::DebugTool;
 use pb_edit_tool::EditTool;
 use pb_run_tool::RunTool;
 use pb_search_tool::SearchTool;
+use pb_voice::Form;
 use pb_words::Tool;
 use std::sync::Wait;
 use std::thread::Threads;
@@ -28,6 +29,7 @@ fn says<R: AllocGlobal + Threads + Wait + Sync, C: Commands>(
         commands,
         rt,
         rt.alloc(),
+        Form::Lines,
         words.as_slice(),
         &mut input,
         &mut output,
