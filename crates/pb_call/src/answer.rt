@@ -49,15 +49,24 @@ fn say_tool<O: Output>(voice: &mut Voice, output: &mut O, tool: Tool) -> Result<
     ensures err { OnErr result (Breaks (at O.written O.failures voice.old output.old) (elsewhere voice.old.form tool)
         (at O.written O.failures voice.new output.new)) }
 {
-    let front: &[u8] = match voice.form() {
-        Form::Lines => b"error: this command is answered by ",
-        Form::Objects => b"{\"kind\":\"line\",\"text\":\"error: this command is answered by ",
-    };
-    let end: &[u8] = match voice.form() {
-        Form::Lines => b"\n",
-        Form::Objects => b"\"}\n",
-    };
-    voice.say_all(output, &[front, tool.name().as_bytes(), end])
+    match voice.form() {
+        Form::Lines => voice.say_all(
+            output,
+            &[
+                b"error: this command is answered by ",
+                tool.name().as_bytes(),
+                b"\n",
+            ],
+        ),
+        Form::Objects => voice.say_all(
+            output,
+            &[
+                b"{\"kind\":\"line\",\"text\":\"error: this command is answered by ",
+                tool.name().as_bytes(),
+                b"\"}\n",
+            ],
+        ),
+    }
 }
 
 /// Writes which tool answers the command.
@@ -101,12 +110,7 @@ fn status_of(fault: &WordsFault) -> Status
 }
 
 /// Writes the text of a fault, and returns its status.
-pub fn refuse<O: Output>(
-    alloc: Global,
-    form: Form,
-    output: &mut O,
-    fault: &WordsFault,
-) -> Status
+pub fn refuse<O: Output>(alloc: Global, form: Form, output: &mut O, fault: &WordsFault) -> Status
     ensures text { Says (O.written output.old) (O.written output.new) (words_fault_text form fault.now) (fault_status fault.now) result }
     ensures faults { TellsWriteFaults (O.failures output.old) (O.failures output.new) result }
 {
