@@ -12,7 +12,8 @@ use Rattle.pb_base.specs.declared.limits.TheConstants.{MAX_INPUT}
 use Rattle.pb_base.specs.declared.memory.NoMemory.{NoMemory}
 use Rattle.pb_code.specs.declared.format.Format.{Format}
 use Rattle.pb_codegen.specs.Compiled.{IsCompiled}
-use Rattle.pb_accept.specs.Claims.{SaysOfAny, no_memory, read}
+use Rattle.pb_accept.specs.Claims.{SaysOfAny}
+use Rattle.pb_voice.specs.Inputs.{no_memory, read}
 use Rattle.pb_accept.specs.Emissions.{IsBeyond, IsWrittenIn, SaysOfCode, SaysOfEmission, beyond, emitted, written}
 use Rattle.pb_accept.specs.Emissions.{no_memory as code_memory}
 use Rattle.pb_accept.specs.Loading.{IsLoaded}

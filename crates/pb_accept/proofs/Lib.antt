@@ -10,4 +10,3 @@ pub mod RunTextLemmas
 pub mod ShownLemmas
 pub mod StillLemmas
 pub mod WarnedLemmas
-pub mod WrittenLemmas

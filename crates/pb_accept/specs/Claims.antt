@@ -1,9 +1,8 @@
 -- What `claims` says of an input, as data, and with which status.
-use Rattle.std.specs.Prelude.{◌<◌, ◌≤◌, ◌≢◌, ℕ, List, [], ◌∷◌, length}
+use Rattle.std.specs.Prelude.{◌≢◌, ℕ, List, [], ◌∷◌}
 use Rattle.std.specs.List.{flat_map, zip}
 use Rattle.pb_accept.specs.Sayings.{Saying, Claim, NoMemory, Refused, TooLong}
 use Rattle.pb_base.specs.Steppers.{Table}
-use Rattle.pb_base.specs.declared.limits.TheConstants.{MAX_INPUT}
 use Rattle.pb_codegen.specs.Compiled.{IsBeforeClaims, IsRefused}
 use Rattle.pb_codegen.specs.Numbered.{IsReadAs}
 use Rattle.pb_codegen.specs.declared.fault.CompileFault.{CompileFault}
@@ -12,6 +11,7 @@ use Rattle.pb_command_io.specs.declared.status.Status.{Status}
 use Rattle.pb_command_io.specs.declared.status.Status.TheVariants as status
 use Rattle.pb_names.specs.Program.{Name, Program}
 use Rattle.pb_names.specs.Resolves.{process_names, resource_names}
+use Rattle.pb_voice.specs.Inputs as inputs
 
 -- what is said of a process: its claim on each resource, in the order of the resources
 abbrev pub said_of_process : List Name → Name → List ℕ → List Saying
@@ -31,13 +31,6 @@ pub data SaysOfClaims (text : List ℕ) : List Saying → Status → Type 0 wher
   claimed : (program : Program) (claims : Table) → IsReadAs text program claims
       → SaysOfClaims text (said_of_program program claims) status.Done
 
--- what is said of any input of which this is said if it is read: it is too long; or out of memory; or a device fails
-pub data SaysOfAny (SaysOf : List ℕ → List Saying → Status → Type 0) (bytes : List ℕ) : List Saying → Status → Type 0 where
-  too_long : MAX_INPUT < length bytes → SaysOfAny SaysOf bytes (TooLong ∷ []) status.Refused
-  no_memory : SaysOfAny SaysOf bytes (NoMemory ∷ []) status.Memory
-  nothing : SaysOfAny SaysOf bytes [] status.Device
-  read : (said : List Saying) (given : Status) → length bytes ≤ MAX_INPUT → SaysOf bytes said given → SaysOfAny SaysOf bytes said given
-
--- nothing may be said of bytes that are not read
-abbrev pub SaysOfNothing : List ℕ → List Saying → Status → Type 0
-SaysOfNothing bytes said given = ⊥
+-- what may be said of any input of which this is said if it is read
+abbrev pub SaysOfAny : (List ℕ → List Saying → Status → Type 0) → List ℕ → List Saying → Status → Type 0
+SaysOfAny = inputs.SaysOfWhole TooLong NoMemory

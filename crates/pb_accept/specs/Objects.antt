@@ -19,13 +19,9 @@ use Rattle.pb_names.specs.declared.fault.Kind.TheVariants.{Processes, Resources,
 use Rattle.pb_names.specs.declared.fault.NameFault.{NameFault}
 use Rattle.pb_names.specs.declared.fault.NameFault.TheVariants as names
 use Rattle.pb_options.specs.Codes.{code_name}
-use Rattle.pb_voice.specs.Texts.{lines_json}
+use Rattle.pb_voice.specs.Texts.{lines_json, memory_json}
 use Rattle.pb_voice.specs.declared.form.Form.{Form}
 use Rattle.pb_voice.specs.declared.form.Form.TheVariants.{Lines, Objects}
-
--- out of memory
-abbrev pub memory_json : List ℕ
-memory_json = codes "{\"kind\":\"memory\"}\n"
 
 -- an offset after a code
 abbrev pub offset_json : Option ℕ → List ℕ

@@ -109,7 +109,7 @@ fn tell_fault<O: Output>(
 }
 
 /// Tells a thing by its line.
-pub(crate) fn tell_line<O: Output>(
+pub fn tell_line<O: Output>(
     voice: &mut Voice,
     output: &mut O,
     said: Said<'_>,

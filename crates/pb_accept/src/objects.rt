@@ -35,7 +35,7 @@ fn kind_json(kind: Kind) -> &'static [u8]
 }
 
 /// Returns the member after the code of a fault of names.
-fn limit_json(fault: NameFault) -> &'static [u8]
+pub fn limit_json(fault: NameFault) -> &'static [u8]
     ensures { result.now ≡ spec.limit_json fault }
 {
     match fault {
@@ -184,7 +184,7 @@ fn ending_json(ending: Ending) -> &'static [u8]
 }
 
 /// Tells a thing by its object.
-pub(crate) fn tell_object<O: Output>(
+pub fn tell_object<O: Output>(
     voice: &mut Voice,
     output: &mut O,
     said: Said<'_>,

@@ -1,7 +1,8 @@
 //! The input of an engine that tells what it finds.
 
 ghost use Rattle.std.specs.Prelude.{◌≡◌, ◌≤◌, IfErr, IfOk, IfSome, OnOk, length};
-ghost use Rattle.pb_accept.specs.Claims.{SaysOfAny, SaysOfNothing};
+ghost use Rattle.pb_accept.specs.Claims.{SaysOfAny};
+ghost use Rattle.pb_voice.specs.Inputs.{SaysOfNothing};
 ghost use Rattle.pb_voice.specs.Held.{at};
 ghost use Rattle.pb_voice.specs.Tellings.{Answers};
 

@@ -11,6 +11,7 @@ use Rattle.pb_debug_tool.specs.Debug as debug
 use Rattle.pb_edit_tool.specs.Edit as edit
 use Rattle.pb_run_tool.specs.Run as run
 use Rattle.pb_search_tool.specs.Search as search_tool
+use Rattle.pb_voice.specs.declared.form.Form.TheVariants.{Lines}
 use Rattle.pb_words.specs.Read.{BlamesWords, WordsSay}
 use Rattle.pb_words.specs.Tools.{tool_for}
 use Rattle.pb_words.specs.declared.tool.Tool.TheVariants as tool
@@ -21,15 +22,15 @@ use Rattle.pb_words.specs.declared.words.WordsFault.TheVariants as fault
 
 -- what is written if the words were not read
 pub CallWrites-refused : (words : List (Bor (List ℕ))) (rest old new : Option (List ℕ)) (status : Status) (e : WordsFault)
-    → (BlamesWords e → (o : Options) → WordsSay words o → ⊥) → Says old new (words_fault_text e) (fault_status e) status
+    → (BlamesWords e → (o : Options) → WordsSay words o → ⊥) → Says old new (words_fault_text Lines e) (fault_status e) status
     → CallWrites words rest old new status
-CallWrites-refused words rest old new status (fault.Words text) none says = inr (inl (none tt, (words_fault_text (fault.Words text), says)))
+CallWrites-refused words rest old new status (fault.Words text) none says = inr (inl (none tt, (text.bytes.items, says)))
 CallWrites-refused words rest old new status fault.Memory none says = inr (inr says)
 
 -- what the command of a tool tells
 module _ (rest left old new : Option (List ℕ)) (status : Status) where
   pub bank_tells : (o : Options) → tool_for o ≡ tool.Bank
-      → IfSome (bytes_for o rest) (λ bytes. Tells (bank.says o bytes) old new status)
+      → IfSome (bytes_for o rest) (λ bytes. Tells (bank.says Lines o bytes) old new status)
       → IfSome (bytes_for o rest) (λ bytes. Tells (CommandSays o bytes) old new status)
   bank_tells option.Bank is says = says
   bank_tells (option.Check x) is says = absurd cc
@@ -69,7 +70,7 @@ module _ (rest left old new : Option (List ℕ)) (status : Status) where
   bank_leaves (option.States x) is leaves = absurd cc
 
   pub debug_tells : (o : Options) → tool_for o ≡ tool.Debug
-      → IfSome (bytes_for o rest) (λ bytes. Tells (debug.says o bytes) old new status)
+      → IfSome (bytes_for o rest) (λ bytes. Tells (debug.says Lines o bytes) old new status)
       → IfSome (bytes_for o rest) (λ bytes. Tells (CommandSays o bytes) old new status)
   debug_tells option.Bank is says = absurd cc
   debug_tells (option.Check x) is says = absurd cc
@@ -109,7 +110,7 @@ module _ (rest left old new : Option (List ℕ)) (status : Status) where
   debug_leaves (option.States x) is leaves = absurd cc
 
   pub edit_tells : (o : Options) → tool_for o ≡ tool.Edit
-      → IfSome (bytes_for o rest) (λ bytes. Tells (edit.says o bytes) old new status)
+      → IfSome (bytes_for o rest) (λ bytes. Tells (edit.says Lines o bytes) old new status)
       → IfSome (bytes_for o rest) (λ bytes. Tells (CommandSays o bytes) old new status)
   edit_tells option.Bank is says = absurd cc
   edit_tells (option.Check x) is says = absurd cc
@@ -149,7 +150,7 @@ module _ (rest left old new : Option (List ℕ)) (status : Status) where
   edit_leaves (option.States x) is leaves = absurd cc
 
   pub run_tells : (o : Options) → tool_for o ≡ tool.Run
-      → IfSome (bytes_for o rest) (λ bytes. Tells (run.says o bytes) old new status)
+      → IfSome (bytes_for o rest) (λ bytes. Tells (run.says Lines o bytes) old new status)
       → IfSome (bytes_for o rest) (λ bytes. Tells (CommandSays o bytes) old new status)
   run_tells option.Bank is says = absurd cc
   run_tells (option.Check x) is says = says
@@ -189,7 +190,7 @@ module _ (rest left old new : Option (List ℕ)) (status : Status) where
   run_leaves (option.States x) is leaves = absurd cc
 
   pub search_tells : (o : Options) → tool_for o ≡ tool.Search
-      → IfSome (bytes_for o rest) (λ bytes. Tells (search_tool.says o bytes) old new status)
+      → IfSome (bytes_for o rest) (λ bytes. Tells (search_tool.says Lines o bytes) old new status)
       → IfSome (bytes_for o rest) (λ bytes. Tells (CommandSays o bytes) old new status)
   search_tells option.Bank is says = absurd cc
   search_tells (option.Check x) is says = absurd cc

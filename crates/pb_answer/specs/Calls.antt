@@ -3,7 +3,7 @@ use Rattle.std.specs.Prelude.{◌≡◌, ◌≢◌, ◌⊎◌, ℕ, List, IfSome
 use Rattle.std.specs.Borrow.{Bor}
 use Rattle.clap.specs.Words.{Text}
 use Rattle.pb_accept.specs.Checks.{SaysOfChecks}
-use Rattle.pb_accept.specs.Claims.{SaysOfClaims}
+use Rattle.pb_accept.specs.Claims.{SaysOfAny, SaysOfClaims}
 use Rattle.pb_accept.specs.Emissions.{SaysOfEmission}
 use Rattle.pb_accept.specs.Migrations.{SaysOfMigration}
 use Rattle.pb_accept.specs.Replays.{SaysOfReplay}
@@ -33,6 +33,7 @@ use Rattle.pb_search_engine.specs.SaysOfAll.{SaysOfSearches}
 use Rattle.pb_search_tool.specs.Search.{shown_by}
 use Rattle.pb_server_engine.specs.Servers.{SaysOfServer}
 use Rattle.pb_voice.specs.Voices.{Written}
+use Rattle.pb_voice.specs.declared.form.Form.TheVariants.{Lines}
 use Rattle.pb_words.specs.Read.{WordsSay}
 use Rattle.pb_words.specs.declared.words.Options.{Options}
 use Rattle.pb_words.specs.declared.words.Options.TheVariants as option
@@ -40,21 +41,21 @@ use Rattle.pb_words.specs.declared.words.Options.TheVariants as option
 -- what a command may say of an input
 abbrev pub CommandSays : Options → List ℕ → List ℕ → Status → Type 0
 CommandSays option.Bank = SaysOfBank
-CommandSays (option.Check numbers) = SaysOfInput (Written line_of (SaysOfChecks numbers.warn))
-CommandSays option.Claims = SaysOfInput (Written line_of SaysOfClaims)
+CommandSays (option.Check numbers) = Written line_of (SaysOfAny (SaysOfChecks numbers.warn))
+CommandSays option.Claims = Written line_of (SaysOfAny SaysOfClaims)
 CommandSays option.Dap = SaysOfAdapter
 CommandSays (option.Debug flags) = says_of_commands flags.live (lending_for flags.lend)
 CommandSays (option.Draw options) = SaysOfInput (SaysOfDraw (lending_for options.lend) (size_of options))
-CommandSays (option.Emit numbers) = SaysOfInput (Written line_of (SaysOfEmission numbers.object))
-CommandSays (option.Exec numbers) = SaysOfInput (Written line_of (SaysOfExecution numbers.steps))
+CommandSays (option.Emit numbers) = Written line_of (SaysOfAny (SaysOfEmission numbers.object))
+CommandSays (option.Exec numbers) = Written line_of (SaysOfAny (SaysOfExecution numbers.steps))
 CommandSays (option.Explain code) = λ bytes. SaysOfExplain code
 CommandSays option.Lsp = SaysOfServer
-CommandSays option.Migrate = SaysOfInput (Written line_of SaysOfMigration)
+CommandSays option.Migrate = Written line_of (SaysOfAny SaysOfMigration)
 CommandSays (option.Outcomes numbers) = SaysOfInput (SaysOfSearches numbers)
 CommandSays (option.Plan options changes) = SaysOfInput (SaysOfPlan (lending_for options.lend) (changes_in changes))
 CommandSays (option.Record numbers) = SaysOfInput (SaysOfRecord (lending_for numbers.lend) numbers.run.steps numbers.seed)
-CommandSays (option.Replay options) = SaysOfInput (Written line_of (SaysOfReplay (lending_for options.lend)))
-CommandSays (option.Run numbers) = SaysOfInput (Written line_of (SaysOfTextRun numbers.steps))
+CommandSays (option.Replay options) = Written line_of (SaysOfAny (SaysOfReplay (lending_for options.lend)))
+CommandSays (option.Run numbers) = Written line_of (SaysOfAny (SaysOfTextRun numbers.steps))
 CommandSays (option.States options) = SaysOfInput (SaysOfStates (lending_for options.lend) (shown_by options))
 
 -- the words say a command, which tells of these bytes what it may
@@ -67,7 +68,7 @@ CommandWrites words rest old new status =
 abbrev pub CallWrites : List (Bor Text) → (rest old new : Option (List ℕ)) → Status → Type 0
 CallWrites words rest old new status =
     CommandWrites words rest old new status
-    ⊎ (RefusesWords words old new status ⊎ Says old new memory_line Memory status)
+    ⊎ (RefusesWords Lines words old new status ⊎ Says old new memory_line Memory status)
 
 -- what is written when a read of a command fails: nothing, but by those that answer as they read on
 abbrev pub CommandLeaves : Options → (rest left : Option (List ℕ)) → (old new : Option (List ℕ)) → Type 0

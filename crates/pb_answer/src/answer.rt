@@ -15,6 +15,7 @@ use pb_debug_tool::DebugTool;
 use pb_edit_tool::EditTool;
 use pb_run_tool::RunTool;
 use pb_search_tool::SearchTool;
+use pb_voice::Form;
 use pb_words::{Options, Tool, options, tool_of};
 use std::alloc::Global;
 use std::sync::Wait;
@@ -37,7 +38,7 @@ pub fn answer<I: Input, O: Output, R: Threads + Wait + Sync>(
 {
     match options(alloc, words) {
         Ok(options) => answer_command(rt, alloc, options, input, output),
-        Err(fault) => refuse(alloc, output, &fault),
+        Err(fault) => refuse(alloc, Form::Lines, output, &fault),
     }
 }
 
@@ -78,7 +79,7 @@ fn by_tool<R: Threads + Wait + Sync, C: Commands, I: Input, O: Output>(
 ) -> Status
     requires { tool_for options ≡ C.tool }
     ensures text { IfSome (bytes_for options (I.rest input.old)) (λ bytes.
-        Tells (C.MaySay options bytes) (O.written output.old) (O.written output.new) result) }
+        Tells (C.MaySay Form.Lines options bytes) (O.written output.old) (O.written output.new) result) }
     ensures faults { TellsAnyFault
         (record { reads = I.failures input.old; writes = O.failures output.old; written = O.written output.old })
         (record { reads = I.failures input.new; writes = O.failures output.new; written = O.written output.new })
@@ -86,7 +87,7 @@ fn by_tool<R: Threads + Wait + Sync, C: Commands, I: Input, O: Output>(
     ensures read { I.failures input.new ≢ I.failures input.old →
         C.Leaves options (I.rest input.old) (I.rest input.new) (O.written output.old) (O.written output.new) }
 {
-    match commands.answer(rt, alloc, options, input, output) {
+    match commands.answer(rt, alloc, Form::Lines, options, input, output) {
         Some(status) => status,
         None => unreachable!(),
     }

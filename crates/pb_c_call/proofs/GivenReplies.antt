@@ -5,7 +5,6 @@ use Rattle.std.specs.Borrow.{Bor}
 use Rattle.clap.specs.Walk.{Text, texts}
 use Rattle.pb_answer.specs.Calls.{CallWrites}
 use Rattle.pb_command_io.specs.Answers.{Tells}
-use Rattle.pb_command_io.specs.Inputs.{SaysOfInput}
 use Rattle.pb_command_io.specs.declared.status.Status.{Status}
 use Rattle.pb_c_call.specs.Replies.{IsGiven, KeptBytes, number_said, RefusesThreads, Replies, Tellings}
 
@@ -25,10 +24,10 @@ replied words input read source old new status is from nothing writes = (
 )
 
 pub told : (says : List ℕ → List ℕ → Status → Type 0) (input source old new : List ℕ) (status : Status)
-    → source ≡ input → old ≡ [] → Tells (SaysOfInput says source) (Some old) (Some new) status → Tellings says input new status
+    → source ≡ input → old ≡ [] → Tells (says source) (Some old) (Some new) status → Tellings says input new status
 told says input source old new status from nothing tells =
-    subst (λ (o : List ℕ). Tells (SaysOfInput says input) (Some o) (Some new) status) nothing
-    (subst (λ (i : List ℕ). Tells (SaysOfInput says i) (Some old) (Some new) status) from tells)
+    subst (λ (o : List ℕ). Tells (says input) (Some o) (Some new) status) nothing
+    (subst (λ (i : List ℕ). Tells (says i) (Some old) (Some new) status) from tells)
 
 pub given : (IsReply : List ℕ → Status → Type 0) (output room new bytes : List ℕ) (status : Status) (said : ℕ) → IsReply new status
     → said ≡ number_said status → bytes ≡ new → length output ≡ length room

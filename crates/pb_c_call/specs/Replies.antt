@@ -5,7 +5,6 @@ use Rattle.std.specs.Str.{IsUtf8}
 use Rattle.clap.specs.Walk.{Text, texts}
 use Rattle.pb_answer.specs.Calls.{CallWrites}
 use Rattle.pb_command_io.specs.Answers.{Tells}
-use Rattle.pb_command_io.specs.Inputs.{SaysOfInput}
 use Rattle.pb_command_io.specs.declared.status.Status.{Status}
 use Rattle.pb_command_io.specs.declared.status.Status.TheVariants.{Device, Memory, Threads}
 use Rattle.pb_command_io.specs.Statuses.{status_number}
@@ -41,7 +40,7 @@ Replies words input reply status =
 
 -- what an engine may tell of these bytes
 abbrev pub Tellings : (List ℕ → List ℕ → Status → Type 0) → (input reply : List ℕ) (status : Status) → Type 0
-Tellings says input reply status = Tells (SaysOfInput says input) (Some []) (Some reply) status
+Tellings says input reply status = Tells (says input) (Some []) (Some reply) status
 
 -- the number that a call returns for a status: that of the program, but that of out of memory if a write failed, since the
 -- output is in memory and there is no device

@@ -23,6 +23,7 @@ use pb_search_engine::outcomes_engine;
 use pb_search_tool::plan::plan;
 use pb_search_tool::states::states;
 use pb_server_engine::server_engine;
+use pb_voice::Form;
 use pb_words::{Options, options};
 use std::alloc::Global;
 
@@ -40,18 +41,18 @@ pub fn answer_alone<I: Input, O: Output>(
 {
     match options(alloc, words) {
         Ok(Options::Bank) => bank_engine(alloc, input, output),
-        Ok(Options::Check(numbers)) => write_checks(alloc, numbers, input, output),
-        Ok(Options::Claims) => write_claims(alloc, input, output),
+        Ok(Options::Check(numbers)) => write_checks(alloc, Form::Lines, numbers, input, output),
+        Ok(Options::Claims) => write_claims(alloc, Form::Lines, input, output),
         Ok(Options::Dap) => adapter_engine(alloc, input, output),
         Ok(Options::Debug(flags)) => debug(alloc, flags, input, output),
         Ok(Options::Draw(options)) => draw_engine(alloc, options, input, output),
-        Ok(Options::Emit(numbers)) => write_emission(alloc, numbers, input, output),
+        Ok(Options::Emit(numbers)) => write_emission(alloc, Form::Lines, numbers, input, output),
         Ok(Options::Explain(code)) => explain_engine(alloc, code, output),
         Ok(Options::Lsp) => server_engine(alloc, input, output),
-        Ok(Options::Migrate) => write_migration(alloc, input, output),
+        Ok(Options::Migrate) => write_migration(alloc, Form::Lines, input, output),
         Ok(Options::Outcomes(numbers)) => outcomes_engine(alloc, numbers, input, output),
         Ok(Options::Plan(options, changes)) => plan(alloc, options, &changes, input, output),
-        Ok(Options::Replay(options)) => write_replay(alloc, options, input, output),
+        Ok(Options::Replay(options)) => write_replay(alloc, Form::Lines, options, input, output),
         Ok(Options::Exec(numbers)) => {
             let _ = numbers;
             Status::Threads
@@ -62,7 +63,7 @@ pub fn answer_alone<I: Input, O: Output>(
             Status::Threads
         }
         Ok(Options::States(options)) => states(alloc, options, input, output),
-        Err(fault) => refuse(alloc, output, &fault),
+        Err(fault) => refuse(alloc, Form::Lines, output, &fault),
     }
 }
 

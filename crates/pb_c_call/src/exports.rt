@@ -3,10 +3,11 @@
 
 ghost use Rattle.std.specs.Prelude.{◌≢◌, ◌⊎◌, [], map};
 ghost use Rattle.pb_accept.specs.Checks.{SaysOfChecks};
-ghost use Rattle.pb_accept.specs.Claims.{SaysOfClaims};
+ghost use Rattle.pb_accept.specs.Claims.{SaysOfAny, SaysOfClaims};
 ghost use Rattle.pb_accept.specs.Sayings.{line_of};
 ghost use Rattle.pb_c_call.specs.Replies.{IsGiven, IsNotRead, Replies, Tellings};
 ghost use Rattle.pb_plan_engine.specs.PlanLines.{SaysOfPlan};
+ghost use Rattle.pb_command_io.specs.Inputs.{SaysOfInput};
 ghost use Rattle.pb_voice.specs.Voices.{Written};
 
 use crate::alone::answer_alone;
@@ -18,6 +19,7 @@ use pb_capitals::Changes;
 use pb_command_io::Status;
 use pb_options::CheckOptions;
 use pb_plan_engine::plan_engine;
+use pb_voice::Form;
 use std::alloc::Global;
 
 /// Does what the words of a call say with the bytes of an input, and gives the reply. Its length is written to
@@ -54,7 +56,7 @@ pub extern "C" fn pb_call(
 /// reply as `pb_call` does.
 #[unsafe(no_mangle)]
 pub extern "C" fn pb_check(alloc: Global, text: &[u8], output: &mut [u8], needed: &mut usize) -> u8
-    ensures given { IsGiven (Tellings (Written line_of (SaysOfChecks false)) text.now) output.new result needed.new }
+    ensures given { IsGiven (Tellings (Written line_of (SaysOfAny (SaysOfChecks false))) text.now) output.new result needed.new }
     ensures no_device { result ≢ 6 }
 {
     let mut source = MemoryInput::new(text);
@@ -63,7 +65,7 @@ pub extern "C" fn pb_check(alloc: Global, text: &[u8], output: &mut [u8], needed
         heap: None,
         warn: false,
     };
-    let status = write_checks(alloc, options, &mut source, &mut reply);
+    let status = write_checks(alloc, Form::Lines, options, &mut source, &mut reply);
     let bytes = reply.as_slice();
     put_front(output, bytes);
     *needed = bytes.len();
@@ -74,12 +76,12 @@ pub extern "C" fn pb_check(alloc: Global, text: &[u8], output: &mut [u8], needed
 /// as `pb_call` does.
 #[unsafe(no_mangle)]
 pub extern "C" fn pb_claims(alloc: Global, text: &[u8], output: &mut [u8], needed: &mut usize) -> u8
-    ensures given { IsGiven (Tellings (Written line_of SaysOfClaims) text.now) output.new result needed.new }
+    ensures given { IsGiven (Tellings (Written line_of (SaysOfAny SaysOfClaims)) text.now) output.new result needed.new }
     ensures no_device { result ≢ 6 }
 {
     let mut source = MemoryInput::new(text);
     let mut reply = Kept::new(alloc);
-    let status = write_claims(alloc, &mut source, &mut reply);
+    let status = write_claims(alloc, Form::Lines, &mut source, &mut reply);
     let bytes = reply.as_slice();
     put_front(output, bytes);
     *needed = bytes.len();
@@ -90,7 +92,7 @@ pub extern "C" fn pb_claims(alloc: Global, text: &[u8], output: &mut [u8], neede
 /// banker, and gives the reply as `pb_call` does.
 #[unsafe(no_mangle)]
 pub extern "C" fn pb_plan(alloc: Global, texts: &[u8], output: &mut [u8], needed: &mut usize) -> u8
-    ensures given { IsGiven (Tellings (SaysOfPlan Lending.ByBanker []) texts.now) output.new result needed.new }
+    ensures given { IsGiven (Tellings (SaysOfInput (SaysOfPlan Lending.ByBanker [])) texts.now) output.new result needed.new }
     ensures no_device { result ≢ 6 }
 {
     let mut source = MemoryInput::new(texts);

@@ -7,6 +7,7 @@ use Rattle.pb_command_io.specs.Answers.{Says, Tells}
 use Rattle.pb_command_io.specs.Faults.{Devices, TellsAnyFault, TellsFaults, TellsWriteFaults}
 use Rattle.pb_command_io.specs.declared.status.Status.{Status}
 use Rattle.pb_json_lines.proofs.ReplyLemmas.{is_device}
+use Rattle.pb_voice.specs.declared.form.Form.{Form}
 use Rattle.pb_words.specs.Read.{BlamesWords, WordsSay}
 use Rattle.pb_words.specs.declared.tool.Tool.{Tool}
 use Rattle.pb_words.specs.declared.words.Options.{Options}
@@ -14,12 +15,11 @@ use Rattle.pb_words.specs.declared.words.WordsFault.{WordsFault}
 use Rattle.pb_words.specs.declared.words.WordsFault.TheVariants as fault
 
 -- what is written if the words were not read
-pub CallWrites-refused : (tool : Tool) (MaySay : Saying) (words : List (Bor (List ℕ))) (rest old new : Option (List ℕ)) (status : Status)
+pub CallWrites-refused : (tool : Tool) (MaySay : Saying) (form : Form) (words : List (Bor (List ℕ))) (rest old new : Option (List ℕ)) (status : Status)
     (e : WordsFault) → (BlamesWords e → (o : Options) → WordsSay words o → ⊥)
-    → Says old new (words_fault_text e) (fault_status e) status → CallWrites tool MaySay words rest old new status
-CallWrites-refused tool MaySay words rest old new status (fault.Words text) none says =
-    inr (inr (inl (none tt, (words_fault_text (fault.Words text), says))))
-CallWrites-refused tool MaySay words rest old new status fault.Memory none says = inr (inr (inr says))
+    → Says old new (words_fault_text form e) (fault_status e) status → CallWrites tool MaySay form words rest old new status
+CallWrites-refused tool MaySay form words rest old new status (fault.Words text) none says = inr (inr (inl (none tt, (text.bytes.items, says))))
+CallWrites-refused tool MaySay form words rest old new status fault.Memory none says = inr (inr (inr says))
 
 -- a command that writes nothing before it has read all tells its faults as one does that may
 pub any_fault : (old new : Devices) (status : Status) → TellsFaults old new status → TellsAnyFault old new status
@@ -48,7 +48,7 @@ write_faults old new status same tells = (λ other. (same, tells.0 other), λ de
 
 -- what is told of options that are these
 module _ (rest left old new : Option (List ℕ)) (status : Status) (o p : Options) (is : o ≡ p) where
-  pub tells_as : (MaySay : Saying) → IfSome (bytes_for p rest) (λ bytes. Tells (MaySay p bytes) old new status)
+  pub tells_as : (MaySay : Options → List ℕ → List ℕ → Status → Type 0) → IfSome (bytes_for p rest) (λ bytes. Tells (MaySay p bytes) old new status)
       → IfSome (bytes_for o rest) (λ bytes. Tells (MaySay o bytes) old new status)
   tells_as MaySay tells =
       subst (λ (x : Options). IfSome (bytes_for x rest) (λ bytes. Tells (MaySay x bytes) old new status)) (sym is) tells

@@ -11,6 +11,8 @@ use Rattle.pb_json_lines.specs.Dialects.{comes_live, dialect_of}
 use Rattle.pb_json_lines.specs.Live.{IsEnded, LiveSink, begun, failures_of_writers, seen_by_writers}
 use Rattle.pb_json_lines.specs.Replies.{TellsInJson}
 use Rattle.pb_json_lines.specs.declared.form.Dialect.{Dialect}
+use Rattle.pb_voice.specs.declared.form.Form.{Form}
+use Rattle.pb_voice.specs.declared.form.Form.TheVariants.{Lines, Objects}
 use Rattle.pb_words.specs.Read.{WordsSay}
 use Rattle.pb_words.specs.declared.tool.Tool.{Tool}
 use Rattle.pb_words.specs.declared.words.Options.{Options}
@@ -145,7 +147,7 @@ TellsPerson TellsRefused words heard status kept old new =
 -- command, with its status
 abbrev pub WritesJson : Tool → Saying → (words : List (Bor Text)) → (rest old new : Option (List ℕ)) → Status → Type 0
 WritesJson tool MaySay words rest old new status =
-    (bytes : List ℕ) × (given : Status) × CallWrites tool MaySay words rest (Some []) (Some bytes) given
+    (bytes : List ℕ) × (given : Status) × CallWrites tool MaySay Lines words rest (Some []) (Some bytes) given
     × TellsInJson (dialect_of (map (λ word. word.now) words) given) bytes given old new status
 
 -- the devices of a call, as they are seen who writes to its output
@@ -158,7 +160,7 @@ pub record AnswersLive (tool : Tool) (MaySay : Saying) (Leaves : AfterRead) (dia
     (rest left : Option (List ℕ)) (reads_old reads_new : ℕ) (old new : LiveSink) (status : Status) : Type 0 where
   pub given : Status
   pub heard : LiveSink
-  pub writes : CallWrites tool MaySay words rest (seen_by_writers (begun dialect old)) (seen_by_writers heard) given
+  pub writes : CallWrites tool MaySay Lines words rest (seen_by_writers (begun dialect old)) (seen_by_writers heard) given
   pub faults : CallTellsFaults tool Leaves words rest left (devices_of reads_old (begun dialect old)) (devices_of reads_new heard) given
   pub ended : IsEnded heard given new status
 
@@ -171,21 +173,39 @@ AnswersInJson tool MaySay Leaves false words rest left reads_old reads_new old n
     WritesJson tool MaySay words rest (seen_by_writers old) (seen_by_writers new) status
     × TellsFaults (devices_of reads_old old) (devices_of reads_new new) status
 
--- the answer of a call, as it is or in JSON lines
-abbrev pub Answers : Tool → Saying → AfterRead → (json : Bool) → (words : List (Bor Text)) → (rest left : Option (List ℕ))
+-- the answer of a call whose command writes in this form
+abbrev pub AnswersInForm : Tool → Saying → AfterRead → Form → (words : List (Bor Text)) → (rest left : Option (List ℕ))
     → (reads_old reads_new : ℕ) → (old new : LiveSink) → Status → Type 0
-Answers tool MaySay Leaves false words rest left reads_old reads_new old new status =
-    CallWrites tool MaySay words rest (seen_by_writers old) (seen_by_writers new) status
+AnswersInForm tool MaySay Leaves form words rest left reads_old reads_new old new status =
+    CallWrites tool MaySay form words rest (seen_by_writers old) (seen_by_writers new) status
     × CallTellsFaults tool Leaves words rest left (devices_of reads_old old) (devices_of reads_new new) status
-Answers tool MaySay Leaves true words rest left reads_old reads_new old new status =
+
+-- the answer of a call in JSON, by whether its command writes objects itself; if it does not, they are made of its lines
+abbrev pub AnswersAsObjects : Tool → Saying → AfterRead → (itself : Bool) → (words : List (Bor Text)) → (rest left : Option (List ℕ))
+    → (reads_old reads_new : ℕ) → (old new : LiveSink) → Status → Type 0
+AnswersAsObjects tool MaySay Leaves true words rest left reads_old reads_new old new status =
+    AnswersInForm tool MaySay Leaves Objects words rest left reads_old reads_new old new status
+AnswersAsObjects tool MaySay Leaves false words rest left reads_old reads_new old new status =
     AnswersInJson tool MaySay Leaves (comes_live (dialect_of (map (λ word. word.now) words) Done)) words rest left reads_old reads_new old new status
+
+-- by the words of a call, whether its command writes its objects of JSON itself
+abbrev pub InObjects : Type 0
+InObjects = List Text → Bool
+
+-- the answer of a call, in lines or in JSON
+abbrev pub Answers : Tool → Saying → AfterRead → InObjects → (json : Bool) → (words : List (Bor Text)) → (rest left : Option (List ℕ))
+    → (reads_old reads_new : ℕ) → (old new : LiveSink) → Status → Type 0
+Answers tool MaySay Leaves in_objects false words rest left reads_old reads_new old new status =
+    AnswersInForm tool MaySay Leaves Lines words rest left reads_old reads_new old new status
+Answers tool MaySay Leaves in_objects true words rest left reads_old reads_new old new status =
+    AnswersAsObjects tool MaySay Leaves (in_objects (map (λ word. word.now) words)) words rest left reads_old reads_new old new status
 
 -- the answer of a call is on its output, in JSON lines if `--json` is the first word but for `--quiet`, and what a
 -- person is told of it on standard error; the words are read without these two
-abbrev pub AnswersAndExplains : Tool → Saying → AfterRead → Telling → (words : List (Bor Text)) → (rest left kept : Option (List ℕ))
+abbrev pub AnswersAndExplains : Tool → Saying → AfterRead → InObjects → Telling → (words : List (Bor Text)) → (rest left kept : Option (List ℕ))
     → (reads_old reads_new : ℕ) → (old new : LiveSink) → (error_old error_new : Devices) → Status → Type 0
-AnswersAndExplains tool MaySay Leaves TellsRefused words rest left kept reads_old reads_new old new error_old error_new status =
+AnswersAndExplains tool MaySay Leaves in_objects TellsRefused words rest left kept reads_old reads_new old new error_old error_new status =
     (heard : List (Bor Text)) × (said : List (Bor Text)) × (json : Bool)
     × IsWithout (codes "--quiet") words heard × IsWithout (codes "--json") heard said × (IsTrue json ↔ IsInJson heard)
-    × Answers tool MaySay Leaves json said rest left reads_old reads_new old new status
+    × Answers tool MaySay Leaves in_objects json said rest left reads_old reads_new old new status
     × TellsPerson TellsRefused words said status kept error_old error_new

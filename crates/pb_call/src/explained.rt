@@ -1,7 +1,7 @@
 //! The answer of a call, and what a person is told of it.
 
-ghost use Rattle.std.specs.Prelude.{◌≡◌, ◌↔◌, IsTrue, codes};
-ghost use Rattle.pb_call.specs.Explained.{Answers, AnswersAndExplains, IsFirst, IsWithout};
+ghost use Rattle.std.specs.Prelude.{◌≡◌, ◌↔◌, IsTrue, codes, map};
+ghost use Rattle.pb_call.specs.Explained.{Answers, AnswersAndExplains, AnswersAsObjects, IsFirst, IsWithout};
 
 use crate::answer::answer;
 use crate::commands::Commands;
@@ -14,6 +14,7 @@ use crate::kept::KeptInput;
 use pb_base::{Input, Output};
 use pb_command_io::Status;
 use pb_json_lines::LiveOutput;
+use pb_voice::Form;
 use std::alloc::Global;
 use std::sync::Wait;
 use std::thread::Threads;
@@ -21,8 +22,7 @@ use std::thread::Threads;
 /// Does what the words of a call say, of which the first is the program's own name, and explains a refusal, how a
 /// limit is raised, how it is seen where a process faulted, or that input or output failed, on standard error, unless the
 /// next word is `--quiet`. If
-/// `--json` is the next word, or the one after `--quiet`, the answer is JSON lines, those of `debug` and `bank` as they
-/// come. Returns the status of the call.
+/// `--json` is the next word, or the one after `--quiet`, the answer is JSON lines. Returns the status of the call.
 pub fn answer_and_explain<R: Threads + Wait + Sync, C: Commands, I: Input, O: Output, E: Output>(
     commands: &C,
     rt: &R,
@@ -32,7 +32,7 @@ pub fn answer_and_explain<R: Threads + Wait + Sync, C: Commands, I: Input, O: Ou
     output: &mut LiveOutput<O>,
     error: &mut E,
 ) -> Status
-    ensures { AnswersAndExplains C.tool C.MaySay C.Leaves C.TellsRefused words.now input.old.rest input.new.rest input.new.kept
+    ensures { AnswersAndExplains C.tool C.MaySay C.Leaves C.in_objects C.TellsRefused words.now input.old.rest input.new.rest input.new.kept
         input.old.failures input.new.failures output.old output.new
         (record { reads = input.old.failures; writes = E.failures error.old; written = E.written error.old })
         (record { reads = input.new.failures; writes = E.failures error.new; written = E.written error.new })
@@ -80,13 +80,32 @@ fn answer_as<R: Threads + Wait + Sync, C: Commands, I: Input, O: Output>(
     input: &mut KeptInput<I>,
     output: &mut LiveOutput<O>,
 ) -> Status
-    ensures { Answers C.tool C.MaySay C.Leaves json words.now input.old.rest input.new.rest input.old.failures input.new.failures
+    ensures { Answers C.tool C.MaySay C.Leaves C.in_objects json words.now input.old.rest input.new.rest input.old.failures input.new.failures
         output.old output.new result }
 {
     if json {
-        answer_in_json(commands, rt, alloc, words, input, output)
+        answer_as_objects(commands, rt, alloc, words, input, output)
     } else {
-        answer(commands, rt, alloc, words, input, output)
+        answer(commands, rt, alloc, Form::Lines, words, input, output)
+    }
+}
+
+/// Answers a call in JSON lines: by its command itself, if it writes objects; else they are made of its lines.
+fn answer_as_objects<R: Threads + Wait + Sync, C: Commands, I: Input, O: Output>(
+    commands: &C,
+    rt: &R,
+    alloc: Global,
+    words: &[&str],
+    input: &mut KeptInput<I>,
+    output: &mut LiveOutput<O>,
+) -> Status
+    ensures { AnswersAsObjects C.tool C.MaySay C.Leaves (C.in_objects (map (λ w. w.now) words.now)) words.now
+        input.old.rest input.new.rest input.old.failures input.new.failures output.old output.new result }
+{
+    if commands.has_objects(words) {
+        answer(commands, rt, alloc, Form::Objects, words, input, output)
+    } else {
+        answer_in_json(commands, rt, alloc, words, input, output)
     }
 }
 

@@ -1,4 +1,4 @@
-//! The answer of a call, in JSON lines.
+//! The answer of a call, in JSON lines that are made of the lines of its command.
 
 ghost use Rattle.std.specs.Prelude.{map};
 ghost use Rattle.pb_command_io.specs.Faults.{TellsFaults};
@@ -10,6 +10,7 @@ use crate::commands::Commands;
 use pb_base::{Input, Output};
 use pb_command_io::Status;
 use pb_json_lines::{Dialect, Gathered, LiveOutput, comes_live, dialect_of, tell_json};
+use pb_voice::Form;
 use std::alloc::Global;
 use std::sync::Wait;
 use std::thread::Threads;
@@ -49,7 +50,7 @@ fn answer_live<R: Threads + Wait + Sync, C: Commands, I: Input, O: Output>(
         (I.failures input.old) (I.failures input.new) output.old output.new result }
 {
     output.tell_lines(dialect);
-    let given = answer(commands, rt, alloc, words, input, output);
+    let given = answer(commands, rt, alloc, Form::Lines, words, input, output);
     output.end_lines(given)
 }
 
@@ -69,6 +70,14 @@ fn answer_at_the_end<R: Threads + Wait + Sync, C: Commands, I: Input, O: Output>
         result }
 {
     let mut gathered = Gathered::new(alloc);
-    let given = answer(commands, rt, alloc, words, input, &mut gathered);
+    let given = answer(
+        commands,
+        rt,
+        alloc,
+        Form::Lines,
+        words,
+        input,
+        &mut gathered,
+    );
     tell_json(alloc, &gathered, given, dialect_of(words, given), output)
 }

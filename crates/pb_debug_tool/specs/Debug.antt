@@ -12,6 +12,7 @@ use Rattle.pb_messages.specs.LiveInputs.{SaysOfLiveInput}
 use Rattle.pb_messages.specs.Said.{SaysToPerson}
 use Rattle.pb_messages.specs.declared.message.Reading.TheVariants.{Debugged, Replayed}
 use Rattle.pb_options.specs.Lends.{lending_for}
+use Rattle.pb_voice.specs.declared.form.Form.{Form}
 use Rattle.pb_words.specs.declared.words.Options.{Options}
 use Rattle.pb_words.specs.declared.words.Options.TheVariants as option
 
@@ -20,12 +21,12 @@ abbrev pub says_of_commands : (live : Bool) → Lending → List ℕ → List �
 says_of_commands true lending = SaysOfLive lending
 says_of_commands false lending = SaysOfInput (SaysOfDebug lending)
 
--- what its commands may say of an input
-abbrev pub says : Options → List ℕ → List ℕ → Status → Type 0
-says option.Dap = SaysOfAdapter
-says (option.Debug flags) = says_of_commands flags.live (lending_for flags.lend)
-says (option.Draw options) = SaysOfInput (SaysOfDraw (lending_for options.lend) (size_of options))
-says _ = λ bytes text status. ⊥
+-- what its commands may say of an input; they have lines alone
+abbrev pub says : Form → Options → List ℕ → List ℕ → Status → Type 0
+says form option.Dap = SaysOfAdapter
+says form (option.Debug flags) = says_of_commands flags.live (lending_for flags.lend)
+says form (option.Draw options) = SaysOfInput (SaysOfDraw (lending_for options.lend) (size_of options))
+says form _ = λ bytes text status. ⊥
 
 -- what `debug` has written when a read fails: nothing; or, if it reads the commands as they come, the answers to those
 -- before it, all of them and no more

@@ -1,6 +1,6 @@
 //! What the tool does with its commands.
 
-ghost use Rattle.std.specs.Prelude.{IfOk};
+ghost use Rattle.std.specs.Prelude.{IfOk, false};
 ghost use Rattle.pb_debug_tool.specs.Debug.{leaves, says, tells_debugged, tells_refused};
 ghost use Rattle.pb_options.specs.Lends.{lending_for};
 ghost use Rattle.pb_words.specs.declared.tool.Tool.TheVariants.{Debug};
@@ -13,6 +13,7 @@ use pb_command_io::Status;
 use pb_draw_engine::draw_engine;
 use pb_messages::{Reading, live_message, message_of};
 use pb_options::DebugOptions;
+use pb_voice::Form;
 use pb_words::Options;
 use std::alloc::Global;
 use std::sync::Wait;
@@ -27,14 +28,21 @@ impl Commands for DebugTool {
 
     ghost MaySay = { says };
 
+    ghost in_objects = { λ words. false };
+
     ghost Leaves = { leaves };
 
     ghost TellsRefused = { tells_refused };
+
+    fn has_objects(&self, _words: &[&str]) -> bool {
+        false
+    }
 
     fn answer<R: Threads + Wait + Sync, I: Input, O: Output>(
         &self,
         _rt: &R,
         alloc: Global,
+        _form: Form,
         options: Options,
         input: &mut I,
         output: &mut O,

@@ -1,5 +1,6 @@
 //! What the tool does with its command.
 
+ghost use Rattle.std.specs.Prelude.{false};
 ghost use Rattle.pb_edit_tool.specs.Edit.{leaves, says};
 ghost use Rattle.pb_words.specs.declared.tool.Tool.TheVariants.{Edit};
 
@@ -7,6 +8,7 @@ use pb_base::{Input, NoMemory, Output};
 use pb_call::Commands;
 use pb_command_io::Status;
 use pb_server_engine::server_engine;
+use pb_voice::Form;
 use pb_words::Options;
 use std::alloc::Global;
 use std::sync::Wait;
@@ -21,14 +23,21 @@ impl Commands for EditTool {
 
     ghost MaySay = { says };
 
+    ghost in_objects = { λ words. false };
+
     ghost Leaves = { leaves };
 
     ghost TellsRefused = { λ o bytes told. ⊥ };
+
+    fn has_objects(&self, _words: &[&str]) -> bool {
+        false
+    }
 
     fn answer<R: Threads + Wait + Sync, I: Input, O: Output>(
         &self,
         _rt: &R,
         alloc: Global,
+        _form: Form,
         options: Options,
         input: &mut I,
         output: &mut O,

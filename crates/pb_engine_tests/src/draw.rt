@@ -5,6 +5,7 @@ use pb_command_io::Status;
 use pb_draw_engine::draw_engine;
 use pb_engines::write_replay;
 use pb_options::{DrawOptions, Lend, ReplayOptions};
+use pb_voice::Form;
 use std::alloc::Global;
 
 /// An input, the options, the size that its picture begins with, the shapes after [`LOOKS`], and the status.
@@ -180,7 +181,7 @@ fn refuses(alloc: Global, refusal: &Refusal) -> Option<bool> {
     let draw_status = draw_engine(alloc, BY_BANKER, &mut input, &mut drawn);
     let options = ReplayOptions { lend: Lend::Banker };
     let mut input = MemoryInput::new(refusal.input);
-    let replay_status = write_replay(alloc, options, &mut input, &mut replayed);
+    let replay_status = write_replay(alloc, Form::Lines, options, &mut input, &mut replayed);
     let by_draw = draw_status == Status::Refused && drawn.as_slice() == refusal.said;
     let by_replay = replay_status == Status::Refused && replayed.as_slice() == refusal.said;
     Some(by_draw && by_replay)

@@ -5,6 +5,7 @@ use pb_command_io::Status;
 use pb_engines::{ReplayOptions, write_replay};
 use pb_options::{Lend, OutcomesOptions};
 use pb_search_engine::outcomes_engine;
+use pb_voice::Form;
 use std::alloc::Global;
 
 /// A text, how many configurations may be kept, what is said of it, and the status.
@@ -290,7 +291,13 @@ const REPLAYS: [(&[u8], &[u8]); 2] = [
 fn replays(alloc: Global, lend: Lend, input: &[u8], said: &[u8], wanted: Status) -> Option<bool> {
     let mut input = MemoryInput::new(input);
     let mut output = MemoryOutput::new(alloc, 4_096).ok()?;
-    let status = write_replay(alloc, ReplayOptions { lend }, &mut input, &mut output);
+    let status = write_replay(
+        alloc,
+        Form::Lines,
+        ReplayOptions { lend },
+        &mut input,
+        &mut output,
+    );
     Some(status == wanted && output.as_slice() == said)
 }
 

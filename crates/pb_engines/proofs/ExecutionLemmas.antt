@@ -2,7 +2,8 @@
 use Rattle.std.proofs.Common.{ℕ, ◌≤◌, List, length}
 use Rattle.pb_base.specs.declared.limits.TheConstants.{MAX_INPUT}
 use Rattle.pb_code.specs.Whole.{Code, ProcessLabels}
-use Rattle.pb_accept.specs.Claims.{SaysOfAny, read}
+use Rattle.pb_accept.specs.Claims.{SaysOfAny}
+use Rattle.pb_voice.specs.Inputs.{read}
 use Rattle.pb_accept.specs.Loading.{IsLoaded}
 use Rattle.pb_accept.specs.Sayings.{Saying}
 use Rattle.pb_engines.specs.Executions.{SaysOfExecution, executed}

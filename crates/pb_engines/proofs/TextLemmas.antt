@@ -5,7 +5,8 @@ use Rattle.pb_base.specs.declared.lending.Lending.TheVariants.{ByBanker}
 use Rattle.pb_base.specs.declared.limits.TheConstants.{MAX_INPUT}
 use Rattle.pb_code.specs.Whole.{Code, ProcessLabels, CodeCan, code_opening}
 use Rattle.pb_codegen.specs.Compiled.{IsCompiled}
-use Rattle.pb_accept.specs.Claims.{SaysOfAny, read}
+use Rattle.pb_accept.specs.Claims.{SaysOfAny}
+use Rattle.pb_voice.specs.Inputs.{read}
 use Rattle.pb_accept.specs.Sayings.{Saying}
 use Rattle.pb_engines.specs.Runs.{SaysOfRun, done, faulted, at_limit, no_memory, no_threads}
 use Rattle.pb_engines.specs.Runs.{SaysOfCodeRun, SaysOfTextRun, accepted}

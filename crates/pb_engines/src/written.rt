@@ -1,10 +1,10 @@
-//! The commands `run` and `exec`, written as lines.
+//! The commands `run` and `exec`, written in a form.
 
 ghost use Rattle.std.specs.Prelude.{◌≡◌, IfSome};
-ghost use Rattle.pb_accept.specs.Sayings.{line_of};
+ghost use Rattle.pb_accept.specs.Claims.{SaysOfAny};
+ghost use Rattle.pb_accept.specs.Objects.{text_of};
 ghost use Rattle.pb_command_io.specs.Answers.{Tells};
 ghost use Rattle.pb_command_io.specs.Faults.{TellsFaults};
-ghost use Rattle.pb_command_io.specs.Inputs.{SaysOfInput};
 ghost use Rattle.pb_engines.specs.Executions.{SaysOfExecution};
 ghost use Rattle.pb_engines.specs.Runs.{SaysOfTextRun};
 ghost use Rattle.pb_voice.specs.Voices.{Written};
@@ -19,46 +19,48 @@ use std::alloc::Global;
 use std::sync::Wait;
 use std::thread::Threads;
 
-/// Writes what `run` says of the text on the input, as lines.
+/// Writes what `run` says of the text on the input, in a form.
 ///
 /// After a read that failed nothing is written; after a write that failed, a first part.
 pub fn write_run<I: Input, O: Output, R: Threads + Wait + Sync>(
     rt: &R,
     alloc: Global,
+    form: Form,
     options: RunOptions,
     input: &mut I,
     output: &mut O,
 ) -> Status
     ensures text { IfSome (I.rest input.old) (λ bytes.
-        Tells (SaysOfInput (Written line_of (SaysOfTextRun options.steps)) bytes) (O.written output.old) (O.written output.new) result) }
+        Tells (Written (text_of form) (SaysOfAny (SaysOfTextRun options.steps)) bytes) (O.written output.old) (O.written output.new) result) }
     ensures faults { TellsFaults
         (record { reads = I.failures input.old; writes = O.failures output.old; written = O.written output.old })
         (record { reads = I.failures input.new; writes = O.failures output.new; written = O.written output.new })
         result }
 {
-    let mut voice = Voice::new(alloc, Form::Lines);
+    let mut voice = Voice::new(alloc, form);
     let given = run_engine(rt, alloc, options, input, &mut voice, output);
     voice.finish(output, given)
 }
 
-/// Writes what `exec` says of the object on the input, as lines.
+/// Writes what `exec` says of the object on the input, in a form.
 ///
 /// After a read that failed nothing is written; after a write that failed, a first part.
 pub fn write_execution<I: Input, O: Output, R: Threads + Wait + Sync>(
     rt: &R,
     alloc: Global,
+    form: Form,
     options: RunOptions,
     input: &mut I,
     output: &mut O,
 ) -> Status
     ensures text { IfSome (I.rest input.old) (λ bytes.
-        Tells (SaysOfInput (Written line_of (SaysOfExecution options.steps)) bytes) (O.written output.old) (O.written output.new) result) }
+        Tells (Written (text_of form) (SaysOfAny (SaysOfExecution options.steps)) bytes) (O.written output.old) (O.written output.new) result) }
     ensures faults { TellsFaults
         (record { reads = I.failures input.old; writes = O.failures output.old; written = O.written output.old })
         (record { reads = I.failures input.new; writes = O.failures output.new; written = O.written output.new })
         result }
 {
-    let mut voice = Voice::new(alloc, Form::Lines);
+    let mut voice = Voice::new(alloc, form);
     let given = exec_engine(rt, alloc, options, input, &mut voice, output);
     voice.finish(output, given)
 }

@@ -1,11 +1,12 @@
 -- What the tool that runs texts and objects says.
-use Rattle.std.specs.Prelude.{◌≡◌, ℕ, List, Option}
+use Rattle.std.specs.Prelude.{◌≡◌, ◌||◌, ℕ, Bool, false, List, [], ◌∷◌, Option, codes}
+use Rattle.std.specs.Str.{bytes_eq}
 use Rattle.pb_accept.specs.Checks.{SaysOfChecks}
-use Rattle.pb_accept.specs.Claims.{SaysOfClaims}
+use Rattle.pb_accept.specs.Claims.{SaysOfAny, SaysOfClaims}
 use Rattle.pb_accept.specs.Emissions.{SaysOfEmission}
 use Rattle.pb_accept.specs.Migrations.{SaysOfMigration}
+use Rattle.pb_accept.specs.Objects.{text_of}
 use Rattle.pb_accept.specs.Replays.{SaysOfReplay}
-use Rattle.pb_accept.specs.Sayings.{line_of}
 use Rattle.pb_code.specs.declared.format.Format.{Format}
 use Rattle.pb_code.specs.declared.format.Format.TheVariants.{One, Two}
 use Rattle.pb_command_io.specs.Inputs.{SaysOfInput}
@@ -19,21 +20,35 @@ use Rattle.pb_messages.specs.declared.message.Reading.{Reading}
 use Rattle.pb_messages.specs.declared.message.Reading.TheVariants as reading
 use Rattle.pb_options.specs.Lends.{lending_for}
 use Rattle.pb_voice.specs.Voices.{Written}
+use Rattle.pb_voice.specs.declared.form.Form.{Form}
 use Rattle.pb_words.specs.declared.words.Options.{Options}
 use Rattle.pb_words.specs.declared.words.Options.TheVariants as option
 
--- what its commands may say of an input
-abbrev pub says : Options → List ℕ → List ℕ → Status → Type 0
-says (option.Check numbers) = SaysOfInput (Written line_of (SaysOfChecks numbers.warn))
-says option.Claims = SaysOfInput (Written line_of SaysOfClaims)
-says (option.Emit numbers) = SaysOfInput (Written line_of (SaysOfEmission numbers.object))
-says (option.Exec numbers) = SaysOfInput (Written line_of (SaysOfExecution numbers.steps))
-says (option.Explain code) = λ bytes. SaysOfExplain code
-says option.Migrate = SaysOfInput (Written line_of SaysOfMigration)
-says (option.Record numbers) = SaysOfInput (SaysOfRecord (lending_for numbers.lend) numbers.run.steps numbers.seed)
-says (option.Replay options) = SaysOfInput (Written line_of (SaysOfReplay (lending_for options.lend)))
-says (option.Run numbers) = SaysOfInput (Written line_of (SaysOfTextRun numbers.steps))
-says _ = λ bytes text status. ⊥
+-- these commands tell data, and so write objects as they write lines
+abbrev pub is_data : (command : List ℕ) → Bool
+is_data command =
+    bytes_eq command (codes "check") || bytes_eq command (codes "claims") || bytes_eq command (codes "emit")
+    || bytes_eq command (codes "exec") || bytes_eq command (codes "migrate") || bytes_eq command (codes "replay")
+    || bytes_eq command (codes "run")
+
+-- whether the command of some words does; it is the word after the program's name
+abbrev pub in_objects : List (List ℕ) → Bool
+in_objects [] = false
+in_objects (name ∷ []) = false
+in_objects (name ∷ command ∷ words) = is_data command
+
+-- what its commands may say of an input in a form; the others have lines alone
+abbrev pub says : Form → Options → List ℕ → List ℕ → Status → Type 0
+says form (option.Check numbers) = Written (text_of form) (SaysOfAny (SaysOfChecks numbers.warn))
+says form option.Claims = Written (text_of form) (SaysOfAny SaysOfClaims)
+says form (option.Emit numbers) = Written (text_of form) (SaysOfAny (SaysOfEmission numbers.object))
+says form (option.Exec numbers) = Written (text_of form) (SaysOfAny (SaysOfExecution numbers.steps))
+says form (option.Explain code) = λ bytes. SaysOfExplain code
+says form option.Migrate = Written (text_of form) (SaysOfAny SaysOfMigration)
+says form (option.Record numbers) = SaysOfInput (SaysOfRecord (lending_for numbers.lend) numbers.run.steps numbers.seed)
+says form (option.Replay options) = Written (text_of form) (SaysOfAny (SaysOfReplay (lending_for options.lend)))
+says form (option.Run numbers) = Written (text_of form) (SaysOfAny (SaysOfTextRun numbers.steps))
+says form _ = λ bytes text status. ⊥
 
 -- what is written when a read fails: nothing
 abbrev pub leaves : Options → (rest left : Option (List ℕ)) → (old new : Option (List ℕ)) → Type 0

@@ -1,7 +1,7 @@
 //! What the tool does with its commands.
 
 ghost use Rattle.std.specs.Prelude.{◌≡◌};
-ghost use Rattle.pb_run_tool.specs.Run.{format_reading, leaves, says, tells_refused};
+ghost use Rattle.pb_run_tool.specs.Run.{format_reading, is_data, leaves, says, tells_refused, in_objects};
 ghost use Rattle.pb_words.specs.declared.tool.Tool.TheVariants.{Run};
 
 use pb_base::{Input, NoMemory, Output};
@@ -14,6 +14,7 @@ use pb_engines::{
 };
 use pb_explain::explain_engine;
 use pb_messages::{Reading, message_of};
+use pb_voice::Form;
 use pb_words::Options;
 use std::alloc::Global;
 use std::sync::Wait;
@@ -29,28 +30,40 @@ impl Commands for RunTool {
 
     ghost MaySay = { says };
 
+    ghost in_objects = { in_objects };
+
     ghost Leaves = { leaves };
 
     ghost TellsRefused = { tells_refused };
+
+    fn has_objects(&self, words: &[&str]) -> bool {
+        match words {
+            [_, command, ..] => tells_data(command),
+            _ => false,
+        }
+    }
 
     fn answer<R: Threads + Wait + Sync, I: Input, O: Output>(
         &self,
         rt: &R,
         alloc: Global,
+        form: Form,
         options: Options,
         input: &mut I,
         output: &mut O,
     ) -> Option<Status> {
         match options {
-            Options::Check(numbers) => Some(write_checks(alloc, numbers, input, output)),
-            Options::Claims => Some(write_claims(alloc, input, output)),
-            Options::Emit(numbers) => Some(write_emission(alloc, numbers, input, output)),
-            Options::Exec(numbers) => Some(write_execution(rt, alloc, numbers, input, output)),
+            Options::Check(numbers) => Some(write_checks(alloc, form, numbers, input, output)),
+            Options::Claims => Some(write_claims(alloc, form, input, output)),
+            Options::Emit(numbers) => Some(write_emission(alloc, form, numbers, input, output)),
+            Options::Exec(numbers) => Some(write_execution(
+                rt, alloc, form, numbers, input, output,
+            )),
             Options::Explain(code) => Some(explain_engine(alloc, code, output)),
-            Options::Migrate => Some(write_migration(alloc, input, output)),
+            Options::Migrate => Some(write_migration(alloc, form, input, output)),
             Options::Record(numbers) => Some(record_engine(rt, alloc, numbers, input, output)),
-            Options::Replay(options) => Some(write_replay(alloc, options, input, output)),
-            Options::Run(numbers) => Some(write_run(rt, alloc, numbers, input, output)),
+            Options::Replay(options) => Some(write_replay(alloc, form, options, input, output)),
+            Options::Run(numbers) => Some(write_run(rt, alloc, form, numbers, input, output)),
             _ => None,
         }
     }
@@ -86,4 +99,17 @@ fn reading_of(format: Format) -> Reading
         Format::One => Reading::FirstFormat,
         Format::Two => Reading::Text,
     }
+}
+
+/// Returns whether a command tells data, and so writes objects as it writes lines.
+fn tells_data(command: &str) -> bool
+    ensures { result ≡ is_data command.now }
+{
+    command == "check"
+        || command == "claims"
+        || command == "emit"
+        || command == "exec"
+        || command == "migrate"
+        || command == "replay"
+        || command == "run"
 }

@@ -12,6 +12,7 @@ use Rattle.pb_page_engine.specs.States.{SaysOfStates}
 use Rattle.pb_plan_engine.specs.PlanLines.{SaysOfPlan}
 use Rattle.pb_search_engine.specs.SaysOfAll.{SaysOfSearches}
 use Rattle.pb_search_tool.specs.Messages.{SaysOfExpected, SaysOfTogether}
+use Rattle.pb_voice.specs.declared.form.Form.{Form}
 use Rattle.pb_words.specs.declared.words.Options.{Options}
 use Rattle.pb_words.specs.declared.words.Options.TheVariants as option
 
@@ -19,12 +20,12 @@ use Rattle.pb_words.specs.declared.words.Options.TheVariants as option
 abbrev pub shown_by : StatesOptions → PartOfRun
 shown_by numbers = record { from = numbers.from; rows = numbers.rows }
 
--- what its commands may say of an input
-abbrev pub says : Options → List ℕ → List ℕ → Status → Type 0
-says (option.Outcomes numbers) = SaysOfInput (SaysOfSearches numbers)
-says (option.Plan options changes) = SaysOfInput (SaysOfPlan (lending_for options.lend) (changes_in changes))
-says (option.States options) = SaysOfInput (SaysOfStates (lending_for options.lend) (shown_by options))
-says _ = λ bytes text status. ⊥
+-- what its commands may say of an input; they have lines alone
+abbrev pub says : Form → Options → List ℕ → List ℕ → Status → Type 0
+says form (option.Outcomes numbers) = SaysOfInput (SaysOfSearches numbers)
+says form (option.Plan options changes) = SaysOfInput (SaysOfPlan (lending_for options.lend) (changes_in changes))
+says form (option.States options) = SaysOfInput (SaysOfStates (lending_for options.lend) (shown_by options))
+says form _ = λ bytes text status. ⊥
 
 -- what is written when a read fails: nothing
 abbrev pub leaves : Options → (rest left : Option (List ℕ)) → (old new : Option (List ℕ)) → Type 0

@@ -1,5 +1,6 @@
 //! What the tool does with its commands.
 
+ghost use Rattle.std.specs.Prelude.{false};
 ghost use Rattle.pb_search_tool.specs.Search.{leaves, says, tells_refused};
 ghost use Rattle.pb_words.specs.declared.tool.Tool.TheVariants.{Search};
 
@@ -12,6 +13,7 @@ use pb_call::Commands;
 use pb_command_io::Status;
 use pb_messages::{Reading, message_of};
 use pb_search_engine::outcomes_engine;
+use pb_voice::Form;
 use pb_words::Options;
 use std::alloc::Global;
 use std::sync::Wait;
@@ -26,14 +28,21 @@ impl Commands for SearchTool {
 
     ghost MaySay = { says };
 
+    ghost in_objects = { λ words. false };
+
     ghost Leaves = { leaves };
 
     ghost TellsRefused = { tells_refused };
+
+    fn has_objects(&self, _words: &[&str]) -> bool {
+        false
+    }
 
     fn answer<R: Threads + Wait + Sync, I: Input, O: Output>(
         &self,
         _rt: &R,
         alloc: Global,
+        _form: Form,
         options: Options,
         input: &mut I,
         output: &mut O,

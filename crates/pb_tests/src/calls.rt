@@ -8,6 +8,7 @@ use pb_engines::{
     write_checks, write_claims, write_emission, write_execution, write_migration, write_replay,
     write_run,
 };
+use pb_voice::Form;
 use std::alloc::Global;
 use std::sync::Wait;
 use std::thread::Threads;
@@ -71,11 +72,17 @@ pub fn make<I: Input, O: Output>(
 ) -> Status {
     let alloc = rt.alloc();
     match call {
-        Call::Check(options) => write_checks(alloc, options, input, output),
-        Call::Claims => write_claims(alloc, input, output),
-        Call::Emit(object) => write_emission(alloc, EmitOptions { object }, input, output),
-        Call::Exec(options) => write_execution(rt, alloc, options, input, output),
-        Call::Migrate => write_migration(alloc, input, output),
+        Call::Check(options) => write_checks(alloc, Form::Lines, options, input, output),
+        Call::Claims => write_claims(alloc, Form::Lines, input, output),
+        Call::Emit(object) => write_emission(
+            alloc,
+            Form::Lines,
+            EmitOptions { object },
+            input,
+            output,
+        ),
+        Call::Exec(options) => write_execution(rt, alloc, Form::Lines, options, input, output),
+        Call::Migrate => write_migration(alloc, Form::Lines, input, output),
         Call::Record(run, seed) => {
             let lend = Lend::Banker;
             record_engine(rt, alloc, RecordOptions { run, seed, lend }, input, output)
@@ -90,13 +97,13 @@ pub fn make<I: Input, O: Output>(
         }
         Call::Replay => {
             let options = ReplayOptions { lend: Lend::Banker };
-            write_replay(alloc, options, input, output)
+            write_replay(alloc, Form::Lines, options, input, output)
         }
         Call::ReplayByCash => {
             let options = ReplayOptions { lend: Lend::Cash };
-            write_replay(alloc, options, input, output)
+            write_replay(alloc, Form::Lines, options, input, output)
         }
-        Call::Run(options) => write_run(rt, alloc, options, input, output),
+        Call::Run(options) => write_run(rt, alloc, Form::Lines, options, input, output),
     }
 }
 

@@ -9,7 +9,7 @@ use Rattle.pb_command_io.specs.declared.status.Status.TheVariants.{Device}
 use Rattle.pb_command_io.proofs.PageLemmas.{Says-then}
 use Rattle.pb_voice.specs.Held.{At, Held}
 use Rattle.pb_voice.specs.Tellings.{Answers, Ends, Speaks, whole, broken}
-use Rattle.pb_voice.specs.Voices.{Written, breaks_in, tells_in}
+use Rattle.pb_voice.specs.Voices.{Adds, Breaks, Written, breaks_in, tells_in}
 use Rattle.pb_voice.specs.declared.form.Form.{Form}
 use Rattle.pb_voice.proofs.LawLemmas.{writes_what_is_told, writes_first_part}
 
@@ -17,6 +17,27 @@ use Rattle.pb_voice.proofs.LawLemmas.{writes_what_is_told, writes_first_part}
 nothing_added : (w : Option (List ℕ)) → w ≡ appended w []
 nothing_added None = refl
 nothing_added (Some held) = ap Some (sym (append-nil held))
+
+-- a text was said to a new voice of this form, and then it wrote what waited
+module _ (form : Form) (text_as : Form → List ℕ) (old mid : At Held) (new : old.teller ≡ record { form = form; waits = [] }) where
+  on_nothing : old.teller.waits ++ text_as old.teller.form ≡ text_as form
+  on_nothing = ap (λ (h : Held). h.waits ++ text_as h.form) new
+
+  pub text_written : (written : Option (List ℕ)) (status answered : Status) → Adds old (text_as old.teller.form) mid
+      → Says mid.written written mid.teller.waits status answered → Says old.written written (text_as form) status answered
+  text_written written status answered adds says =
+      Says-then old.written mid.written written (text_as form) mid.teller.waits status answered
+      (subst (λ (t : List ℕ). Leaves old.written mid.written t mid.teller.waits) on_nothing adds.leaves) says
+
+  pub text_counted : (failures : ℕ) (answered : Status) → Adds old (text_as old.teller.form) mid
+      → TellsWriteFaults mid.failures failures answered → TellsWriteFaults old.failures failures answered
+  text_counted failures answered adds faults = subst (λ (n : ℕ). TellsWriteFaults n failures answered) adds.counted faults
+
+  pub text_broken : (status : Status) → Breaks old (text_as old.teller.form) mid → Says old.written mid.written (text_as form) status Device
+  text_broken status breaks = inr (subst (λ (t : List ℕ). AddsPrefix old.written mid.written t) on_nothing breaks.prefix, refl)
+
+  pub broken_counted : Breaks old (text_as old.teller.form) mid → TellsWriteFaults old.failures mid.failures Device
+  broken_counted breaks = (λ not_device. absurd (not_device refl), λ device. breaks.counted)
 
 -- a voice of which nothing waited has been told something, and then it wrote what waited, unless a write had failed
 module _ {S : Type 0} (text_of : Form → S → List ℕ) (old mid : At Held) (given answered : Status) (written : Option (List ℕ)) (failures : ℕ)
@@ -99,3 +120,19 @@ module _ {S : Type 0} (text_of : Form → S → List ℕ) (old mid : At Held) (g
     faults_as_told (inr (none, (said, status, may, ends), told)) =
         let writes = counted said status given refl ends in
         (λ not_device. (none, writes.0 not_device), λ device. inr (none, writes.1 device))
+
+-- the same of a new voice of this form
+pub written_in : {S : Type 0} (text_of : Form → S → List ℕ) (form : Form) (old mid : At Held) (given answered : Status) (written : Option (List ℕ))
+    (failures : ℕ) → old.teller ≡ record { form = form; waits = [] }
+    → (given ≢ Device → Says mid.written written mid.teller.waits given answered)
+    → (given ≢ Device → TellsWriteFaults mid.failures failures answered)
+    → (given ≡ Device → (written ≡ mid.written) × (failures ≡ mid.failures) × (answered ≡ Device))
+    → (SaysOf : List ℕ → List S → Status → Type 0) → ((bytes : List ℕ) → SaysOf bytes [] Device)
+    → (rest : Option (List ℕ)) (reads reads' : ℕ)
+    → Answers (tells_in text_of) (breaks_in text_of) SaysOf rest reads reads' old mid given
+    → IfSome rest (λ bytes. Tells (Written (text_of form) SaysOf bytes) old.written written answered)
+written_in text_of form old mid given answered written failures new says faults fault SaysOf nothing rest reads reads' answers =
+    subst (λ (f : Form). IfSome rest (λ bytes. Tells (Written (text_of f) SaysOf bytes) old.written written answered))
+    (ap (λ (h : Held). h.form) new)
+    (written_as_told text_of old mid given answered written failures (ap (λ (h : Held). h.waits) new) says faults fault
+    SaysOf nothing rest reads reads' answers)

@@ -1,4 +1,5 @@
 pub mod EndLemmas
+pub mod InputLemmas
 pub mod LawLemmas
 pub mod LineLemmas
 pub mod ListLemmas

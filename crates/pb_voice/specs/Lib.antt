@@ -1,4 +1,5 @@
 pub mod Held
+pub mod Inputs
 pub mod Laws
 pub mod Pieces
 pub mod Tellings

@@ -10,6 +10,6 @@ mod voice;
 
 pub use form::Form;
 pub use integer::say_integer;
-pub use pieces::say_pieces;
-pub use text::say_lines;
+pub use pieces::{say_escaped, say_pieces};
+pub use text::{say_lines, say_memory, say_text};
 pub use voice::Voice;

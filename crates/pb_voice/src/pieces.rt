@@ -34,7 +34,11 @@ fn say_byte<O: Output>(voice: &mut Voice, output: &mut O, byte: u8) -> Result<()
 }
 
 /// Says the inside of a string.
-fn say_bytes<O: Output>(voice: &mut Voice, output: &mut O, bytes: &[u8]) -> Result<(), DeviceFault>
+pub fn say_escaped<O: Output>(
+    voice: &mut Voice,
+    output: &mut O,
+    bytes: &[u8],
+) -> Result<(), DeviceFault>
     ensures ok { OnOk result (Adds (at O.written O.failures voice.old output.old) (flat_map escaped bytes.now)
         (at O.written O.failures voice.new output.new)) }
     ensures err { OnErr result (Breaks (at O.written O.failures voice.old output.old) (flat_map escaped bytes.now)
@@ -54,7 +58,7 @@ fn say_string<O: Output>(voice: &mut Voice, output: &mut O, bytes: &[u8]) -> Res
         (at O.written O.failures voice.new output.new)) }
 {
     voice.say(output, b"\"")?;
-    say_bytes(voice, output, bytes)?;
+    say_escaped(voice, output, bytes)?;
     voice.say(output, b"\"")
 }
 

@@ -1,16 +1,17 @@
-//! The lines of a text, said as objects of JSON.
+//! Texts, said in the form of a voice.
 
 ghost use Rattle.std.specs.Prelude.{◌≡◌, ◌<◌, ◌==◌, ◌∷◌, IfSome, OnOk, OnErr, length};
 ghost use Rattle.std.specs.List.{position};
 ghost use Rattle.pb_voice.specs.Held.{at};
-ghost use Rattle.pb_voice.specs.Texts.{line_json, lines_json, lines_of};
+ghost use Rattle.pb_voice.specs.Texts.{line_json, lines_json, lines_of, memory_in, text_as};
 ghost use Rattle.pb_voice.specs.Voices.{Adds, Breaks};
 
+use crate::form::Form;
 use crate::pieces::say_pieces;
 use crate::voice::Voice;
 use pb_base::{DeviceFault, Output};
 
-/// A line without its line feed, and what is behind it.
+/// A line without its line feed, and what comes after it.
 #[derive(Clone, Copy)]
 struct Cut<'t> {
     line: &'t [u8],
@@ -82,4 +83,34 @@ pub fn say_lines<O: Output>(
         rest = cut.rest;
     }
     Ok(())
+}
+
+/// Says a text: as it is, or as an object for each of its lines.
+pub fn say_text<O: Output>(
+    voice: &mut Voice,
+    output: &mut O,
+    text: &[u8],
+) -> Result<(), DeviceFault>
+    ensures ok { OnOk result (Adds (at O.written O.failures voice.old output.old) (text_as voice.old.form text.now)
+        (at O.written O.failures voice.new output.new)) }
+    ensures err { OnErr result (Breaks (at O.written O.failures voice.old output.old) (text_as voice.old.form text.now)
+        (at O.written O.failures voice.new output.new)) }
+{
+    match voice.form() {
+        Form::Lines => voice.say(output, text),
+        Form::Objects => say_lines(voice, output, b"line", text),
+    }
+}
+
+/// Says that a call is out of memory.
+pub fn say_memory<O: Output>(voice: &mut Voice, output: &mut O) -> Result<(), DeviceFault>
+    ensures ok { OnOk result (Adds (at O.written O.failures voice.old output.old) (memory_in voice.old.form)
+        (at O.written O.failures voice.new output.new)) }
+    ensures err { OnErr result (Breaks (at O.written O.failures voice.old output.old) (memory_in voice.old.form)
+        (at O.written O.failures voice.new output.new)) }
+{
+    match voice.form() {
+        Form::Lines => voice.say(output, b"memory\n"),
+        Form::Objects => voice.say(output, b"{\"kind\":\"memory\"}\n"),
+    }
 }

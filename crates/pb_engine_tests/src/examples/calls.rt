@@ -11,6 +11,7 @@ use pb_engines::{
     write_run,
 };
 use pb_plan_engine::plan_engine;
+use pb_voice::Form;
 use std::sync::Wait;
 use std::thread::Threads;
 
@@ -86,18 +87,25 @@ fn status_of(
     let none = Changes::none();
     Some(match call.command {
         Command::Bank => bank_engine(alloc, &mut input, output),
-        Command::Check => write_checks(alloc, CHECKED, &mut input, output),
-        Command::Claims => write_claims(alloc, &mut input, output),
+        Command::Check => write_checks(alloc, Form::Lines, CHECKED, &mut input, output),
+        Command::Claims => write_claims(alloc, Form::Lines, &mut input, output),
         Command::Emit => {
             let options = EmitOptions {
                 object: Format::Two,
             };
-            write_emission(alloc, options, &mut input, output)
+            write_emission(alloc, Form::Lines, options, &mut input, output)
         }
         Command::Exec { quantum, steps } => {
-            write_execution(rt, alloc, run_options(quantum, steps)?, &mut input, output)
+            write_execution(
+                rt,
+                alloc,
+                Form::Lines,
+                run_options(quantum, steps)?,
+                &mut input,
+                output,
+            )
         }
-        Command::Migrate => write_migration(alloc, &mut input, output),
+        Command::Migrate => write_migration(alloc, Form::Lines, &mut input, output),
         Command::Plan => plan_engine(alloc, Lending::ByBanker, &none, &mut input, output),
         Command::PlanByCash => plan_engine(alloc, Lending::ByCash, &none, &mut input, output),
         Command::Record { seed } => {
@@ -116,10 +124,17 @@ fn status_of(
             };
             record_engine(rt, alloc, options, &mut input, output)
         }
-        Command::Replay => write_replay(alloc, BY_BANKER, &mut input, output),
-        Command::ReplayByCash => write_replay(alloc, BY_CASH, &mut input, output),
+        Command::Replay => write_replay(alloc, Form::Lines, BY_BANKER, &mut input, output),
+        Command::ReplayByCash => write_replay(alloc, Form::Lines, BY_CASH, &mut input, output),
         Command::Run { quantum, steps } => {
-            write_run(rt, alloc, run_options(quantum, steps)?, &mut input, output)
+            write_run(
+                rt,
+                alloc,
+                Form::Lines,
+                run_options(quantum, steps)?,
+                &mut input,
+                output,
+            )
         }
     })
 }

@@ -3,7 +3,7 @@ use Rattle.pb_command_io.specs.declared.status.Status.TheVariants as status
 use Rattle.pb_accept.specs.Checks.{SaysOfChecks}
 use Rattle.pb_accept.specs.Sayings.{NoMemory, TooLong}
 use Rattle.pb_voice.specs.Tellings.{Speaks}
-use Rattle.pb_accept.proofs.InputLemmas.{as_any, something, of_what_was_read, of_too_long, of_no_memory}
+use Rattle.pb_voice.proofs.InputLemmas.{as_any, something, of_what_was_read, of_too_long, of_no_memory}
 use Rattle.pb_voice.specs.Held.{at}
 use Rattle.pb_accept.proofs.check.check_engine.Goals as goal
 
@@ -11,14 +11,14 @@ pub returns-in-Ok : goal.returns-in-Ok
 returns-in-Ok g c =
     let short = c.in-Ok.ensures.fits in
     let told =
-    as_any g.T.Teller.tells g.T.Teller.breaks (SaysOfChecks c.args.options.warn) (at g.O.Output.written g.O.Output.failures c.args.teller.now c.args.output.now) (at g.O.Output.written g.O.Output.failures c.check_parts.new.teller c.check_parts.new.output) c.check_parts.result
+    as_any TooLong NoMemory g.T.Teller.tells g.T.Teller.breaks (SaysOfChecks c.args.options.warn) (at g.O.Output.written g.O.Output.failures c.args.teller.now c.args.output.now) (at g.O.Output.written g.O.Output.failures c.check_parts.new.teller c.check_parts.new.output) c.check_parts.result
     c.in-Ok.bytes.items short
     (subst (λ (l : List ℕ). Speaks g.T.Teller.tells g.T.Teller.breaks (SaysOfChecks c.args.options.warn l) (at g.O.Output.written g.O.Output.failures c.args.teller.now c.args.output.now) (at g.O.Output.written g.O.Output.failures c.check_parts.new.teller c.check_parts.new.output) c.check_parts.result)
     c.deref.ensures.value c.check_parts.ensures) in
     inr (
       c.in-Ok.ensures.counted,
-      something g.T.Teller.tells g.T.Teller.breaks (SaysOfChecks c.args.options.warn) (at g.O.Output.written g.O.Output.failures c.args.teller.now c.args.output.now) (at g.O.Output.written g.O.Output.failures c.check_parts.new.teller c.check_parts.new.output) c.check_parts.result _ told,
-      of_what_was_read g.T.Teller.tells g.T.Teller.breaks (SaysOfChecks c.args.options.warn) (at g.O.Output.written g.O.Output.failures c.args.teller.now c.args.output.now) (at g.O.Output.written g.O.Output.failures c.check_parts.new.teller c.check_parts.new.output) c.check_parts.result
+      something TooLong NoMemory g.T.Teller.tells g.T.Teller.breaks (SaysOfChecks c.args.options.warn) (at g.O.Output.written g.O.Output.failures c.args.teller.now c.args.output.now) (at g.O.Output.written g.O.Output.failures c.check_parts.new.teller c.check_parts.new.output) c.check_parts.result _ told,
+      of_what_was_read TooLong NoMemory g.T.Teller.tells g.T.Teller.breaks (SaysOfChecks c.args.options.warn) (at g.O.Output.written g.O.Output.failures c.args.teller.now c.args.output.now) (at g.O.Output.written g.O.Output.failures c.check_parts.new.teller c.check_parts.new.output) c.check_parts.result
           (g.I.Input.rest c.args.input.now) c.in-Ok.bytes.items c.in-Ok.ensures.bytes told,
     )
 
@@ -27,7 +27,7 @@ returns-in-Err-TooLong g c =
     inr (
       c.in-Err-TooLong.ensures.no_fault (λ e. let f = c.in-Err-TooLong.field-0-is in cc),
       (TooLong ∷ [], status.Refused, tt, c.tell_last.ensures),
-      of_too_long g.T.Teller.tells g.T.Teller.breaks (SaysOfChecks c.args.options.warn) (at g.O.Output.written g.O.Output.failures c.args.teller.now c.args.output.now) (at g.O.Output.written g.O.Output.failures c.tell_last.new.teller c.tell_last.new.output) c.tell_last.result
+      of_too_long TooLong NoMemory g.T.Teller.tells g.T.Teller.breaks (SaysOfChecks c.args.options.warn) (at g.O.Output.written g.O.Output.failures c.args.teller.now c.args.output.now) (at g.O.Output.written g.O.Output.failures c.tell_last.new.teller c.tell_last.new.output) c.tell_last.result
           (g.I.Input.rest c.args.input.now) (c.in-Err-TooLong.ensures.long c.in-Err-TooLong.field-0-is) c.tell_last.ensures,
     )
 
@@ -36,7 +36,7 @@ returns-in-Err-Memory g c =
     inr (
       c.in-Err-Memory.ensures.no_fault (λ e. let f = c.in-Err-Memory.field-0-is in cc),
       (NoMemory ∷ [], status.Memory, tt, c.tell_last-in-Err-Memory.ensures),
-      of_no_memory g.T.Teller.tells g.T.Teller.breaks (SaysOfChecks c.args.options.warn) (at g.O.Output.written g.O.Output.failures c.args.teller.now c.args.output.now) (at g.O.Output.written g.O.Output.failures c.tell_last-in-Err-Memory.new.teller c.tell_last-in-Err-Memory.new.output) c.tell_last-in-Err-Memory.result
+      of_no_memory TooLong NoMemory g.T.Teller.tells g.T.Teller.breaks (SaysOfChecks c.args.options.warn) (at g.O.Output.written g.O.Output.failures c.args.teller.now c.args.output.now) (at g.O.Output.written g.O.Output.failures c.tell_last-in-Err-Memory.new.teller c.tell_last-in-Err-Memory.new.output) c.tell_last-in-Err-Memory.result
           (g.I.Input.rest c.args.input.now) c.tell_last-in-Err-Memory.ensures,
     )
 

@@ -1,5 +1,6 @@
 use Rattle.pb_names.specs.View.{resolved_view}
-use Rattle.pb_accept.specs.Claims.{SaysOfClaims, claimed, read, refused, said_of_program}
+use Rattle.pb_accept.specs.Claims.{SaysOfClaims, claimed, refused, said_of_program}
+use Rattle.pb_voice.specs.Inputs.{read}
 use Rattle.pb_voice.specs.Tellings.{whole, broken}
 use Rattle.pb_command_io.specs.declared.status.Status.TheVariants as status
 use Rattle.pb_accept.proofs.InputLemmas.{of_fault}

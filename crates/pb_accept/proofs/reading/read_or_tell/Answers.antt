@@ -1,8 +1,8 @@
 use Rattle.std.proofs.Common.{[], ◌∷◌, inl, inr, refl}
 use Rattle.pb_command_io.specs.declared.status.Status.TheVariants as status
-use Rattle.pb_accept.specs.Claims.{SaysOfNothing}
+use Rattle.pb_voice.specs.Inputs.{SaysOfNothing}
 use Rattle.pb_accept.specs.Sayings.{NoMemory, TooLong}
-use Rattle.pb_accept.proofs.InputLemmas.{of_too_long, of_no_memory}
+use Rattle.pb_voice.proofs.InputLemmas.{of_too_long, of_no_memory}
 use Rattle.pb_voice.specs.Held.{at}
 use Rattle.pb_accept.proofs.reading.read_or_tell.Goals as goal
 
@@ -11,7 +11,7 @@ returns-in-Err-TooLong-clause-told g c =
     inr (
       c.in-Err-TooLong.ensures.no_fault (λ e. let f = c.in-Err-TooLong.field-0-is in cc),
       (TooLong ∷ [], status.Refused, tt, c.tell_last.ensures),
-      of_too_long g.T.Teller.tells g.T.Teller.breaks SaysOfNothing (at g.O.Output.written g.O.Output.failures c.args.teller.now c.args.output.now)
+      of_too_long TooLong NoMemory g.T.Teller.tells g.T.Teller.breaks SaysOfNothing (at g.O.Output.written g.O.Output.failures c.args.teller.now c.args.output.now)
           (at g.O.Output.written g.O.Output.failures c.tell_last.new.teller c.tell_last.new.output) c.tell_last.result
           (g.I.Input.rest c.args.input.now) (c.in-Err-TooLong.ensures.long c.in-Err-TooLong.field-0-is) c.tell_last.ensures,
     )
@@ -21,7 +21,7 @@ returns-in-Err-Memory-clause-told g c =
     inr (
       c.in-Err-Memory.ensures.no_fault (λ e. let f = c.in-Err-Memory.field-0-is in cc),
       (NoMemory ∷ [], status.Memory, tt, c.tell_last-in-Err-Memory.ensures),
-      of_no_memory g.T.Teller.tells g.T.Teller.breaks SaysOfNothing (at g.O.Output.written g.O.Output.failures c.args.teller.now c.args.output.now)
+      of_no_memory TooLong NoMemory g.T.Teller.tells g.T.Teller.breaks SaysOfNothing (at g.O.Output.written g.O.Output.failures c.args.teller.now c.args.output.now)
           (at g.O.Output.written g.O.Output.failures c.tell_last-in-Err-Memory.new.teller c.tell_last-in-Err-Memory.new.output) c.tell_last-in-Err-Memory.result
           (g.I.Input.rest c.args.input.now) c.tell_last-in-Err-Memory.ensures,
     )

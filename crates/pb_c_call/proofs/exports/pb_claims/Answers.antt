@@ -1,5 +1,5 @@
 use Rattle.std.proofs.Common.{ap}
-use Rattle.pb_accept.specs.Claims.{SaysOfClaims}
+use Rattle.pb_accept.specs.Claims.{SaysOfAny, SaysOfClaims}
 use Rattle.pb_accept.specs.Sayings.{line_of}
 use Rattle.pb_voice.specs.Voices.{Written}
 use Rattle.pb_c_call.specs.Replies.{KeptBytes, Tellings}
@@ -8,9 +8,9 @@ use Rattle.pb_c_call.proofs.exports.pb_claims.Goals as goal
 
 pub returns-clause-given : goal.returns-clause-given
 returns-clause-given c =
-    given (Tellings (Written line_of SaysOfClaims) c.args.text.now) c.put_front.new.to c.args.output.now
+    given (Tellings (Written line_of (SaysOfAny SaysOfClaims)) c.args.text.now) c.put_front.new.to c.args.output.now
     c.write_claims-status.new.output.bytes c.as_slice-bytes.result.now c.write_claims-status.result c.number_of.result
-    (told (Written line_of SaysOfClaims) c.args.text.now c.new-source.result c.new-reply.result.bytes
+    (told (Written line_of (SaysOfAny SaysOfClaims)) c.args.text.now c.new-source.result c.new-reply.result.bytes
     c.write_claims-status.new.output.bytes c.write_claims-status.result c.new-source.ensures
     (ap (λ (k : KeptBytes). k.bytes) c.new-reply.ensures) c.write_claims-status.ensures.text)
     c.number_of.ensures.number c.as_slice-bytes.ensures c.put_front.ensures.length c.put_front.ensures.front

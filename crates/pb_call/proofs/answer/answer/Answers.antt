@@ -10,12 +10,12 @@ use Rattle.pb_call.proofs.answer.answer.Goals as goal
 pub returns-in-None-clause-text : goal.returns-in-None-clause-text
 returns-in-None-clause-text g c =
     let named = subst (λ (tool : Tool). Says (g.O.Output.written c.answer.new.output) (g.O.Output.written c.name_tool.new.output)
-    (elsewhere tool) Words c.name_tool.result) c.tool_of.ensures c.name_tool.ensures.text in
+    (elsewhere c.args.form tool) Words c.name_tool.result) c.tool_of.ensures c.name_tool.ensures.text in
     let says = subst (λ (old : Option (List ℕ)). Says old (g.O.Output.written c.name_tool.new.output)
-    (elsewhere (tool_for c.in-Ok.options)) Words c.name_tool.result) c.in-None.ensures.untouched.2 named in
+    (elsewhere c.args.form (tool_for c.in-Ok.options)) Words c.name_tool.result) c.in-None.ensures.untouched.2 named in
     inr (inl (c.in-Ok.options, c.in-Ok.ensures.read, c.in-None.ensures.elsewhere, says))
 
 pub returns-in-Err-clause-text : goal.returns-in-Err-clause-text
 returns-in-Err-clause-text g c =
-    CallWrites-refused g.C.Commands.tool g.C.Commands.MaySay c.args.words.now (g.I.Input.rest c.args.input.now) _ _ c.refuse.result
+    CallWrites-refused g.C.Commands.tool g.C.Commands.MaySay c.args.form c.args.words.now (g.I.Input.rest c.args.input.now) _ _ c.refuse.result
     c.in-Err.fault c.in-Err.ensures.refused c.refuse.ensures.text

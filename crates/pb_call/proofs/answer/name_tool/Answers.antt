@@ -1,28 +1,27 @@
-use Rattle.std.proofs.Common.{◌++◌, List, ℕ, codes, inr, refl, subst}
-use Rattle.pb_base.specs.Device.{AddsPrefix}
-use Rattle.pb_base.specs.Lines.{line}
-use Rattle.pb_command_io.proofs.PageLemmas.{AddsPrefix-shorter, Says-first, Says-more}
-use Rattle.pb_command_io.specs.Answers.{Says}
+use Rattle.pb_call.specs.Calls.{elsewhere}
+use Rattle.pb_voice.specs.Held.{at}
+use Rattle.pb_voice.proofs.EndLemmas.{text_broken, broken_counted, text_counted, text_written}
 use Rattle.pb_command_io.specs.declared.status.Status.TheVariants.{Words}
-use Rattle.pb_words.specs.Tools.{tool_name}
 use Rattle.pb_call.proofs.answer.name_tool.Goals as goal
 
 pub returns-in-Ok-clause-text : goal.returns-in-Ok-clause-text
 returns-in-Ok-clause-text g c =
-    let said = subst (λ (name : List ℕ). Says (g.O.Output.written c.say.new.output) (g.O.Output.written c.finish_with.new.output)
-    (c.say.new.self ++ line name) Words c.finish_with.result) c.name.ensures
-    (subst (λ (name : List ℕ). Says (g.O.Output.written c.say.new.output) (g.O.Output.written c.finish_with.new.output)
-    (c.say.new.self ++ line name) Words c.finish_with.result) c.as_bytes.ensures.value c.finish_with.ensures.text) in
-    Says-first _ _ c.new-page.result _ Words c.finish_with.result c.new-page.ensures
-    (Says-more _ (g.O.Output.written c.say.new.output) _ c.new-page.result (codes "error: this command is answered by ")
-    (line (tool_name c.args.tool)) c.say.new.self Words c.finish_with.result c.in-Ok.ensures.ok said)
+    text_written c.args.form (λ form. elsewhere form c.args.tool) (at g.O.Output.written g.O.Output.failures c.new-voice.result c.args.output.now)
+    (at g.O.Output.written g.O.Output.failures c.say_tool.new.voice c.say_tool.new.output) c.new-voice.ensures
+    (g.O.Output.written c.finish.new.output) Words c.finish.result c.in-Ok.ensures.ok (c.finish.ensures.text (λ e. cc))
+
+pub returns-in-Ok-clause-faults : goal.returns-in-Ok-clause-faults
+returns-in-Ok-clause-faults g c =
+    text_counted c.args.form (λ form. elsewhere form c.args.tool) (at g.O.Output.written g.O.Output.failures c.new-voice.result c.args.output.now)
+    (at g.O.Output.written g.O.Output.failures c.say_tool.new.voice c.say_tool.new.output) c.new-voice.ensures
+    (g.O.Output.failures c.finish.new.output) c.finish.result c.in-Ok.ensures.ok (c.finish.ensures.faults (λ e. cc))
 
 pub returns-in-Err-clause-text : goal.returns-in-Err-clause-text
 returns-in-Err-clause-text g c =
-    let more = codes "error: this command is answered by " in
-    inr (
-      subst (λ (page : List ℕ). AddsPrefix (g.O.Output.written c.args.output.now) (g.O.Output.written c.say.new.output)
-          (page ++ (more ++ line (tool_name c.args.tool)))) c.new-page.ensures
-          (AddsPrefix-shorter _ _ c.new-page.result more (line (tool_name c.args.tool)) c.in-Err.ensures.prefix),
-      refl,
-    )
+    text_broken c.args.form (λ form. elsewhere form c.args.tool) (at g.O.Output.written g.O.Output.failures c.new-voice.result c.args.output.now)
+    (at g.O.Output.written g.O.Output.failures c.say_tool.new.voice c.say_tool.new.output) c.new-voice.ensures _ c.in-Err.ensures.err
+
+pub returns-in-Err-clause-faults : goal.returns-in-Err-clause-faults
+returns-in-Err-clause-faults g c =
+    broken_counted c.args.form (λ form. elsewhere form c.args.tool) (at g.O.Output.written g.O.Output.failures c.new-voice.result c.args.output.now)
+    (at g.O.Output.written g.O.Output.failures c.say_tool.new.voice c.say_tool.new.output) c.new-voice.ensures c.in-Err.ensures.err

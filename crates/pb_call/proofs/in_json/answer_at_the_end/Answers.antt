@@ -8,6 +8,7 @@ use Rattle.pb_json_lines.specs.Replies.{Gathering, ReadFailed, SaysInJson}
 use Rattle.pb_json_lines.specs.declared.form.Dialect.{Dialect}
 use Rattle.pb_json_lines.proofs.ReplyLemmas.{told_faults, told_text}
 use Rattle.pb_call.proofs.JsonLemmas.{gathered_faults}
+use Rattle.pb_voice.specs.declared.form.Form.TheVariants.{Lines}
 use Rattle.pb_call.proofs.in_json.answer_at_the_end.Goals as goal
 
 pub returns-clause-text : goal.returns-clause-text
@@ -20,7 +21,7 @@ returns-clause-text g c =
     let tells = gathered_faults g.C.Commands.tool g.C.Commands.Leaves c.args.words.now (g.I.Input.rest c.args.input.now) (g.I.Input.rest c.answer-given.new.input)
     (g.I.Input.failures c.args.input.now) (g.I.Input.failures c.answer-given.new.input) c.answer-given.new.output.failures
     c.answer-given.new.output.bytes c.answer-given.result faults in
-    let writes = subst (λ (m : Gathering). CallWrites g.C.Commands.tool g.C.Commands.MaySay c.args.words.now (g.I.Input.rest c.args.input.now) (Some m.bytes)
+    let writes = subst (λ (m : Gathering). CallWrites g.C.Commands.tool g.C.Commands.MaySay Lines c.args.words.now (g.I.Input.rest c.args.input.now) (Some m.bytes)
     (Some c.answer-given.new.output.bytes) c.answer-given.result) c.new-gathered.ensures c.answer-given.ensures.text in (
       c.answer-given.new.output.bytes,
       c.answer-given.result,

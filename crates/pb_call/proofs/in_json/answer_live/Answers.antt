@@ -2,6 +2,7 @@ use Rattle.pb_call.specs.Calls.{CallTellsFaults, CallWrites}
 use Rattle.pb_call.specs.Explained.{devices_of}
 use Rattle.pb_json_lines.specs.Live.{LiveSink, seen_by_writers}
 use Rattle.std.proofs.Common.{subst}
+use Rattle.pb_voice.specs.declared.form.Form.TheVariants.{Lines}
 use Rattle.pb_call.proofs.in_json.answer_live.Goals as goal
 
 pub returns : goal.returns
@@ -13,7 +14,7 @@ returns g c =
     record {
       given = given;
       heard = heard;
-      writes = subst (λ (s : LiveSink). CallWrites g.C.Commands.tool g.C.Commands.MaySay c.args.words.now rest (seen_by_writers s) (seen_by_writers heard) given)
+      writes = subst (λ (s : LiveSink). CallWrites g.C.Commands.tool g.C.Commands.MaySay Lines c.args.words.now rest (seen_by_writers s) (seen_by_writers heard) given)
           c.tell_lines.ensures c.answer-given.ensures.text;
       faults = subst (λ (s : LiveSink). CallTellsFaults g.C.Commands.tool g.C.Commands.Leaves c.args.words.now rest left
           (devices_of (g.I.Input.failures c.args.input.now) s) (devices_of (g.I.Input.failures c.answer-given.new.input) heard) given)

@@ -6,4 +6,4 @@ use Rattle.pb_edit_tool.proofs.edit_tool.EditToolCommands.answer.Goals as goal
 pub returns-in-Lsp-clause-text : goal.returns-in-Lsp-clause-text
 returns-in-Lsp-clause-text g c =
     tells_as (g.I.Input.rest c.args.input.now) (g.I.Input.rest c.args.input.now) (g.O.Output.written c.args.output.now)
-    (g.O.Output.written c.server_engine.new.output) c.server_engine.result c.args.options option.Lsp c.in-Lsp.is says c.server_engine.ensures.text
+    (g.O.Output.written c.server_engine.new.output) c.server_engine.result c.args.options option.Lsp c.in-Lsp.is (says c.args._form) c.server_engine.ensures.text

@@ -3,7 +3,7 @@ use Rattle.std.specs.List.{flat_map}
 use Rattle.pb_json.specs.Strings.{escaped}
 use Rattle.pb_voice.specs.Held.{at}
 use Rattle.pb_voice.specs.Voices.{Adds}
-use Rattle.pb_voice.proofs.pieces.say_bytes.Given as goal
+use Rattle.pb_voice.proofs.pieces.say_escaped.Given as goal
 
 abbrev pub invariant-loop-i : goal.invariant-loop-i
 invariant-loop-i g l =

@@ -2,7 +2,7 @@ use Rattle.pb_command_io.proofs.PageLemmas.{OnErr-of}
 use Rattle.pb_json.specs.Strings.{escaped}
 use Rattle.pb_voice.specs.Held.{at}
 use Rattle.pb_voice.proofs.VoiceLemmas.{adds_nothing, element_added, element_broken, elements_added}
-use Rattle.pb_voice.proofs.pieces.say_bytes.Goals as goal
+use Rattle.pb_voice.proofs.pieces.say_escaped.Goals as goal
 
 pub loop-i-init : goal.loop-i-init
 loop-i-init g c = adds_nothing (at g.O.Output.written g.O.Output.failures c.args.voice.now c.args.output.now)
