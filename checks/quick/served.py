@@ -138,7 +138,8 @@ def try_limits(tally: Tally, script: str, folder: pathlib.Path) -> None:
             for wire in (first, second):
                 wire.say("session 600")
             tally.expect(code_of(third.say("session 600")) == "S7", "there are more sessions than allowed")
-            tally.expect(last_words(third).startswith("refused S14"), "one that does not read is not told why it is cut off")
+            told = third.say("job x 1 tape")
+            tally.expect(code_of(told) == "S7", "there are more sessions than allowed, by lines without numbers")
             with Wire(served.socket) as fourth, Wire(served.socket) as fifth:
                 fourth.say("hello")
                 tally.expect(code_of(fifth.answer()) == "S7" and fifth.line() == "", "there are more connections than allowed")
