@@ -133,19 +133,23 @@ def try_limits(tally: Tally, script: str, folder: pathlib.Path) -> None:
     """Tries the limits on sessions, connections and unread answers, and what a client is told of them."""
     served = Served([script, "serve"], folder, "--clients", "4", "--sessions", "2")
     served.start()
-    with Wire(served.socket) as first, Wire(served.socket) as second, Wire(served.socket) as third:
-        for wire in (first, second):
-            wire.say("session 600")
-        tally.expect(code_of(third.say("session 600")) == "S7", "there are more sessions than allowed")
-        tally.expect(code_of(third.say("job x 1 tape")) == "S7", "there are more sessions than allowed, by lines without numbers")
-        with Wire(served.socket) as fourth, Wire(served.socket) as fifth:
-            fourth.say("hello")
-            tally.expect(code_of(fifth.answer()) == "S7" and fifth.line() == "", "there are more connections than allowed")
-        for number in range(1, 61):
-            first.say(f"{number} job j{number} 1 tape")
-        tally.expect(last_words(third).startswith("refused S14"), "one that does not read is not told why it is cut off")
-        tally.expect(first.say("61 job a 1 tape") == [], "others wait for one that never reads")
-    tally.expect(served.end() == DONE, "SIGTERM does not end a server with status 0")
+    try:
+        with Wire(served.socket) as first, Wire(served.socket) as second, Wire(served.socket) as third:
+            for wire in (first, second):
+                wire.say("session 600")
+            tally.expect(code_of(third.say("session 600")) == "S7", "there are more sessions than allowed")
+            told = third.say("job x 1 tape")
+            tally.expect(code_of(told) == "S7", "there are more sessions than allowed, by lines without numbers")
+            with Wire(served.socket) as fourth, Wire(served.socket) as fifth:
+                fourth.say("hello")
+                tally.expect(code_of(fifth.answer()) == "S7" and fifth.line() == "", "there are more connections than allowed")
+            for number in range(1, 61):
+                first.say(f"{number} job j{number} 1 tape")
+            tally.expect(last_words(third).startswith("refused S14"), "one that does not read is not told why it is cut off")
+            tally.expect(first.say("61 job a 1 tape") == [], "others wait for one that never reads")
+        tally.expect(served.end() == DONE, "SIGTERM does not end a server with status 0")
+    finally:
+        served.kill()
 
 
 def try_activation(tally: Tally, script: str, folder: pathlib.Path) -> None:

@@ -101,9 +101,10 @@ def try_waits(tally: Tally, it: Holds, served: Served) -> None:
         (["-n", "1 tape", "--", "true"], 1), (["--nowait", "-E", "9", "1 tape", "--", "true"], 9),
         (["-w", "0.2", "1 tape", "--", "true"], 1), (["--timeout=0.2", "-E", "0", "1 tape", "--", "false"], 0),
     ):
-        got = it.run(*words)
+        # (with a long lease a server has its time to answer)
+        got = it.run("--lease", "600", *words)
         tally.expect(got == (status, ""), *it.call, *words, "ends with", *got)
-    said = it.run("-v", "--name", "second", "-w", "1", "1 tape", "--", "true")[1]
+    said = it.run("-v", "--lease", "600", "--name", "second", "-w", "0.2", "1 tape", "--", "true")[1]
     tally.expect("second waits for 1 tape: 0 of tape left" in said, "it does not say why it waits", said)
     with Wire(served.socket) as wire:
         stopped = it.start("1 tape", "--", "true")

@@ -19,8 +19,9 @@
 #include <time.h>
 #include <unistd.h>
 
-/* Seconds in which a server has to answer before the connection is given up, and between two tries to connect. */
-static const double SILENCE = 2.0, PAUSE = 0.1;
+/* Seconds in which a server has to answer before the connection is given up, at most, and as a share of the lease; seconds
+   between two tries to connect. */
+static const double SILENCE = 5.0, OF_LEASE = 0.2, PAUSE = 0.1;
 
 double now(void) {
     struct timespec it;
@@ -282,6 +283,11 @@ static void read_lines(struct client *client) {
     }
 }
 
+/* Returns the seconds in which a server has to answer. */
+static double patience_of(const struct client *client) {
+    return OF_LEASE * client->lease < SILENCE ? OF_LEASE * client->lease : SILENCE;
+}
+
 /* Returns when what was sent first has waited too long for an answer; 0 if nothing waits. */
 static double silence_ends(const struct client *client) {
     double first = client->greetings > 0 ? client->asked : 0;
@@ -291,7 +297,7 @@ static double silence_ends(const struct client *client) {
             first = it->sent;
         }
     }
-    return first == 0 ? 0 : first + SILENCE;
+    return first == 0 ? 0 : first + patience_of(client);
 }
 
 /* Returns the earlier one of two times, of which 0 is none. */
@@ -315,7 +321,7 @@ void client_step(struct client *client, double end) {
     if (client->socket < 0 && now() >= client->next_try) {
         greet(client);
     }
-    if (client->socket < 0 && !client->is_told && now() - client->silent_since > SILENCE) {
+    if (client->socket < 0 && !client->is_told && now() - client->silent_since > patience_of(client)) {
         client->is_told = true;
         say("%s; waits for one", client->fault);
     }
@@ -359,11 +365,12 @@ struct request *client_begin(struct client *client, const char *format, ...) {
 
 const char *client_answer(struct client *client, struct request *request, double end) {
     while (!request->is_done && client->condition == WELL) {
-        if (end != 0 && now() > end) {
+        if (end != 0 && now() > end && client->socket < 0) {
             client->condition = UNREACHABLE;
             return NULL;
         }
-        client_step(client, end);
+        /* (a server that is there is given its time) */
+        client_step(client, client->socket < 0 ? end : 0);
     }
     return client->condition == WELL ? request->answer : NULL;
 }
@@ -385,7 +392,7 @@ void client_close(struct client *client) {
     if (client->sid[0] != '\0' && client->condition != SESSION_LOST) {
         client->condition = WELL;
         client->signals = -1;
-        client_answer(client, client_begin(client, "end"), now() + SILENCE);
+        client_answer(client, client_begin(client, "end"), now() + patience_of(client));
     }
     if (client->socket >= 0) {
         close(client->socket);

@@ -82,8 +82,8 @@ void client_init(struct client *client, const struct options *options, int signa
 /* Sends a request, and returns it. */
 struct request *client_begin(struct client *client, const char *format, ...) __attribute__((format(printf, 2, 3)));
 
-/* Waits for the answer to a request until some time, 0 for ever, and returns its first line. Returns nothing if it is not
-   well with the client: it was stopped, no server answers, it is refused, or the session has ended. */
+/* Waits for the answer to a request, and returns its first line; for a server that can be reached until some time, 0 for ever.
+   Returns nothing if it is not well with the client: it was stopped, no server answers, it is refused, or the session has ended. */
 const char *client_answer(struct client *client, struct request *request, double end);
 
 /* Waits until something comes, at most until some time: connects, or takes the lines that have come. */

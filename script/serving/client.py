@@ -14,8 +14,9 @@ if TYPE_CHECKING:
     import socket
     from collections.abc import Callable
 
-# Seconds in which a server has to answer before the connection is given up, and between two tries to connect.
-SILENCE, PAUSE = 2.0, 0.1
+# Seconds in which a server has to answer before the connection is given up, at most, and as a share of the lease; seconds between
+# two tries to connect.
+SILENCE, OF_LEASE, PAUSE = 5.0, 0.2, 0.1
 PIECE = 65_536
 
 
@@ -74,7 +75,7 @@ class Client:
         self, address: str, lease: int, token: str | None = None, authority: str | None = None, patience: float | None = None
     ) -> None:
         self.address, self.lease, self.token, self.authority = address, lease, token, authority
-        self.patience = patience
+        self.patience, self.silence = patience, min(SILENCE, OF_LEASE * lease)
         # the one that is tried next is the first
         self.addresses = address.split(",")
         self.socket: _socket.socket | None = None
@@ -117,7 +118,7 @@ class Client:
                 why = f"no server answers at {self.address}: {getattr(fault, 'strerror', None) or fault or 'it ends'}"
                 if end is not None and now() + PAUSE > end:
                     raise Unreachable(why) from fault
-                if not is_told and now() - began > SILENCE:
+                if not is_told and now() - began > self.silence:
                     is_told = True
                     self.on_silence(f"{why}; waits for one")
             time.sleep(PAUSE)
@@ -125,7 +126,7 @@ class Client:
     def _greet(self) -> None:
         """Connects once: begins a session or goes on with it, and sends all that has no answer."""
         self.drop()
-        self.socket = connect(self.addresses[0], self.authority, SILENCE)
+        self.socket = connect(self.addresses[0], self.authority, self.silence)
         auth = [f"auth {self.token}"] if self.token else []
         first = f"attach {self.sid} {self.key} {self.noticed}" if self.sid else f"session {self.lease}"
         asked = now()
@@ -277,7 +278,7 @@ class Client:
         """Ends the session, if a server can be reached soon."""
         try:
             if self.sid:
-                self.answer(self.begin("end"), SILENCE)
+                self.answer(self.begin("end"), self.silence)
         except Fault:
             # (what it held comes back when its lease has ended)
             pass
