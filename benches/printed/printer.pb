@@ -3,18 +3,18 @@ resource printer = 1;
 process a
 begin
   integer n, page;
-  while n < 5 do n := n + 1; page := page + n od;
+  while n < 3 do n := n + 1; page := page + n od;
   hold 1 of printer do print page; print n od
 end
 process b
 begin
   integer n, page;
-  while n < 5 do n := n + 1; page := page + n * n od;
+  while n < 3 do n := n + 1; page := page + n * n od;
   hold 1 of printer do print page; print n od
 end
 process c
 begin
   integer n, page;
-  while n < 5 do n := n + 1; page := page + 2 * n od;
+  while n < 3 do n := n + 1; page := page + 2 * n od;
   hold 1 of printer do print page; print n od
 end
