@@ -367,10 +367,11 @@ fn prints_tell_outcomes_apart(rt: HostRuntime) {
 }
 
 /// Two arms that print twice each, and compute what they print.
-const VOICES: &[u8] = b"process p begin parbegin begin print 1 + 2 * 3; print 4 * 5 - 6 end; begin print 7 * 8 + 9; print 10 - 11 * 12 end parend end";
+const VOICES: &[u8] =
+    b"process p begin parbegin begin print 1 + 2; print 3 * 4 end; begin print 5 + 6; print 7 * 8 end parend end";
 
-/// Returns how many outcomes the two arms have with their prints, and whether others are left when so many configurations
-/// are kept.
+/// Returns how many outcomes the two arms have with their prints, and whether there may be others, if this number of
+/// configurations may be kept.
 fn voices_within(alloc: Global, states: u32) -> Option<(usize, Extent)> {
     let compiled = compile(alloc, alloc, VOICES).ok()?;
     let mode = Mode {
@@ -381,7 +382,7 @@ fn voices_within(alloc: Global, states: u32) -> Option<(usize, Extent)> {
     Some((told.found.len(), told.extent))
 }
 
-/// Of the arms alone there are 19 places between prints, and single picks reach more than 100.
+/// Single picks reach more than 100 configurations.
 #[test]
 fn only_orders_of_prints_are_gone_through(rt: HostRuntime) {
     let within = voices_within(rt.alloc(), 30);
