@@ -365,3 +365,26 @@ fn prints_tell_outcomes_apart(rt: HostRuntime) {
     assert!(rt; race_prints_both(alloc, Lending::ByBanker) == Some(true));
     assert!(rt; race_prints_both(alloc, Lending::ByCash) == Some(true));
 }
+
+/// Two arms that print twice each, and compute what they print.
+const VOICES: &[u8] =
+    b"process p begin parbegin begin print 1 + 2; print 3 * 4 end; begin print 5 + 6; print 7 * 8 end parend end";
+
+/// Returns how many outcomes the two arms have with their prints, and whether there may be others, if this number of
+/// configurations may be kept.
+fn voices_within(alloc: Global, states: u32) -> Option<(usize, Extent)> {
+    let compiled = compile(alloc, alloc, VOICES).ok()?;
+    let mode = Mode {
+        lending: Lending::ByBanker,
+        prints: true,
+    };
+    let told = explore_by(alloc, compiled.verified(), mode, Until::AllIsFound, states).ok()?;
+    Some((told.found.len(), told.extent))
+}
+
+/// Single picks reach more than 100 configurations.
+#[test]
+fn only_orders_of_prints_are_gone_through(rt: HostRuntime) {
+    let within = voices_within(rt.alloc(), 30);
+    assert!(rt; within == Some((6, Extent::All { cycles: false })));
+}
