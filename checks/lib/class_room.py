@@ -80,15 +80,17 @@ class ClassRoom:
                 found.append(int(path.parent.name))
         return found
 
-    def searches(self, word: str = "outcomes") -> list[int]:
-        """Returns those of them that are searches, or that have this word."""
+    def searches(self, word: str = "") -> list[int]:
+        """Returns those of them that are searches with this word. (Before it is the program a process has the words of the
+        server.)"""
         found = []
         for pid in self.processes():
             try:
-                if word.encode() in Path(f"/proc/{pid}/cmdline").read_bytes():
-                    found.append(pid)
+                words = Path(f"/proc/{pid}/cmdline").read_bytes()
             except OSError:
                 continue
+            if b"outcomes" in words and word.encode() in words:
+                found.append(pid)
         return found
 
     def searching(self) -> socket.socket:
