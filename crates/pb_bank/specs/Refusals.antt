@@ -12,22 +12,22 @@ use Rattle.pb_bank.specs.Words.{shown_word}
 
 -- ---- refusals
 
--- the line of a refusal of a command with these words after it
+-- the line of a refusal of a command with these words after it, of which the first is what it is about if no number says another
 abbrev pub refusal_text : NameTable → (words : List (List ℕ)) → Refusal → List ℕ
 refusal_text names words refused.Command = line (codes "refused B1 not a command")
 refusal_text names words (refused.NoComma at) = line (codes "refused B1 not a command: a comma is missing before " ++ shown_word words at)
-refusal_text names words refused.Amount = line (codes "refused B2 an amount is not in 0..=1000000")
+refusal_text names words (refused.Amount at) = line (codes "refused B2 an amount is not in 0..=1000000: " ++ shown_word words at)
 refusal_text names words refused.Name = line (codes "refused B3 not a name of 1 to 32 bytes")
 refusal_text names words (refused.NoResource at) = line (codes "refused B4 no such resource: " ++ shown_word words at)
 refusal_text names words (refused.NoJob at) = line (codes "refused B5 no such job: " ++ shown_word words at)
 refusal_text names words (refused.Twice r) = line (codes "refused B6 a resource is named twice: " ++ name_of names.resources r)
-refusal_text names words refused.Taken = line (codes "refused B7 the name is taken")
+refusal_text names words refused.Taken = line (codes "refused B7 the name is taken: " ++ shown_word words 0)
 refusal_text names words refused.Late = line (codes "refused B8 a job was there before the resource")
-refusal_text names words refused.Full = line (codes "refused B9 there are as many as there can be")
+refusal_text names words refused.Full = line (codes "refused B9 there are as many as there can be: " ++ shown_word words 0)
 refusal_text names words (refused.OverCapital r) = line (codes "refused B10 a claim is over the capital: " ++ name_of names.resources r)
 refusal_text names words (refused.NotHeld r) = line (codes "refused B11 the job does not hold as much: " ++ name_of names.resources r)
-refusal_text names words refused.HasWish = line (codes "refused B12 the job has a wish in the queue")
-refusal_text names words refused.NoWish = line (codes "refused B13 the job has no wish in the queue")
+refusal_text names words refused.HasWish = line (codes "refused B12 the job has a wish in the queue: " ++ shown_word words 0)
+refusal_text names words refused.NoWish = line (codes "refused B13 the job has no wish in the queue: " ++ shown_word words 0)
 
 -- what is said of a refused command with these words, which changes nothing
 abbrev pub Refuses : (words : List (List ℕ)) → Refusal → DeskValue → List ℕ → DeskValue → Type 0

@@ -17,8 +17,8 @@ pub enum Refusal {
     Command,
     /// The word with this number stands where a comma belongs.
     NoComma(usize),
-    /// An amount is not a number, or is over 1,000,000.
-    Amount,
+    /// An amount, the word with this number, is not a number, or is over 1,000,000.
+    Amount(usize),
     /// A name is over 32 bytes, or has bytes that names may not have.
     Name,
     /// No resource has the name that the word with this number is.
@@ -27,19 +27,19 @@ pub enum Refusal {
     NoJob(usize),
     /// This resource is named twice.
     Twice(usize),
-    /// The name is taken.
+    /// The name, the first word, is taken.
     Taken,
     /// There was a job before the resource.
     Late,
-    /// There are 16 resources or 64 jobs.
+    /// There are 16 resources or 64 jobs beside the one that the first word names.
     Full,
     /// A claim is over the capital of this resource.
     OverCapital(usize),
     /// The job does not hold as much of this resource.
     NotHeld(usize),
-    /// The job has a wish in the queue.
+    /// The job, the first word, has a wish in the queue.
     HasWish,
-    /// The job has no wish in the queue.
+    /// The job, the first word, has no wish in the queue.
     NoWish,
 }
 
@@ -108,14 +108,24 @@ pub(crate) fn put_refusal(
                 at,
             )
         }
-        Refusal::Amount => put(out, b"refused B2 an amount is not in 0..=1000000\n"),
+        Refusal::Amount(at) => put_word(
+            out,
+            b"refused B2 an amount is not in 0..=1000000: ",
+            text,
+            at,
+        ),
         Refusal::Name => put(out, b"refused B3 not a name of 1 to 32 bytes\n"),
         Refusal::NoResource(at) => put_word(out, b"refused B4 no such resource: ", text, at),
         Refusal::NoJob(at) => put_word(out, b"refused B5 no such job: ", text, at),
         Refusal::Twice(r) => put_resource(out, b"refused B6 a resource is named twice: ", names, r),
-        Refusal::Taken => put(out, b"refused B7 the name is taken\n"),
+        Refusal::Taken => put_word(out, b"refused B7 the name is taken: ", text, 0),
         Refusal::Late => put(out, b"refused B8 a job was there before the resource\n"),
-        Refusal::Full => put(out, b"refused B9 there are as many as there can be\n"),
+        Refusal::Full => put_word(
+            out,
+            b"refused B9 there are as many as there can be: ",
+            text,
+            0,
+        ),
         Refusal::OverCapital(r) => {
             put_resource(out, b"refused B10 a claim is over the capital: ", names, r)
         }
@@ -127,7 +137,17 @@ pub(crate) fn put_refusal(
                 r,
             )
         }
-        Refusal::HasWish => put(out, b"refused B12 the job has a wish in the queue\n"),
-        Refusal::NoWish => put(out, b"refused B13 the job has no wish in the queue\n"),
+        Refusal::HasWish => put_word(
+            out,
+            b"refused B12 the job has a wish in the queue: ",
+            text,
+            0,
+        ),
+        Refusal::NoWish => put_word(
+            out,
+            b"refused B13 the job has no wish in the queue: ",
+            text,
+            0,
+        ),
     }
 }
