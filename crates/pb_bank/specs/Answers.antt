@@ -24,8 +24,9 @@ use Rattle.pb_bank.specs.declared.refusal.Refusal.TheVariants as refused
 use Rattle.pb_bank.specs.declared.request.Request.{Request}
 use Rattle.pb_bank.specs.Desks.{DeskValue, NoneIsAllowed, place_of, job_of}
 use Rattle.pb_bank.specs.Queues.{has_wish, request_text, without_wish, wishes_text, ServesQueue}
-pub use Rattle.pb_bank.specs.Refusals.{refusal_text, Refuses, with_state, jobs_text, reason_text, IsReasonAmong, IsReasonOf}
+pub use Rattle.pb_bank.specs.Refusals.{refusal_text, Refuses, with_state, jobs_text, reason_text, IsReasonAmong, IsReasonOf, OfRequest}
 use Rattle.pb_bank.specs.Capitals.{AnswersCapital}
+use Rattle.pb_bank.specs.Claims.{AnswersClaim}
 use Rattle.pb_bank.specs.Requests.{pairs_of, request_of}
 use Rattle.pb_bank.specs.Words.{words_of, kind_within, amount_of, is_name, trimmed}
 
@@ -38,12 +39,6 @@ Grants granted d w said next =
     (reason : Reason) × SaysWhy d.bank.state w.job w.bundle reason
     × (said ≡ reason_text (request_text granted d.names w) d.names d.bank.state reason)
     × (next ≡ with_state d (state_held d.bank.state w.job w.bundle reason))
-
--- what is said of a request, if the words say one
-abbrev pub OfRequest : (Request → List ℕ → DeskValue → Type 0) → (words : List (List ℕ)) → Result Request Refusal → DeskValue
-    → List ℕ → DeskValue → Type 0
-OfRequest Says words (Err refusal) d said next = Refuses words refusal d said next
-OfRequest Says words (Ok w) d said next = Says w said next
 
 -- a request for more; a job that has a wish in the queue asks for nothing else
 abbrev pub if_free : DeskValue → Result Request Refusal → Result Request Refusal
@@ -321,7 +316,7 @@ help_text =
     line (codes "resource R K") ++ line (codes "job J K R, ..") ++ line (codes "ask J K R, ..")
     ++ line (codes "want J K R, ..") ++ line (codes "drop J")
     ++ line (codes "give J K R, ..") ++ line (codes "leave J")
-    ++ line (codes "capital R K")
+    ++ line (codes "capital R K") ++ line (codes "claim J K R")
     ++ line (codes "why J K R, ..") ++ line (codes "hold J K R, ..")
     ++ line (codes "order") ++ line (codes "order J ..")
     ++ line (codes "state") ++ line (codes "help")
@@ -338,6 +333,7 @@ abbrev pub AnswersKind : Kind → DeskValue → List (List ℕ) → List ℕ →
 AnswersKind kind.Skip d words said next = Refuses [] refused.Command d said next
 AnswersKind kind.Resource d words said next = AnswersResource d words said next
 AnswersKind kind.Capital d words said next = AnswersCapital d words said next
+AnswersKind kind.Claim d words said next = AnswersClaim d words said next
 AnswersKind kind.Job d words said next = AnswersJob d words said next
 AnswersKind kind.Ask d words said next = AnswersAsk d words said next
 AnswersKind kind.Want d words said next = AnswersWant d words said next

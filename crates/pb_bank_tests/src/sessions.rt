@@ -12,7 +12,7 @@ struct Case {
     said: &'static [u8],
 }
 
-const CASES: [Case; 10] = [
+const CASES: [Case; 11] = [
     // The textbook's table, and its three requests.
     Case {
         commands: b"# five processes\nresource A 10\nresource B 5\nresource C 7\njob P0 7 A, 5 B, 3 C\njob P1 3 A,2 B , 2 C\njob P2 9 A, 0 B, 2 C\njob P3 2 A, 2 B, 2 C\njob P4 4 A, 3 B, 3 C\nhold P0 1 B\nhold P1 2 A\nhold P2 3 A, 2 C\nhold P3 2 A, 1 B, 1 C\nhold P4 2 C\n\nask P1 1 A, 0 B, 2 C\nask P4 3 A, 3 B, 0 C\nask P0 0 A, 2 B, 0 C\nwhy P0 2 B",
@@ -42,6 +42,11 @@ const CASES: [Case; 10] = [
         commands: b"resource tape 4\nresource disk 1\njob a 3 tape\njob b 4 tape\nask a 2 tape\nwant b 3 tape\ncapital tape 5\ncapital tape 6\nstate\ncapital tape 3\ncapital tape 2\ncapital tape 4\ncapital tape 5\ncapital tape 6\ncapital disk 0\nask a 1 disk\ncapital floppy 1\ncapital tape\ncapital tape two\ncapital tape 1000001\ncapital tape 1 disk\ncapital\ngive b 1 tape\ncapital tape 5\nwant b 1 tape\ngive a 2 tape\nstate\n",
         said: b"ready\nready\nready\nready\ngranted a 2 tape\nready\nqueued\nready\nready\ngranted b 3 tape\nready\nresource tape capital 6 cash 1\nresource disk capital 1 cash 1\njob a tape claim 3 holds 2 needs 1\njob a disk claim 0 holds 0 needs 0\njob b tape claim 4 holds 3 needs 1\njob b disk claim 0 holds 0 needs 0\nready\nclaimed b\nready\nclaimed a b\nready\nwait cash tape 1\nready\nwait rest a b\nready\nready\nready\nover claim disk\nready\nrefused B4 no such resource: floppy\nready\nrefused B1 not a command\nready\nrefused B2 an amount is not in 0..=1000000: two\nready\nrefused B2 an amount is not in 0..=1000000: 1000001\nready\nrefused B1 not a command\nready\nrefused B1 not a command\nready\nready\nready\nqueued\nready\ngranted b 1 tape\nready\nresource tape capital 5 cash 2\nresource disk capital 0 cash 0\njob a tape claim 3 holds 0 needs 3\njob a disk claim 0 holds 0 needs 0\njob b tape claim 4 holds 3 needs 1\njob b disk claim 0 holds 0 needs 0\nready\n",
     },
+    // Claims that change: a smaller one serves the queue, a larger one is granted if the state with it is safe.
+    Case {
+        commands: b"resource tape 4\nresource disk 1\njob a 2 tape\njob b 4 tape, 1 disk\nask a 1 tape\nask b 2 tape\nclaim a 3 tape\nclaim a 1 tape\nclaim a 0 tape\nclaim a 5 tape\nclaim b 3 tape\nclaim a 3 tape\nclaim a 1 disk\nstate\nwant b 1 tape\nwant a 2 tape\nclaim a 2 tape\nclaim b 4 tape\nclaim b 0 disk\nclaim a 4 tape\nclaim a 3 tape\ngive b 3 tape\nask b 1 tape\nclaim b 1 tape\nclaim b 2 tape\nclaim\nclaim a\nclaim c 1 tape\nclaim a 1 tape, 1 disk\nclaim a one tape\nclaim a 1 floppy\nclaim a 1 tape disk\nstate\nleave a\nleave b\njob a 3 tape\njob b 3 tape\nask a 1 tape\nask b 1 tape\ncapital tape 3\nwant b 1 tape\nwant a 1 tape\nclaim b 1 tape\nclaim a 2 tape\nleave a\nstate\n",
+        said: b"ready\nready\nready\nready\ngranted a 1 tape\nready\ngranted b 2 tape\nready\nwait rest a b\nready\nready\nrefused B14 the job holds or waits for more: tape\nready\nrefused B10 a claim is over the capital: tape\nready\nready\nready\nready\nresource tape capital 4 cash 1\nresource disk capital 1 cash 1\njob a tape claim 3 holds 1 needs 2\njob a disk claim 1 holds 0 needs 1\njob b tape claim 3 holds 2 needs 1\njob b disk claim 1 holds 0 needs 1\nready\ngranted b 1 tape\nready\nqueued\nready\nrefused B14 the job holds or waits for more: tape\nready\nwait rest a b\nready\nready\nready\nready\ngranted a 2 tape\nready\ngranted b 1 tape\nready\nready\nready\nrefused B1 not a command\nready\nrefused B1 not a command\nready\nrefused B5 no such job: c\nready\nrefused B1 not a command\nready\nrefused B2 an amount is not in 0..=1000000: one\nready\nrefused B4 no such resource: floppy\nready\nrefused B1 not a command: a comma is missing before disk\nready\nresource tape capital 4 cash 0\nresource disk capital 1 cash 1\njob a tape claim 3 holds 3 needs 0\njob a disk claim 1 holds 0 needs 1\njob b tape claim 2 holds 1 needs 1\njob b disk claim 0 holds 0 needs 0\nready\nready\nready\nready\nready\ngranted a 1 tape\nready\ngranted b 1 tape\nready\nwait rest a b\nready\ngranted b 1 tape\nready\nqueued\nready\nrefused B14 the job holds or waits for more: tape\nready\ngranted a 1 tape\nready\nready\nresource tape capital 4 cash 2\nresource disk capital 1 cash 1\njob b tape claim 3 holds 2 needs 1\njob b disk claim 0 holds 0 needs 0\nready\n",
+    },
     // Refusals.
     Case {
         commands: b"lend\nresource r 1000001\nresource r/s 1\nresource r 2\nresource r 2\njob p 3 r\njob p 1 r, 1 r\njob p 1 s\njob p 2 r\njob p 2 r\nresource s 1\nask q 1 r\nask p one r\nask p 1\nask p 1 r 1 r\nleave p p\nstate now\nleave q\n",
@@ -59,7 +64,7 @@ const CASES: [Case; 10] = [
     },
     Case {
         commands: b"help\n",
-        said: b"resource R K\njob J K R, ..\nask J K R, ..\nwant J K R, ..\ndrop J\ngive J K R, ..\nleave J\ncapital R K\nwhy J K R, ..\nhold J K R, ..\norder\norder J ..\nstate\nhelp\nready\n",
+        said: b"resource R K\njob J K R, ..\nask J K R, ..\nwant J K R, ..\ndrop J\ngive J K R, ..\nleave J\ncapital R K\nclaim J K R\nwhy J K R, ..\nhold J K R, ..\norder\norder J ..\nstate\nhelp\nready\n",
     },
 ];
 
