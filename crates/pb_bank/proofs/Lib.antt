@@ -8,5 +8,6 @@ pub mod PairLemmas
 pub mod PlaceLemmas
 pub mod QueueTexts
 pub mod ReadingDesks
+pub mod RefusedDesks
 pub mod Waiting
 pub mod WordLemmas

@@ -31,7 +31,7 @@ alone : (text : List ℕ) (d : DeskValue) (words : List (List ℕ)) (said : List
 alone text d [] said next says = says.1
 alone text d (word ∷ words) said next says = says.1
 
-asked : (k : Kind) (d : DeskValue) (words : List (List ℕ)) (said : List ℕ) (next : DeskValue) → only_asks k ≡ true
+pub asked : (k : Kind) (d : DeskValue) (words : List (List ℕ)) (said : List ℕ) (next : DeskValue) → only_asks k ≡ true
     → AnswersWords k d words said next → next ≡ d
 asked Skip d words said next asks says = says.1
 asked Resource d words said next asks says = absurd cc

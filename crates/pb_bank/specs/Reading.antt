@@ -1,5 +1,5 @@
--- Lines that only ask.
-use Rattle.std.specs.Prelude.{◌≡◌, Bool, true, false, ℕ, nat_lt, List, length}
+-- Lines that only ask, and lines that are refused.
+use Rattle.std.specs.Prelude.{◌≡◌, Bool, true, false, ℕ, nat_lt, List, length, take, codes}
 use Rattle.pb_bank.specs.declared.kind.Kind.{Kind}
 use Rattle.pb_bank.specs.declared.kind.Kind.TheVariants as kind
 use Rattle.pb_bank.specs.Answers.{AnswersLine, first_of, most}
@@ -29,9 +29,18 @@ only_asks kind.Other = true
 abbrev pub line_kind : List ℕ → Kind
 line_kind line = kind_within (nat_lt most (length (trimmed line))) (first_of (words_of (trimmed line)))
 
+-- what is said begins with this word
+abbrev pub IsRefused : List ℕ → Type 0
+IsRefused said = take 8 said ≡ codes "refused "
+
 -- ---- laws
 
 -- a line that only asks leaves the desk as it is
 abbrev pub ReadingChangesNothing : Type 0
 ReadingChangesNothing =
     (d : DeskValue) (line said : List ℕ) (next : DeskValue) → only_asks (line_kind line) ≡ true → AnswersLine d line said next → next ≡ d
+
+-- a line that is refused leaves the desk as it is
+abbrev pub RefusedChangesNothing : Type 0
+RefusedChangesNothing =
+    (d : DeskValue) (line said : List ℕ) (next : DeskValue) → AnswersLine d line said next → IsRefused said → next ≡ d
