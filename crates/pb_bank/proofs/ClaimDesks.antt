@@ -1,5 +1,5 @@
 -- Desks whose bank changes the claim of a job, and the amounts of a wish.
-use Rattle.std.proofs.Common.{◌≡◌, ◌++◌, ℕ, suc, ◌+◌, ◌<◌, eqb, Bool, cond, List, [], length, drop, get_or, set, slice_get, Some, All}
+use Rattle.std.proofs.Common.{◌≡◌, ◌++◌, ℕ, suc, ◌+◌, ◌<◌, eqb, Bool, cond, List, [], ◌∷◌, length, drop, get_or, set, slice_get, Some, All}
 use Rattle.std.proofs.Common.{refl, sym, ap, ◌∙◌, subst, arith}
 use Rattle.std.proofs.Math.Seq.{drop-cons}
 use Rattle.std.proofs.lemmas.List.{length-set}
@@ -12,9 +12,10 @@ use Rattle.pb_banker.specs.Jobs.{BankValue}
 use Rattle.pb_banker.specs.declared.reason.ClaimSaid.TheVariants as claim
 use Rattle.pb_banker.specs.declared.reason.Reason.TheVariants.{Rest}
 use Rattle.pb_bank.specs.declared.request.Request.{Request}
-use Rattle.pb_bank.specs.Claims.{AsksForClaim, amount_for, wished}
+use Rattle.pb_bank.specs.Claims.{AsksForClaim, SetsClaim, SetsClaims, amount_for, claim_refusal, wished}
 use Rattle.pb_bank.specs.Desks.{DeskValue, IsRequestOf}
-use Rattle.pb_bank.specs.Refusals.{reason_text}
+use Rattle.pb_bank.specs.Refusals.{Refuses, reason_text}
+use Rattle.pb_bank.specs.declared.refusal.Refusal.TheVariants.{Command}
 use Rattle.pb_bank.proofs.CapitalDesks.{same_bank}
 
 -- the amounts of a resource from a pair on
@@ -73,3 +74,21 @@ told_rest d b next names wishes job pair slots out after view says state used is
       ),
       is ∙ ap (λ (s : BankerState). out ++ reason_text [] names s (Rest slots)) state,
     )
+
+-- ---- the pairs of a claim
+
+-- there is just one
+pub claims_one : (d : DeskValue) (p : ℕ) (pairs : List Pair) (pair : Pair) (said : List ℕ) (next : DeskValue) → length pairs ≡ 1
+    → slice_get pairs 0 ≡ Some pair → SetsClaim (claim_refusal d p pair) d p pair said next → SetsClaims d p pairs said next
+claims_one d p [] pair said next one here says = absurd (omega (arith, one))
+claims_one d p (x ∷ []) pair said next one here says =
+    let same : x ≡ pair = get_or_from_slice_get (x ∷ []) 0 pair pair here in
+    subst (λ (q : Pair). SetsClaim (claim_refusal d p q) d p q said next) (sym same) says
+claims_one d p (x ∷ y ∷ pairs) pair said next one here says = absurd (omega (arith, one))
+
+-- there are none, or several
+pub claims_others : (d : DeskValue) (p : ℕ) (pairs : List Pair) (said : List ℕ) (next : DeskValue) → (length pairs ≡ 1 → ⊥)
+    → Refuses [] Command d said next → SetsClaims d p pairs said next
+claims_others d p [] said next others says = says
+claims_others d p (x ∷ []) said next others says = absurd (others refl)
+claims_others d p (x ∷ y ∷ pairs) said next others says = says

@@ -4,6 +4,7 @@ ghost use Rattle.std.specs.Prelude.{◌≡◌, ◌<◌, ◌≤◌, ◌++◌, ◌
 ghost use Rattle.pb_base.specs.Banker.{processes, resources, capital, loan};
 ghost use Rattle.pb_banker.specs.Jobs.{HasJob};
 ghost use Rattle.pb_bank.specs.Claims as claims;
+ghost use Rattle.pb_bank.specs.Desks.{IsRequestOf};
 ghost use Rattle.pb_bank.specs.Words.{words_of};
 
 use crate::desk::Desk;
@@ -101,19 +102,28 @@ impl Desk {
         }
     }
 
+    /// Changes the claim that a request names, if it names one.
+    fn claim(&mut self, out: &mut Vec<u8>, request: &Request) -> Result<(), NoMemory>
+        requires of { IsRequestOf self.old.bank request.now }
+        requires has { HasJob self.old.bank request.now.job }
+        ensures { OnOk result ((said : List ℕ)
+            × claims.SetsClaims self.old request.now.job request.now.bundle said self.new
+            × (out.new.items ≡ out.old.items ++ said)) }
+    {
+        if request.bundle.len() == 1 {
+            self.set_claim(out, request.job, request.bundle.get(0))
+        } else {
+            put_refusal(out, &self.names, b"", Refusal::Command)
+        }
+    }
+
     /// Changes the claim of a job, or refuses it.
     pub(crate) fn say_claim(&mut self, out: &mut Vec<u8>, text: &[u8]) -> Result<(), NoMemory>
         ensures { OnOk result ((said : List ℕ) × claims.AnswersClaim self.old (words_of text.now) said self.new
             × (out.new.items ≡ out.old.items ++ said)) }
     {
         match self.request_of(text) {
-            Ok(request) => {
-                if request.bundle.len() == 1 {
-                    self.set_claim(out, request.job, request.bundle.get(0))
-                } else {
-                    put_refusal(out, &self.names, b"", Refusal::Command)
-                }
-            }
+            Ok(request) => self.claim(out, &request),
             Err(refusal) => put_refusal(out, &self.names, text, refusal),
         }
     }
