@@ -30,11 +30,11 @@ amount_next pairs i r pair b lt here same =
     ∙ ap (λ k. cond b pair.amount (amount_for (drop k pairs) r)) n))
 
 -- what a job waits for from a wish on
-pub wished_next : (wishes : List Request) (i job r : ℕ) (w : Request) (b : Bool) → i < length wishes → slice_get wishes i ≡ Some w
+pub wished_next : (wishes : List Request) (i job r : ℕ) (w : Request) (b : Bool) → i < length wishes → w ≡ get_or wishes i w
     → eqb w.job job ≡ b → wished (drop i wishes) job r ≡ cond b (amount_for w.bundle r) (wished (drop (i + 1) wishes) job r)
 wished_next wishes i job r w b lt here same =
     let n : suc i ≡ i + 1 = omega arith in
-    let at : get_or wishes i w ≡ w = get_or_from_slice_get wishes i w w here in
+    let at : get_or wishes i w ≡ w = sym here in
     ap (λ (ws : List Request). wished ws job r) (drop-cons wishes i w lt)
     ∙ (ap (λ (v : Request). cond (eqb v.job job) (amount_for v.bundle r) (wished (drop (suc i) wishes) job r)) at
     ∙ (ap (λ t. cond t (amount_for w.bundle r) (wished (drop (suc i) wishes) job r)) same

@@ -226,7 +226,7 @@ refused_words kind.Claim d words said next says refused =
 refused_words kind.Job d words said next says refused = job d words says.0 next says.1 (rw says.2 at refused)
 refused_words kind.Ask d words said next says refused =
     of_request (Grants (codes "granted ") d) words (asked_of d words) d says.0 next says.1
-    (λ w h. granted 103 _ d w says.0 next (λ e. omega (arith, e)) h (rw says.2 at refused))
+    (λ w h. granted 103 (codes "ranted ") d w says.0 next (λ e. omega (arith, e)) h (rw says.2 at refused))
 refused_words kind.Want d words said next says refused =
     of_request (Wants d) words (asked_of d words) d says.0 next says.1
     (λ w h. wanted h.0 d w says.0 next h.2 (rw says.2 at refused))
@@ -237,7 +237,7 @@ refused_words kind.Give d words said next says refused =
 refused_words kind.Leave d words said next says refused = gone d words says.0 next says.1 (rw says.2 at refused)
 refused_words kind.Hold d words said next says refused =
     of_request (Grants (codes "held ") d) words (asked_of d words) d says.0 next says.1
-    (λ w h. granted 104 _ d w says.0 next (λ e. omega (arith, e)) h (rw says.2 at refused))
+    (λ w h. granted 104 (codes "eld ") d w says.0 next (λ e. omega (arith, e)) h (rw says.2 at refused))
 refused_words kind.Why d words said next says refused = asked kind.Why d words said next refl says
 refused_words kind.Order d words said next says refused = asked kind.Order d words said next refl says
 refused_words kind.State d words said next says refused = asked kind.State d words said next refl says

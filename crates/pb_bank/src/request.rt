@@ -1,6 +1,6 @@
 //! What the words of a request say.
 
-ghost use Rattle.std.specs.Prelude.{◌≡◌, ◌<◌, ◌≤◌, length, map, All, IfOk};
+ghost use Rattle.std.specs.Prelude.{◌≡◌, ◌<◌, ◌≤◌, ◌*◌, length, map, All, IfOk};
 ghost use Rattle.pb_bank.specs.Requests as spec;
 ghost use Rattle.pb_bank.specs.Words.{words_of};
 
