@@ -42,7 +42,7 @@ def printable(word: str) -> str:
 def amount_of(word: str) -> int:
     """Reads an amount."""
     if not AMOUNT.fullmatch(word) or int(word) > MOST_AMOUNT:
-        raise Refused(f"B2 an amount is not in 0..={MOST_AMOUNT}")
+        raise Refused(f"B2 an amount is not in 0..={MOST_AMOUNT}: {printable(word)}")
     return int(word)
 
 
@@ -140,7 +140,7 @@ class Model:
         if not NAME.fullmatch(name):
             raise Refused("B3 not a name of 1 to 32 bytes")
         if name in taken:
-            raise Refused("B7 the name is taken")
+            raise Refused(f"B7 the name is taken: {name}")
         return name
 
     # The commands
@@ -155,7 +155,7 @@ class Model:
             raise Refused("B8 a job was there before the resource")
         name = self.new_name(words[0], self.capital)
         if len(self.capital) == MOST_RESOURCES:
-            raise Refused("B9 there are as many as there can be")
+            raise Refused(f"B9 there are as many as there can be: {name}")
         self.capital[name] = amount
         return []
 
@@ -187,7 +187,7 @@ class Model:
         if over is not None:
             raise Refused(f"B10 a claim is over the capital: {over}")
         if len(self.jobs()) == MOST_JOBS:
-            raise Refused("B9 there are as many as there can be")
+            raise Refused(f"B9 there are as many as there can be: {name}")
         if None not in self.slots:
             self.slots.append(None)
         self.slots[self.slots.index(None)] = Job(name, claim)
@@ -200,7 +200,7 @@ class Model:
         job = self.job_of(words[0])
         amounts = self.amounts_of(words[1:])
         if is_free and job.name in self.wishes:
-            raise Refused("B12 the job has a wish in the queue")
+            raise Refused(f"B12 the job has a wish in the queue: {job.name}")
         return job, amounts
 
     def do_ask(self, words: list[str], word: str = "granted") -> list[str]:
@@ -227,7 +227,7 @@ class Model:
     def do_drop(self, words: list[str]) -> list[str]:
         name = self.one_job(words).name
         if name not in self.wishes:
-            raise Refused("B13 the job has no wish in the queue")
+            raise Refused(f"B13 the job has no wish in the queue: {name}")
         del self.wishes[name]
         return []
 
@@ -244,6 +244,42 @@ class Model:
         if len(words) != 1 or words[0] == ",":
             raise Refused(NOT_A_COMMAND)
         return self.job_of(words[0])
+
+    def do_capital(self, words: list[str]) -> list[str]:
+        if len(words) != 2 or "," in words:
+            raise Refused(NOT_A_COMMAND)
+        if words[0] not in self.capital:
+            raise Refused(f"B4 no such resource: {printable(words[0])}")
+        resource, amount = words[0], amount_of(words[1])
+        claimed = [job.name for job in self.jobs() if job.claim.get(resource, 0) > amount]
+        if claimed:
+            return [" ".join(["claimed", *claimed])]
+        before, cash = self.capital[resource], self.cash(resource)
+        if before - amount > cash:
+            return [f"wait cash {resource} {cash}"]
+        self.capital[resource] = amount
+        rest = self.finish()[1]
+        if rest:
+            self.capital[resource] = before
+            return [" ".join(["wait rest", *(job.name for job in rest)])]
+        return self.serve()
+
+    def do_claim(self, words: list[str]) -> list[str]:
+        job, amounts = self.request(words, is_free=False)
+        if len(amounts) != 1:
+            raise Refused(NOT_A_COMMAND)
+        (resource, amount), = amounts.items()
+        if amount > self.capital[resource]:
+            raise Refused(f"B10 a claim is over the capital: {resource}")
+        if amount < job.holds.get(resource, 0) + self.wishes.get(job.name, {}).get(resource, 0):
+            raise Refused(f"B14 the job holds or waits for more: {resource}")
+        before = job.claim.get(resource, 0)
+        job.claim[resource] = amount
+        rest = self.finish()[1]
+        if rest:
+            job.claim[resource] = before
+            return [" ".join(["wait rest", *(it.name for it in rest)])]
+        return self.serve()
 
     def do_leave(self, words: list[str]) -> list[str]:
         job = self.one_job(words)

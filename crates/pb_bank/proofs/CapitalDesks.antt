@@ -12,7 +12,7 @@ use Rattle.pb_bank.specs.Desks.{DeskValue, IsDesk, NoneIsAllowed}
 use Rattle.pb_bank.specs.Refusals.{reason_text}
 use Rattle.pb_bank.proofs.Waiting.{desk_kept}
 
-same_bank : (b next : BankValue) → next.state ≡ b.state → next.used ≡ b.used → next ≡ b
+pub same_bank : (b next : BankValue) → next.state ≡ b.state → next.used ≡ b.used → next ≡ b
 same_bank b next state used =
     ap (λ (s : BankerState). record { state = s; used = next.used }) state
     ∙ ap (λ (u : List Bool). record { state = b.state; used = u }) used

@@ -1,4 +1,5 @@
 pub mod CapitalDesks
+pub mod ClaimDesks
 pub mod DeskLemmas
 pub mod EachNumber
 pub mod MoreLoans
@@ -6,5 +7,7 @@ pub mod OrderLemmas
 pub mod PairLemmas
 pub mod PlaceLemmas
 pub mod QueueTexts
+pub mod ReadingDesks
+pub mod RefusedDesks
 pub mod Waiting
 pub mod WordLemmas

@@ -10,7 +10,7 @@ use Rattle.pb_base.specs.Banker.{BankerState, loan}
 use Rattle.pb_bank.specs.Answers.{unheld, with_amounts}
 use Rattle.pb_bank.specs.declared.refusal.Refusal.{Refusal}
 use Rattle.pb_bank.specs.declared.refusal.Refusal.TheVariants.{Command, NoComma, Twice}
-use Rattle.pb_bank.specs.Requests.{comma_place, has_resource, is_new, on_pair, pair_of, pairs_after, pairs_of, resource_place}
+use Rattle.pb_bank.specs.Requests.{comma_place, has_resource, is_new, on_pair, pair_of, pairs_after, pairs_of}
 use Rattle.pb_bank.specs.Words.{has_two, is_comma}
 
 -- ---- one resource among pairs
@@ -45,7 +45,7 @@ new_parts pairs pair e = not_there (has_resource pairs pair.resource) (ltb (leng
 -- ---- further pairs
 
 pub more_pairs : (names : List (List ℕ)) (pairs : List Pair) (comma amount resource : List ℕ) (rest : List (List ℕ)) (t : Bool)
-    (one : Result Pair Refusal) → is_comma comma ≡ t → pair_of names (resource_place pairs) amount resource ≡ one
+    (one : Result Pair Refusal) → is_comma comma ≡ t → pair_of names (comma_place pairs) amount resource ≡ one
     → pairs_after names pairs (comma ∷ amount ∷ resource ∷ rest)
     ≡ cond t (on_pair one (λ pair. cond (is_new pairs pair) (pairs_after names (pairs ++ pair ∷ []) rest) (Err (Twice pair.resource))))
     (Err (NoComma (comma_place pairs)))
@@ -53,7 +53,7 @@ more_pairs names pairs comma amount resource rest t one comma_is one_is =
     let next : Pair → Result (List Pair) Refusal =
     λ pair. cond (is_new pairs pair) (pairs_after names (pairs ++ pair ∷ []) rest) (Err (Twice pair.resource)) in
     let none : Result (List Pair) Refusal = Err (NoComma (comma_place pairs)) in
-    ap (λ b. cond b (on_pair (pair_of names (resource_place pairs) amount resource) next) none) comma_is
+    ap (λ b. cond b (on_pair (pair_of names (comma_place pairs) amount resource) next) none) comma_is
     ∙ ap (λ o. cond t (on_pair o next) none) one_is
 
 choice : List Pair → Bool → Result (List Pair) Refusal
@@ -73,7 +73,7 @@ unfolding choice
 no_comma names pairs comma [] is = ap (choice pairs) is
 no_comma names pairs comma (a ∷ []) is = ap (choice pairs) is
 no_comma names pairs comma (a ∷ b ∷ words) is =
-    more_pairs names pairs comma a b words false (pair_of names (resource_place pairs) a b) is refl
+    more_pairs names pairs comma a b words false (pair_of names (comma_place pairs) a b) is refl
 
 pub no_pairs : (names : List (List ℕ)) (words : List (List ℕ)) → has_two words ≡ false → pairs_of names words ≡ Err Command
 unfolding pairs_of
@@ -82,7 +82,7 @@ no_pairs names (a ∷ []) e = refl
 no_pairs names (a ∷ b ∷ words) e = absurd cc
 
 pub first_pair : (names : List (List ℕ)) (amount resource : List ℕ) (rest : List (List ℕ)) (one : Result Pair Refusal)
-    → pair_of names (resource_place []) amount resource ≡ one
+    → pair_of names (comma_place []) amount resource ≡ one
     → pairs_of names (amount ∷ resource ∷ rest) ≡ on_pair one (λ pair. pairs_after names (pair ∷ []) rest)
 unfolding pairs_of
 first_pair names amount resource rest one is = ap (λ o. on_pair o (λ pair. pairs_after names (pair ∷ []) rest)) is

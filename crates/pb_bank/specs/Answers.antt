@@ -24,8 +24,9 @@ use Rattle.pb_bank.specs.declared.refusal.Refusal.TheVariants as refused
 use Rattle.pb_bank.specs.declared.request.Request.{Request}
 use Rattle.pb_bank.specs.Desks.{DeskValue, NoneIsAllowed, place_of, job_of}
 use Rattle.pb_bank.specs.Queues.{has_wish, request_text, without_wish, wishes_text, ServesQueue}
-pub use Rattle.pb_bank.specs.Refusals.{refusal_text, Refuses, with_state, jobs_text, reason_text, IsReasonAmong, IsReasonOf}
+pub use Rattle.pb_bank.specs.Refusals.{refusal_text, Refuses, with_state, jobs_text, reason_text, IsReasonAmong, IsReasonOf, OfRequest}
 use Rattle.pb_bank.specs.Capitals.{AnswersCapital}
+use Rattle.pb_bank.specs.Claims.{AnswersClaim}
 use Rattle.pb_bank.specs.Requests.{pairs_of, request_of}
 use Rattle.pb_bank.specs.Words.{words_of, kind_within, amount_of, is_name, trimmed}
 
@@ -38,12 +39,6 @@ Grants granted d w said next =
     (reason : Reason) × SaysWhy d.bank.state w.job w.bundle reason
     × (said ≡ reason_text (request_text granted d.names w) d.names d.bank.state reason)
     × (next ≡ with_state d (state_held d.bank.state w.job w.bundle reason))
-
--- what is said of a request, if the words say one
-abbrev pub OfRequest : (Request → List ℕ → DeskValue → Type 0) → (words : List (List ℕ)) → Result Request Refusal → DeskValue
-    → List ℕ → DeskValue → Type 0
-OfRequest Says words (Err refusal) d said next = Refuses words refusal d said next
-OfRequest Says words (Ok w) d said next = Says w said next
 
 -- a request for more; a job that has a wish in the queue asks for nothing else
 abbrev pub if_free : DeskValue → Result Request Refusal → Result Request Refusal
@@ -83,14 +78,14 @@ abbrev pub AnswersWant : DeskValue → List (List ℕ) → List ℕ → DeskValu
 AnswersWant d words said next = OfRequest (Wants d) words (asked_of d words) d said next
 
 -- a wish is taken back, if the job has one
-abbrev pub DropsWish : Bool → DeskValue → ℕ → List ℕ → DeskValue → Type 0
-DropsWish false d p said next = Refuses [] refused.NoWish d said next
-DropsWish true d p said next = (said ≡ []) × (next ≡ record d { wishes = without_wish d.wishes p })
+abbrev pub DropsWish : Bool → DeskValue → (words : List (List ℕ)) → ℕ → List ℕ → DeskValue → Type 0
+DropsWish false d words p said next = Refuses words refused.NoWish d said next
+DropsWish true d words p said next = (said ≡ []) × (next ≡ record d { wishes = without_wish d.wishes p })
 
 -- the wish of the job that has this slot is dropped, if the name is that of a job
 abbrev pub AnswersDropping : DeskValue → (words : List (List ℕ)) → Option ℕ → List ℕ → DeskValue → Type 0
 AnswersDropping d words None said next = Refuses words (refused.NoJob 0) d said next
-AnswersDropping d words (Some p) said next = DropsWish (has_wish d.wishes p) d p said next
+AnswersDropping d words (Some p) said next = DropsWish (has_wish d.wishes p) d words p said next
 
 -- `drop`: a job takes back its wish
 abbrev pub AnswersDrop : DeskValue → List (List ℕ) → List ℕ → DeskValue → Type 0
@@ -156,7 +151,7 @@ is_there (Some n) = true
 
 -- why a resource of this name and amount is refused, if it is
 abbrev pub resource_refusal : DeskValue → (name : List ℕ) → Option ℕ → Option Refusal
-resource_refusal d name None = Some refused.Amount
+resource_refusal d name None = Some (refused.Amount 1)
 resource_refusal d name (Some amount) =
     cond (is_name name) (
     cond (nat_lt 0 (processes d.bank.state)) (Some refused.Late) (
@@ -200,21 +195,21 @@ abbrev pub desk_joined : DeskValue → BankValue → ℕ → (name : List ℕ) �
 desk_joined d bank p name = record d { bank = bank; names = record d.names { processes = slice_set d.names.processes p name } }
 
 -- a job of this name joins the bank, and the queue is served; or it is refused
-abbrev pub Joins : DeskValue → (name : List ℕ) → Joined → BankValue → List ℕ → DeskValue → Type 0
-Joins d name (joining.In p) bank said next = ServesQueue (desk_joined d bank p name) said next
-Joins d name (joining.OverCapital r) bank said next = Refuses [] (refused.OverCapital r) d said next
-Joins d name joining.Full bank said next = Refuses [] refused.Full d said next
+abbrev pub Joins : DeskValue → (words : List (List ℕ)) → (name : List ℕ) → Joined → BankValue → List ℕ → DeskValue → Type 0
+Joins d words name (joining.In p) bank said next = ServesQueue (desk_joined d bank p name) said next
+Joins d words name (joining.OverCapital r) bank said next = Refuses words (refused.OverCapital r) d said next
+Joins d words name joining.Full bank said next = Refuses words refused.Full d said next
 
 -- a job with the claims that pairs say
-abbrev pub JoinsWith : DeskValue → (name : List ℕ) → List Pair → List ℕ → DeskValue → Type 0
-JoinsWith d name pairs said next =
+abbrev pub JoinsWith : DeskValue → (words : List (List ℕ)) → (name : List ℕ) → List Pair → List ℕ → DeskValue → Type 0
+JoinsWith d words name pairs said next =
     (joined : Joined) × (bank : BankValue) × SaysOfJoining d.bank (claims_of d pairs) joined bank
-    × Joins d name joined bank said next
+    × Joins d words name joined bank said next
 
 -- the job joins with these claims, or is refused
 abbrev pub AddsJob : DeskValue → (words : List (List ℕ)) → (name : List ℕ) → Result (List Pair) Refusal → List ℕ → DeskValue → Type 0
 AddsJob d words name (Err refusal) said next = Refuses words refusal d said next
-AddsJob d words name (Ok pairs) said next = JoinsWith d name pairs said next
+AddsJob d words name (Ok pairs) said next = JoinsWith d words name pairs said next
 
 -- a job of a name that can be one and is not taken
 abbrev pub job_for : DeskValue → (name : List ℕ) → Result (List Pair) Refusal → Result (List Pair) Refusal
@@ -321,7 +316,7 @@ help_text =
     line (codes "resource R K") ++ line (codes "job J K R, ..") ++ line (codes "ask J K R, ..")
     ++ line (codes "want J K R, ..") ++ line (codes "drop J")
     ++ line (codes "give J K R, ..") ++ line (codes "leave J")
-    ++ line (codes "capital R K")
+    ++ line (codes "capital R K") ++ line (codes "claim J K R")
     ++ line (codes "why J K R, ..") ++ line (codes "hold J K R, ..")
     ++ line (codes "order") ++ line (codes "order J ..")
     ++ line (codes "state") ++ line (codes "help")
@@ -338,6 +333,7 @@ abbrev pub AnswersKind : Kind → DeskValue → List (List ℕ) → List ℕ →
 AnswersKind kind.Skip d words said next = Refuses [] refused.Command d said next
 AnswersKind kind.Resource d words said next = AnswersResource d words said next
 AnswersKind kind.Capital d words said next = AnswersCapital d words said next
+AnswersKind kind.Claim d words said next = AnswersClaim d words said next
 AnswersKind kind.Job d words said next = AnswersJob d words said next
 AnswersKind kind.Ask d words said next = AnswersAsk d words said next
 AnswersKind kind.Want d words said next = AnswersWant d words said next

@@ -29,7 +29,7 @@ SetsCapital d r amount said next =
 -- so it is if the words are the name of a resource and an amount
 abbrev pub AnswersSetting : DeskValue → (words : List (List ℕ)) → Option ℕ → Option ℕ → List ℕ → DeskValue → Type 0
 AnswersSetting d words None amount said next = Refuses words (refused.NoResource 0) d said next
-AnswersSetting d words (Some r) None said next = Refuses [] refused.Amount d said next
+AnswersSetting d words (Some r) None said next = Refuses words (refused.Amount 1) d said next
 AnswersSetting d words (Some r) (Some amount) said next = SetsCapital d r amount said next
 
 -- `capital`: a resource, and how many there are now

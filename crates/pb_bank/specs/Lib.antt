@@ -1,7 +1,9 @@
 pub mod Answers
 pub mod Capitals
+pub mod Claims
 pub mod Desks
 pub mod Queues
+pub mod Reading
 pub mod Refusals
 pub mod Requests
 pub mod Words

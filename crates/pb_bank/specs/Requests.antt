@@ -9,23 +9,20 @@ use Rattle.pb_bank.specs.declared.request.Request.{Request}
 use Rattle.pb_bank.specs.Desks.{DeskValue, place_of, job_of}
 use Rattle.pb_bank.specs.Words.{amount_of, is_comma}
 
--- an amount, and the name of a resource, which is the word with this number
+-- an amount and the name of a resource, which are the two words after that with this number
 abbrev pub pair_from : (at : ℕ) → Option ℕ → Option ℕ → Result Pair Refusal
-pair_from at None place = Err Amount
-pair_from at (Some amount) None = Err (NoResource at)
+pair_from at None place = Err (Amount (at + 1))
+pair_from at (Some amount) None = Err (NoResource (at + 2))
 pair_from at (Some amount) (Some r) = Ok (record { resource = r; amount = amount })
 
 -- so it is by their words
 abbrev pub pair_of : (names : List (List ℕ)) → (at : ℕ) → (amount resource : List ℕ) → Result Pair Refusal
 pair_of names at amount resource = pair_from at (amount_of amount) (place_of names resource)
 
--- the number of the word after so many pairs, where a comma belongs, and that of the resource of the next one: words are
--- counted from 0 after the command, and the first is the job
+-- the number of the word after so many pairs, where a comma belongs: words are counted from 0 after the command, and the
+-- first is the job, which is before the first pair
 abbrev pub comma_place : List Pair → ℕ
 comma_place pairs = 3 * length pairs
-
-abbrev pub resource_place : List Pair → ℕ
-resource_place pairs = 3 * length pairs + 2
 
 -- one of the pairs is of this resource
 abbrev pub has_resource : List Pair → ℕ → Bool
@@ -52,7 +49,7 @@ pairs_after names pairs (comma ∷ []) = no_pair pairs comma
 pairs_after names pairs (comma ∷ amount ∷ []) = no_pair pairs comma
 pairs_after names pairs (comma ∷ amount ∷ resource ∷ rest) =
     cond (is_comma comma)
-    (on_pair (pair_of names (resource_place pairs) amount resource)
+    (on_pair (pair_of names (comma_place pairs) amount resource)
     (λ pair. cond (is_new pairs pair) (pairs_after names (pairs ++ pair ∷ []) rest) (Err (Twice pair.resource))))
     (Err (NoComma (comma_place pairs)))
 
@@ -61,7 +58,7 @@ unfoldable pub pairs_of : (names : List (List ℕ)) → List (List ℕ) → Resu
 pairs_of names [] = Err Command
 pairs_of names (amount ∷ []) = Err Command
 pairs_of names (amount ∷ resource ∷ rest) =
-    on_pair (pair_of names (resource_place []) amount resource) (λ pair. pairs_after names (pair ∷ []) rest)
+    on_pair (pair_of names (comma_place []) amount resource) (λ pair. pairs_after names (pair ∷ []) rest)
 
 -- a job, and what it asks for
 abbrev pub request_from : Option ℕ → Result (List Pair) Refusal → Result Request Refusal

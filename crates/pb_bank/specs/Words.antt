@@ -7,7 +7,7 @@ use Rattle.std.specs.Str.{bytes_eq}
 use Rattle.std.specs.Str.Parse.{digits_value}
 use Rattle.pb_code.specs.Numerals.{is_numeral}
 use Rattle.pb_bank.specs.declared.kind.Kind.{Kind}
-use Rattle.pb_bank.specs.declared.kind.Kind.TheVariants.{Skip, Resource, Capital, Job, Ask, Want, Drop, Give, Leave}
+use Rattle.pb_bank.specs.declared.kind.Kind.TheVariants.{Skip, Resource, Capital, Claim, Job, Ask, Want, Drop, Give, Leave}
 use Rattle.pb_bank.specs.declared.kind.Kind.TheVariants.{Hold, Why, Order, State, Help, Other}
 
 -- a space, a tab or a carriage return
@@ -89,9 +89,10 @@ kind_of word =
     cond (bytes_eq word (codes "job")) Job (
     cond (bytes_eq word (codes "resource")) Resource (
     cond (bytes_eq word (codes "capital")) Capital (
+    cond (bytes_eq word (codes "claim")) Claim (
     cond (bytes_eq word (codes "order")) Order (
     cond (bytes_eq word (codes "state")) State (
-    cond (bytes_eq word (codes "help")) Help Other)))))))))))))
+    cond (bytes_eq word (codes "help")) Help Other))))))))))))))
 
 -- the same; a command that is too long is none, and a comment may have any length
 abbrev pub kind_within : (too_long : Bool) → List ℕ → Kind

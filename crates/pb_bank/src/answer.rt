@@ -65,6 +65,7 @@ impl Desk {
             Kind::Job => self.say_job(out, text),
             Kind::Resource => self.say_resource(out, text),
             Kind::Capital => self.say_capital(out, text),
+            Kind::Claim => self.say_claim(out, text),
             Kind::Order => self.say_order(out, text),
             Kind::State => self.say_state(out, text),
             Kind::Help => self.say_help(out, text),

@@ -55,7 +55,7 @@ impl Desk {
         };
         match amount_of(words.second) {
             Some(amount) => self.set_capital(out, r, amount),
-            None => put_refusal(out, &self.names, b"", Refusal::Amount),
+            None => put_refusal(out, &self.names, text, Refusal::Amount(1)),
         }
     }
 }

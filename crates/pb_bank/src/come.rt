@@ -63,7 +63,7 @@ impl Desk {
         ensures { result ≡ answers.resource_refusal self.now name.now amount }
     {
         if amount.is_none() {
-            return Some(Refusal::Amount);
+            return Some(Refusal::Amount(1));
         }
         if !is_name(name) {
             return Some(Refusal::Name);
@@ -113,7 +113,7 @@ impl Desk {
         }
         match amount {
             Some(amount) => self.add_resource(words.first, amount),
-            None => put_refusal(out, &self.names, b"", Refusal::Amount),
+            None => put_refusal(out, &self.names, text, Refusal::Amount(1)),
         }
     }
 
@@ -133,10 +133,16 @@ impl Desk {
         bundle_of(&self.names.resources, text)
     }
 
-    /// Has a job of this name join, and serves the queue; or refuses it.
-    fn join(&mut self, out: &mut Vec<u8>, name: &[u8], bundle: &Bundle) -> Result<(), NoMemory>
+    /// Has a job of this name join, and serves the queue; or refuses the command with this text after it.
+    fn join(
+        &mut self,
+        out: &mut Vec<u8>,
+        text: &[u8],
+        name: &[u8],
+        bundle: &Bundle,
+    ) -> Result<(), NoMemory>
         requires { All (λ pair. pair.resource < resources self.old.bank.state) bundle.now }
-        ensures { OnOk result ((said : List ℕ) × answers.JoinsWith self.old name.now bundle.now said self.new
+        ensures { OnOk result ((said : List ℕ) × answers.JoinsWith self.old (words_of text.now) name.now bundle.now said self.new
             × (out.new.items ≡ out.old.items ++ said)) }
     {
         let resources = self.bank.resources();
@@ -148,8 +154,8 @@ impl Desk {
                 self.names.processes[p] = name;
                 self.serve(out, wishes)
             }
-            Joined::OverCapital(r) => put_refusal(out, &self.names, b"", Refusal::OverCapital(r)),
-            Joined::Full => put_refusal(out, &self.names, b"", Refusal::Full),
+            Joined::OverCapital(r) => put_refusal(out, &self.names, text, Refusal::OverCapital(r)),
+            Joined::Full => put_refusal(out, &self.names, text, Refusal::Full),
         }
     }
 
@@ -163,7 +169,7 @@ impl Desk {
             return put_refusal(out, &self.names, b"", Refusal::Command);
         }
         match self.claims_for(name.word, name.rest) {
-            Ok(bundle) => self.join(out, name.word, &bundle),
+            Ok(bundle) => self.join(out, text, name.word, &bundle),
             Err(refusal) => put_refusal(out, &self.names, text, refusal),
         }
     }

@@ -3,6 +3,7 @@
 ghost use Rattle.std.specs.Prelude.{◌≡◌, ◌<◌, ◌≤◌, ◌==◌, ◌∷◌, [], ℕ, length, map, filter, not, replicate, false, All, IfOk, IfSome, OnOk};
 ghost use Rattle.pb_base.specs.Banker.{processes, resources, IsWellFormed, IsSafe};
 ghost use Rattle.pb_base.specs.Lines.{names_view};
+ghost use Rattle.pb_banker.specs.Jobs.{HasJob};
 ghost use Rattle.pb_bank.specs.Requests.{request_of};
 ghost use Rattle.pb_bank.specs.Words.{words_of};
 
@@ -81,6 +82,7 @@ impl Desk {
     pub(crate) fn job_of(&self, word: &[u8]) -> Option<usize>
         ensures job { result ≡ job_of self.now word.now }
         ensures row { IfSome result (λ p. p < processes self.now.bank.state) }
+        ensures has { IfSome result (HasJob self.now.bank) }
         ensures slot { IfSome result (λ p. p < MAX_PROCESSES) }
     {
         let p = place_of(&self.names.processes, word)?;
@@ -92,6 +94,7 @@ impl Desk {
     pub(crate) fn request_of(&self, text: &[u8]) -> Result<Request, Refusal>
         ensures said { result ≡ request_of self.now (words_of text.now) }
         ensures of { IfOk result (IsRequestOf self.now.bank) }
+        ensures has { IfOk result (λ w. HasJob self.now.bank w.job) }
     {
         let name = first_word(text);
         if name.word.is_empty() {

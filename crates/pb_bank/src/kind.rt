@@ -13,6 +13,8 @@ pub enum Kind {
     Resource,
     /// `capital R K`
     Capital,
+    /// `claim J K R`
+    Claim,
     /// `job J K R, ..`
     Job,
     /// `ask J K R, ..`
@@ -52,9 +54,10 @@ fn last_kind(word: &[u8]) -> Kind
         cond (bytes_eq word.now (codes "job")) Kind.Job (
         cond (bytes_eq word.now (codes "resource")) Kind.Resource (
         cond (bytes_eq word.now (codes "capital")) Kind.Capital (
+        cond (bytes_eq word.now (codes "claim")) Kind.Claim (
         cond (bytes_eq word.now (codes "order")) Kind.Order (
         cond (bytes_eq word.now (codes "state")) Kind.State (
-        cond (bytes_eq word.now (codes "help")) Kind.Help Kind.Other))))) }
+        cond (bytes_eq word.now (codes "help")) Kind.Help Kind.Other)))))) }
 {
     if is(word, "job") {
         Kind::Job
@@ -62,6 +65,8 @@ fn last_kind(word: &[u8]) -> Kind
         Kind::Resource
     } else if is(word, "capital") {
         Kind::Capital
+    } else if is(word, "claim") {
+        Kind::Claim
     } else if is(word, "order") {
         Kind::Order
     } else if is(word, "state") {
@@ -86,9 +91,10 @@ fn kind_of_word(word: &[u8]) -> Kind
         cond (bytes_eq word.now (codes "job")) Kind.Job (
         cond (bytes_eq word.now (codes "resource")) Kind.Resource (
         cond (bytes_eq word.now (codes "capital")) Kind.Capital (
+        cond (bytes_eq word.now (codes "claim")) Kind.Claim (
         cond (bytes_eq word.now (codes "order")) Kind.Order (
         cond (bytes_eq word.now (codes "state")) Kind.State (
-        cond (bytes_eq word.now (codes "help")) Kind.Help Kind.Other)))))))))))) }
+        cond (bytes_eq word.now (codes "help")) Kind.Help Kind.Other))))))))))))) }
 {
     if is(word, "ask") {
         Kind::Ask

@@ -4,9 +4,11 @@
 mod answer;
 mod ask;
 mod capital;
+mod claim;
 mod come;
 mod desk;
 mod kind;
+pub mod laws;
 mod order;
 mod queue;
 mod refusal;

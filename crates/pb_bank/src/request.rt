@@ -1,6 +1,6 @@
 //! What the words of a request say.
 
-ghost use Rattle.std.specs.Prelude.{◌≡◌, ◌<◌, ◌≤◌, length, map, All, IfOk};
+ghost use Rattle.std.specs.Prelude.{◌≡◌, ◌<◌, ◌≤◌, ◌*◌, length, map, All, IfOk};
 ghost use Rattle.pb_bank.specs.Requests as spec;
 ghost use Rattle.pb_bank.specs.Words.{words_of};
 
@@ -16,17 +16,18 @@ pub struct Request {
     pub bundle: Bundle,
 }
 
-/// Returns an amount of the resource of this name, which is the word with this number.
+/// Returns an amount of the resource of this name, which are the two words after that with this number.
 fn pair_of(names: &[Vec<u8>], at: usize, amount: &[u8], resource: &[u8]) -> Result<Pair, Refusal>
-    requires { length names.now ≤ MAX_RESOURCES }
+    requires few { length names.now ≤ MAX_RESOURCES }
+    requires number { at ≤ 3 * MAX_PAIRS }
     ensures said { result ≡ spec.pair_of (map (λ name. name.items) names.now) at amount.now resource.now }
     ensures below { IfOk result (λ pair. pair.resource < length names.now) }
 {
     let Some(amount) = amount_of(amount) else {
-        return Err(Refusal::Amount);
+        return Err(Refusal::Amount(at + 1));
     };
     let Some(r) = place_of(names, resource) else {
-        return Err(Refusal::NoResource(at));
+        return Err(Refusal::NoResource(at + 2));
     };
     Ok(Pair {
         resource: r as u8,
@@ -62,7 +63,7 @@ pub(crate) fn bundle_of(names: &[Vec<u8>], text: &[u8]) -> Result<Bundle, Refusa
     let Some(words) = two_words(text) else {
         return Err(Refusal::Command);
     };
-    let pair = match pair_of(names, 2, words.first, words.second) {
+    let pair = match pair_of(names, 0, words.first, words.second) {
         Ok(pair) => pair,
         Err(refusal) => return Err(refusal),
     };
@@ -80,7 +81,7 @@ pub(crate) fn bundle_of(names: &[Vec<u8>], text: &[u8]) -> Result<Bundle, Refusa
         let Some(words) = two_words(comma.rest) else {
             return Err(Refusal::Command);
         };
-        let pair = match pair_of(names, place + 2, words.first, words.second) {
+        let pair = match pair_of(names, place, words.first, words.second) {
             Ok(pair) => pair,
             Err(refusal) => return Err(refusal),
         };

@@ -211,6 +211,6 @@ pub(crate) fn put_help(out: &mut Vec<u8>) -> Result<(), NoMemory>
 {
     put(
         out,
-        b"resource R K\njob J K R, ..\nask J K R, ..\nwant J K R, ..\ndrop J\ngive J K R, ..\nleave J\ncapital R K\nwhy J K R, ..\nhold J K R, ..\norder\norder J ..\nstate\nhelp\n",
+        b"resource R K\njob J K R, ..\nask J K R, ..\nwant J K R, ..\ndrop J\ngive J K R, ..\nleave J\ncapital R K\nclaim J K R\nwhy J K R, ..\nhold J K R, ..\norder\norder J ..\nstate\nhelp\n",
     )
 }

@@ -73,14 +73,14 @@ impl Desk {
         }
     }
 
-    /// Takes the wish of a slot out of the queue, if it has one.
-    fn drop_wish(&mut self, out: &mut Vec<u8>, p: usize) -> Result<(), NoMemory>
+    /// Takes the wish of a slot out of the queue, if it has one, by a command with this text after it.
+    fn drop_wish(&mut self, out: &mut Vec<u8>, text: &[u8], p: usize) -> Result<(), NoMemory>
         ensures { OnOk result ((said : List ℕ)
-            × answers.DropsWish (queue.has_wish self.old.wishes p) self.old p said self.new
+            × answers.DropsWish (queue.has_wish self.old.wishes p) self.old (words_of text.now) p said self.new
             × (out.new.items ≡ out.old.items ++ said)) }
     {
         if !has_wish(&self.wishes, p) {
-            return put_refusal(out, &self.names, b"", Refusal::NoWish);
+            return put_refusal(out, &self.names, text, Refusal::NoWish);
         }
         let others = without(self.alloc, &self.wishes, p)?;
         self.wishes = others;
@@ -97,7 +97,7 @@ impl Desk {
             return put_refusal(out, &self.names, b"", Refusal::Command);
         }
         match self.job_of(name.word) {
-            Some(p) => self.drop_wish(out, p),
+            Some(p) => self.drop_wish(out, text, p),
             None => put_refusal(out, &self.names, text, Refusal::NoJob(0)),
         }
     }

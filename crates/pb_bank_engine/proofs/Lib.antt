@@ -1,3 +1,4 @@
 pub mod Kept
 pub mod LineParts
+pub mod SessionParts
 pub mod Told

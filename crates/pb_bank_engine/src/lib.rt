@@ -2,6 +2,7 @@
 #![tactic(auto)]
 
 mod bank;
+pub mod laws;
 mod line;
 mod session;
 

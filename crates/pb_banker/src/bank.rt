@@ -12,9 +12,10 @@ use crate::answer::Answer;
 use crate::asker::decide_by_asker;
 use crate::banker::rising;
 use crate::changes::change_capital;
+use crate::claims::change_claim;
 use crate::jobs::{admit, no_rows, vacate};
 use crate::order::OrderSaid;
-use crate::reason::{CapitalSaid, Joined, Reason};
+use crate::reason::{CapitalSaid, ClaimSaid, Joined, Reason};
 use pb_base::limits::{MAX_AMOUNT, MAX_PROCESSES};
 use pb_base::{Bundle, Capital};
 use std::marker::Model;
@@ -44,6 +45,7 @@ impl Model for Bank {
 
 impl Bank {
     ghost use Rattle.pb_banker.specs.Changes.{SaysOfCapital, state_changed};
+    ghost use Rattle.pb_banker.specs.Claims.{SaysOfClaim, state_claimed};
     ghost use Rattle.pb_banker.specs.Orders.{SaysOfOrder};
     ghost use Rattle.pb_banker.specs.Jobs.{HasJob, left, state_held, SaysOfJoining, SaysWhy};
 
@@ -141,6 +143,22 @@ impl Bank {
         ensures safe { IsSafe self.new.state }
     {
         change_capital(&mut self.accounts, &mut self.order, r, amount)
+    }
+
+    /// Changes the claim of a job on a resource, if the state with it is safe.
+    pub fn set_claim(&mut self, p: usize, r: usize, amount: u32) -> ClaimSaid
+        requires job { HasJob self.old p }
+        requires process { p < processes self.old.state }
+        requires resource { r < resources self.old.state }
+        requires held { loan self.old.state p r ≤ amount }
+        requires within { amount ≤ capital self.old.state r }
+        ensures said { SaysOfClaim self.old.state p r amount result }
+        ensures state { self.new.state ≡ state_claimed self.old.state p r amount result }
+        ensures used { self.new.used ≡ self.old.used }
+        ensures well_formed { IsWellFormed self.new.state }
+        ensures safe { IsSafe self.new.state }
+    {
+        change_claim(&mut self.accounts, &mut self.order, p, r, amount)
     }
 
     /// Returns why a request would be granted or not.

@@ -2,6 +2,7 @@
 
 ghost use Rattle.pb_banker.specs.Askers.{AskerIsEnough, PlaceIsEnough};
 ghost use Rattle.pb_banker.specs.Changes.{MoreCapitalStaysSafe, MoreCapitalAllowsMore, MoreCapitalIsAllowed};
+ghost use Rattle.pb_banker.specs.Claims.{FewerClaimsStaySafe, SmallerClaimIsAllowed};
 ghost use Rattle.pb_banker.specs.Jobs.{NewcomersStaySafe};
 
 /// A newcomer whose claims are within the capital keeps the state well-formed and safe.
@@ -33,4 +34,14 @@ pub fn more_capital_allows_more()
 /// More capital of a resource is always allowed in a safe state.
 pub fn more_capital_is_allowed()
     ensures { MoreCapitalIsAllowed }
+{}
+
+/// With a smaller claim of a process an order in which all finish stays one.
+pub fn fewer_claims_stay_safe()
+    ensures { FewerClaimsStaySafe }
+{}
+
+/// A smaller claim of a process is always allowed in a safe state.
+pub fn smaller_claim_is_allowed()
+    ensures { SmallerClaimIsAllowed }
 {}

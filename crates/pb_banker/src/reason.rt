@@ -38,3 +38,12 @@ pub enum CapitalSaid {
     /// Of the slots that have a row, those marked here could not finish with it.
     Rest([bool; MAX_PROCESSES]),
 }
+
+/// What is said of another claim of a job.
+#[derive(Clone, Copy)]
+pub enum ClaimSaid {
+    /// It is the claim now.
+    Changed,
+    /// Of the slots that have a row, those marked here could not finish with it.
+    Rest([bool; MAX_PROCESSES]),
+}

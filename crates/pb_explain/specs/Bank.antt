@@ -45,7 +45,7 @@ b2-entry = record {
     command = codes "bank";
     input = Text b2-input;
     answer =
-        codes "refused B2 an amount is not in 0..=1000000\n"
+        codes "refused B2 an amount is not in 0..=1000000: two\n"
         ++ codes "ready";
   });
   mend =
@@ -160,7 +160,7 @@ b7-entry = record {
     input = Text b7-input;
     answer =
         codes "ready\n"
-        ++ codes "refused B7 the name is taken\n"
+        ++ codes "refused B7 the name is taken: tape\n"
         ++ codes "ready";
   });
   mend =
@@ -240,7 +240,7 @@ b9-entry = record {
         ++ codes "ready\n"
         ++ codes "ready\n"
         ++ codes "ready\n"
-        ++ codes "refused B9 there are as many as there can be\n"
+        ++ codes "refused B9 there are as many as there can be: r17\n"
         ++ codes "ready";
   });
   mend = codes "Let a job leave first; or put resources together that are always used together.";
@@ -327,7 +327,7 @@ b12-entry = record {
         ++ codes "ready\n"
         ++ codes "queued\n"
         ++ codes "ready\n"
-        ++ codes "refused B12 the job has a wish in the queue\n"
+        ++ codes "refused B12 the job has a wish in the queue: b\n"
         ++ codes "ready";
   });
   mend =
@@ -355,7 +355,7 @@ b13-entry = record {
     answer =
         codes "ready\n"
         ++ codes "ready\n"
-        ++ codes "refused B13 the job has no wish in the queue\n"
+        ++ codes "refused B13 the job has no wish in the queue: a\n"
         ++ codes "ready";
   });
   mend = codes "Nothing is to be taken back. `state` lists the wishes, in the order of the queue.";

@@ -33,7 +33,7 @@ one is another, or is no number.",
             "resource tape two
 ",
         ),
-        answer: "refused B2 an amount is not in 0..=1000000
+        answer: "refused B2 an amount is not in 0..=1000000: two
 ready",
     }),
     mend: "Write a number in the place of the amount: first how many, then of which resource.
@@ -121,7 +121,7 @@ resource tape 2
 ",
         ),
         answer: "ready
-refused B7 the name is taken
+refused B7 the name is taken: tape
 ready",
     }),
     mend: "Take another name; that of a job is free again when the job has left. A job and a
@@ -189,7 +189,7 @@ ready
 ready
 ready
 ready
-refused B9 there are as many as there can be
+refused B9 there are as many as there can be: r17
 ready",
     }),
     mend: "Let a job leave first; or put resources together that are always used together.",
@@ -258,7 +258,7 @@ granted a 1 tape
 ready
 queued
 ready
-refused B12 the job has a wish in the queue
+refused B12 the job has a wish in the queue: b
 ready",
     }),
     mend: "Wait until the line `granted` tells that the wish was granted, or take it back by
@@ -279,7 +279,7 @@ drop a
         ),
         answer: "ready
 ready
-refused B13 the job has no wish in the queue
+refused B13 the job has no wish in the queue: a
 ready",
     }),
     mend: "Nothing is to be taken back. `state` lists the wishes, in the order of the queue.",

@@ -5,7 +5,7 @@ use Rattle.std.proofs.lemmas.List.Elements.{All-cons, All-push}
 use Rattle.pb_base.specs.declared.pair.Pair.{Pair}
 use Rattle.pb_bank.specs.declared.refusal.Refusal.{Refusal}
 use Rattle.pb_bank.specs.declared.refusal.Refusal.TheVariants.{NoComma, Twice}
-use Rattle.pb_bank.specs.Requests.{pair_of, pairs_after, pairs_of, resource_place}
+use Rattle.pb_bank.specs.Requests.{pair_of, pairs_after, pairs_of, comma_place}
 use Rattle.pb_bank.specs.Words.{before, words_of}
 use Rattle.pb_bank.proofs.PairLemmas.{first_pair, more_pairs, new_parts, no_comma, no_pairs, none_there, short_pairs}
 use Rattle.pb_bank.proofs.WordLemmas.{before_some}
@@ -23,8 +23,8 @@ comma_words rest comma behind b words is some =
 
 -- what is said of a pair after so many others
 placed : (names : List (List ℕ)) (pairs : List Pair) (n : ℕ) (amount resource : List ℕ) (one : Result Pair Refusal) → n ≡ length pairs
-    → one ≡ pair_of names (3 * n + 2) amount resource → pair_of names (resource_place pairs) amount resource ≡ one
-placed names pairs n amount resource one is said = ap (λ k. pair_of names (3 * k + 2) amount resource) (sym is) ∙ sym said
+    → one ≡ pair_of names (3 * n) amount resource → pair_of names (comma_place pairs) amount resource ≡ one
+placed names pairs n amount resource one is said = ap (λ k. pair_of names (3 * k) amount resource) (sym is) ∙ sym said
 
 pub returns-in_default-clause-said : goal.returns-in_default-clause-said
 unfolding seen

@@ -3,7 +3,7 @@ use Rattle.pb_bank.specs.Answers.{AnswersKind, AnswersLine, AnswersText, Answers
 use Rattle.pb_bank.specs.Desks.{DeskValue, NoneIsAllowed}
 use Rattle.pb_bank.specs.Words.{before, kind_within, trimmed, words_of}
 use Rattle.pb_bank.specs.declared.kind.Kind.{Kind}
-use Rattle.pb_bank.specs.declared.kind.Kind.TheVariants.{Skip, Resource, Capital, Job, Ask, Want, Drop, Give, Leave}
+use Rattle.pb_bank.specs.declared.kind.Kind.TheVariants.{Skip, Resource, Capital, Claim, Job, Ask, Want, Drop, Give, Leave}
 use Rattle.pb_bank.specs.declared.kind.Kind.TheVariants.{Hold, Why, Order, State, Help, Other}
 use Rattle.pb_base.proofs.Results.{on_ok}
 use Rattle.pb_bank.proofs.desk.Desk.answer.Goals as goal
@@ -22,6 +22,7 @@ spoken : (k : Kind) (d : DeskValue) (words : List (List ℕ)) (told : List ℕ) 
 spoken Skip d words told next some says = absurd (some refl)
 spoken Resource d words told next some says = (told, says, refl)
 spoken Capital d words told next some says = (told, says, refl)
+spoken Claim d words told next some says = (told, says, refl)
 spoken Job d words told next some says = (told, says, refl)
 spoken Ask d words told next some says = (told, says, refl)
 spoken Want d words told next some says = (told, says, refl)

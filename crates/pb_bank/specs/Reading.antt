@@ -1,0 +1,46 @@
+-- Lines that only ask, and lines that are refused.
+use Rattle.std.specs.Prelude.{◌≡◌, Bool, true, false, ℕ, nat_lt, List, length, take, codes}
+use Rattle.pb_bank.specs.declared.kind.Kind.{Kind}
+use Rattle.pb_bank.specs.declared.kind.Kind.TheVariants as kind
+use Rattle.pb_bank.specs.Answers.{AnswersLine, first_of, most}
+use Rattle.pb_bank.specs.Desks.{DeskValue}
+use Rattle.pb_bank.specs.Words.{kind_within, trimmed, words_of}
+
+-- the commands that only ask, lines that are no command, and those that are skipped
+abbrev pub only_asks : Kind → Bool
+only_asks kind.Skip = true
+only_asks kind.Resource = false
+only_asks kind.Capital = false
+only_asks kind.Claim = false
+only_asks kind.Job = false
+only_asks kind.Ask = false
+only_asks kind.Want = false
+only_asks kind.Drop = false
+only_asks kind.Give = false
+only_asks kind.Leave = false
+only_asks kind.Hold = false
+only_asks kind.Why = true
+only_asks kind.Order = true
+only_asks kind.State = true
+only_asks kind.Help = true
+only_asks kind.Other = true
+
+-- which command a line is
+abbrev pub line_kind : List ℕ → Kind
+line_kind line = kind_within (nat_lt most (length (trimmed line))) (first_of (words_of (trimmed line)))
+
+-- what is said begins with this word
+abbrev pub IsRefused : List ℕ → Type 0
+IsRefused said = take 8 said ≡ codes "refused "
+
+-- ---- laws
+
+-- a line that only asks leaves the desk as it is
+abbrev pub ReadingChangesNothing : Type 0
+ReadingChangesNothing =
+    (d : DeskValue) (line said : List ℕ) (next : DeskValue) → only_asks (line_kind line) ≡ true → AnswersLine d line said next → next ≡ d
+
+-- a line that is refused leaves the desk as it is
+abbrev pub RefusedChangesNothing : Type 0
+RefusedChangesNothing =
+    (d : DeskValue) (line said : List ℕ) (next : DeskValue) → AnswersLine d line said next → IsRefused said → next ≡ d
