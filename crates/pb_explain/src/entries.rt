@@ -107,6 +107,7 @@ fn entry_at(code: Code) -> &'static Entry
         Code::B11 => &bank::B11,
         Code::B12 => &bank::B12,
         Code::B13 => &bank::B13,
+        Code::B14 => &bank::B14,
         Code::Input => &texts::INPUT,
         Code::Output => &texts::OUTPUT,
     }

@@ -99,6 +99,8 @@ pub enum Code {
     B12,
     /// No wish of this job.
     B13,
+    /// A claim that is less than the job holds and waits for.
+    B14,
     /// The input is too long.
     Input,
     /// What `record` would write is too long.
@@ -113,7 +115,7 @@ pub struct UnknownCode;
 impl Code {
     /// All codes, in the order in which they are listed: those of texts, of objects, of picks, of sessions and of
     /// the bank, and then those of inputs and outputs that are too long.
-    pub const ALL: [Code; 47] = [
+    pub const ALL: [Code; 48] = [
         Code::L1,
         Code::L2,
         Code::L3,
@@ -159,6 +161,7 @@ impl Code {
         Code::B11,
         Code::B12,
         Code::B13,
+        Code::B14,
         Code::Input,
         Code::Output,
     ];
@@ -213,6 +216,7 @@ impl Code {
             Code::B11 => "B11",
             Code::B12 => "B12",
             Code::B13 => "B13",
+            Code::B14 => "B14",
             Code::Input => "input",
             Code::Output => "output",
         }
