@@ -55,7 +55,7 @@ _parbegin() {
     explain)
         # its word is a code, and never a file
         local codes="L1 L2 L3 L4 P1 P2 P3 N1 N2 N3 N4 N6 C1 E1 O1 O2 V1 V2 V3 V4 V5 V6 V7 V8 V9 K1 K2 H1"
-        codes+=" G1 G2 G3 G4 B1 B2 B3 B4 B5 B6 B7 B8 B9 B10 B11 B12 B13 W1 W2 W3 input output"
+        codes+=" G1 G2 G3 G4 B1 B2 B3 B4 B5 B6 B7 B8 B9 B10 B11 B12 B13 B14 W1 W2 W3 input output"
         mapfile -t COMPREPLY < <(compgen -W "$codes --help" -- "$word")
         return
         ;;

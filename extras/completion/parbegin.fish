@@ -17,7 +17,7 @@ complete -c parbegin -n "not __fish_seen_subcommand_from $commands" -a debug -d 
 complete -c parbegin -n "not __fish_seen_subcommand_from $commands" -a draw -d "Draw recorded picks as SVG"
 complete -c parbegin -n "not __fish_seen_subcommand_from $commands" -a emit -d "Print the object of a program"
 complete -c parbegin -n "not __fish_seen_subcommand_from $commands" -a exec -d "Run an object"
-set -l codes L1 L2 L3 L4 P1 P2 P3 N1 N2 N3 N4 N6 C1 E1 O1 O2 V1 V2 V3 V4 V5 V6 V7 V8 V9 K1 K2 H1 G1 G2 G3 G4 B1 B2 B3 B4 B5 B6 B7 B8 B9 B10 B11 B12 B13 W1 W2 W3 input output
+set -l codes L1 L2 L3 L4 P1 P2 P3 N1 N2 N3 N4 N6 C1 E1 O1 O2 V1 V2 V3 V4 V5 V6 V7 V8 V9 K1 K2 H1 G1 G2 G3 G4 B1 B2 B3 B4 B5 B6 B7 B8 B9 B10 B11 B12 B13 B14 W1 W2 W3 input output
 complete -c parbegin -n "not __fish_seen_subcommand_from $commands" -a explain -d "Print what a refusal means"
 complete -c parbegin -n "not __fish_seen_subcommand_from $commands" -a grade -d "Judge the texts of a folder against an exercise"
 complete -c parbegin -n "not __fish_seen_subcommand_from $commands" -a hold -d "Run a command while it holds resources"

@@ -360,3 +360,34 @@ b13-entry = record {
   });
   mend = codes "Nothing is to be taken back. `state` lists the wishes, in the order of the queue.";
 }
+
+-- what the example of B14 reads
+abbrev pub b14-input : List ℕ
+b14-input =
+    codes "resource tape 2\n"
+    ++ codes "job a 2 tape\n"
+    ++ codes "ask a 2 tape\n"
+    ++ codes "claim a 1 tape\n"
+
+-- what there is to say of B14
+abbrev pub b14-entry : Explanation
+b14-entry = record {
+  summary = codes "a claim below what the job holds";
+  meaning =
+      codes "The job would claim less of this resource than it holds and its wish in the queue\n"
+      ++ codes "asks for together.";
+  example = Some (record {
+    command = codes "bank";
+    input = Text b14-input;
+    answer =
+        codes "ready\n"
+        ++ codes "ready\n"
+        ++ codes "granted a 2 tape\n"
+        ++ codes "ready\n"
+        ++ codes "refused B14 the job holds or waits for more: tape\n"
+        ++ codes "ready";
+  });
+  mend =
+      codes "Let the job give back first, or take back its wish by `drop`. `state` says what it\n"
+      ++ codes "holds.";
+}

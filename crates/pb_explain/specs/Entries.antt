@@ -9,7 +9,7 @@ use Rattle.pb_explain.specs.Objects.{o1-entry, o2-entry, v1-entry, v2-entry, v3-
 use Rattle.pb_explain.specs.Objects.{v7-entry, v8-entry, v9-entry}
 use Rattle.pb_explain.specs.Runs.{k1-entry, k2-entry, h1-entry, g1-entry, g2-entry, g3-entry, g4-entry}
 use Rattle.pb_explain.specs.Bank.{b1-entry, b2-entry, b3-entry, b4-entry, b5-entry, b6-entry, b7-entry, b8-entry}
-use Rattle.pb_explain.specs.Bank.{b9-entry, b10-entry, b11-entry, b12-entry, b13-entry}
+use Rattle.pb_explain.specs.Bank.{b9-entry, b10-entry, b11-entry, b12-entry, b13-entry, b14-entry}
 use Rattle.pb_explain.specs.Warnings.{w1-entry, w2-entry, w3-entry}
 
 -- what there is to say of a code
@@ -59,6 +59,7 @@ entry_of code.B10 = b10-entry
 entry_of code.B11 = b11-entry
 entry_of code.B12 = b12-entry
 entry_of code.B13 = b13-entry
+entry_of code.B14 = b14-entry
 entry_of code.W1 = w1-entry
 entry_of code.W2 = w2-entry
 entry_of code.W3 = w3-entry

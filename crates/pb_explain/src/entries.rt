@@ -108,6 +108,7 @@ fn entry_at(code: Code) -> &'static Entry
         Code::B11 => &bank::B11,
         Code::B12 => &bank::B12,
         Code::B13 => &bank::B13,
+        Code::B14 => &bank::B14,
         Code::W1 => &warnings::W1,
         Code::W2 => &warnings::W2,
         Code::W3 => &warnings::W3,

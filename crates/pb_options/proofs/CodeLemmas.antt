@@ -7,7 +7,7 @@ use Rattle.pb_options.specs.declared.code.Code.{Code}
 use Rattle.pb_options.specs.declared.code.Code.TheVariants.{L1, L2, L3, L4, P1, P2, P3, N1, N2, N3, N4, N6, C1, E1}
 use Rattle.pb_options.specs.declared.code.Code.TheVariants.{O1, O2, V1}
 use Rattle.pb_options.specs.declared.code.Code.TheVariants.{V2, V3, V4, V5, V6, V7, V8, V9, K1, K2, H1, G1, G2, G3}
-use Rattle.pb_options.specs.declared.code.Code.TheVariants.{G4, B1, B2, B3, B4, B5, B6, B7, B8, B9, B10, B11, B12, B13, W1, W2, W3, Input, Output}
+use Rattle.pb_options.specs.declared.code.Code.TheVariants.{G4, B1, B2, B3, B4, B5, B6, B7, B8, B9, B10, B11, B12, B13, B14, W1, W2, W3, Input, Output}
 
 pub is_listed : (code : Code) → Contains all_codes code
 is_listed L1 = (0, omega arith, refl)
@@ -55,11 +55,12 @@ is_listed B10 = (41, omega arith, refl)
 is_listed B11 = (42, omega arith, refl)
 is_listed B12 = (43, omega arith, refl)
 is_listed B13 = (44, omega arith, refl)
-is_listed W1 = (45, omega arith, refl)
-is_listed W2 = (46, omega arith, refl)
-is_listed W3 = (47, omega arith, refl)
-is_listed Input = (48, omega arith, refl)
-is_listed Output = (49, omega arith, refl)
+is_listed B14 = (45, omega arith, refl)
+is_listed W1 = (46, omega arith, refl)
+is_listed W2 = (47, omega arith, refl)
+is_listed W3 = (48, omega arith, refl)
+is_listed Input = (49, omega arith, refl)
+is_listed Output = (50, omega arith, refl)
 
 -- if none of the first codes of a list has a name, and these are all of it, none on the list has it
 pub none_of_all : (listed : List Code) (name : List ℕ) (n : ℕ) → length listed ≤ n

@@ -4,7 +4,7 @@ use Rattle.pb_options.specs.declared.code.Code.{Code}
 use Rattle.pb_options.specs.declared.code.Code.TheVariants.{L1, L2, L3, L4, P1, P2, P3, N1, N2, N3, N4, N6, C1, E1}
 use Rattle.pb_options.specs.declared.code.Code.TheVariants.{O1, O2, V1}
 use Rattle.pb_options.specs.declared.code.Code.TheVariants.{V2, V3, V4, V5, V6, V7, V8, V9, K1, K2, H1, G1, G2, G3}
-use Rattle.pb_options.specs.declared.code.Code.TheVariants.{G4, B1, B2, B3, B4, B5, B6, B7, B8, B9, B10, B11, B12, B13, W1, W2, W3, Input, Output}
+use Rattle.pb_options.specs.declared.code.Code.TheVariants.{G4, B1, B2, B3, B4, B5, B6, B7, B8, B9, B10, B11, B12, B13, B14, W1, W2, W3, Input, Output}
 
 -- the word after `refused` or `warning`
 abbrev pub code_name : Code → List ℕ
@@ -53,6 +53,7 @@ code_name B10 = codes "B10"
 code_name B11 = codes "B11"
 code_name B12 = codes "B12"
 code_name B13 = codes "B13"
+code_name B14 = codes "B14"
 code_name W1 = codes "W1"
 code_name W2 = codes "W2"
 code_name W3 = codes "W3"
@@ -64,7 +65,7 @@ abbrev pub all_codes : List Code
 all_codes =
     L1 ∷ L2 ∷ L3 ∷ L4 ∷ P1 ∷ P2 ∷ P3 ∷ N1 ∷ N2 ∷ N3 ∷ N4 ∷ N6 ∷ C1 ∷ E1 ∷ O1 ∷ O2 ∷ V1 ∷ V2 ∷ V3 ∷ V4 ∷
     V5 ∷ V6 ∷ V7 ∷ V8 ∷ V9 ∷ K1 ∷ K2 ∷ H1 ∷ G1 ∷ G2 ∷ G3 ∷ G4 ∷ B1 ∷ B2 ∷ B3 ∷ B4 ∷ B5 ∷ B6 ∷ B7 ∷ B8 ∷
-    B9 ∷ B10 ∷ B11 ∷ B12 ∷ B13 ∷ W1 ∷ W2 ∷ W3 ∷ Input ∷ Output ∷ []
+    B9 ∷ B10 ∷ B11 ∷ B12 ∷ B13 ∷ B14 ∷ W1 ∷ W2 ∷ W3 ∷ Input ∷ Output ∷ []
 
 -- what is read of a text: the code of this name, or an error if no code has it
 abbrev pub IsCodeOf : {E : Type 0} → List ℕ → Result Code E → Type 0

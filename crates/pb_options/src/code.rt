@@ -99,6 +99,8 @@ pub enum Code {
     B12,
     /// No wish of this job.
     B13,
+    /// A claim that is less than the job holds and waits for.
+    B14,
     /// A parbegin of one arm.
     W1,
     /// An integer that is never read.
@@ -119,7 +121,7 @@ pub struct UnknownCode;
 impl Code {
     /// All codes, in the order in which they are listed: those of texts, of objects, of picks, of sessions and of
     /// the bank, those of warnings, and then those of inputs and outputs that are too long.
-    pub const ALL: [Code; 50] = [
+    pub const ALL: [Code; 51] = [
         Code::L1,
         Code::L2,
         Code::L3,
@@ -165,6 +167,7 @@ impl Code {
         Code::B11,
         Code::B12,
         Code::B13,
+        Code::B14,
         Code::W1,
         Code::W2,
         Code::W3,
@@ -222,6 +225,7 @@ impl Code {
             Code::B11 => "B11",
             Code::B12 => "B12",
             Code::B13 => "B13",
+            Code::B14 => "B14",
             Code::W1 => "W1",
             Code::W2 => "W2",
             Code::W3 => "W3",

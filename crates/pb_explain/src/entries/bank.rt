@@ -284,3 +284,27 @@ ready",
     }),
     mend: "Nothing is to be taken back. `state` lists the wishes, in the order of the queue.",
 };
+
+pub static B14: Entry = Entry {
+    summary: "a claim below what the job holds",
+    meaning: "The job would claim less of this resource than it holds and its wish in the queue
+asks for together.",
+    example: Some(Example {
+        command: "bank",
+        input: ExampleInput::Text(
+            "resource tape 2
+job a 2 tape
+ask a 2 tape
+claim a 1 tape
+",
+        ),
+        answer: "ready
+ready
+granted a 2 tape
+ready
+refused B14 the job holds or waits for more: tape
+ready",
+    }),
+    mend: "Let the job give back first, or take back its wish by `drop`. `state` says what it
+holds.",
+};

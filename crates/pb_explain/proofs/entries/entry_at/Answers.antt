@@ -182,6 +182,10 @@ pub returns-in-B13 : goal.returns-in-B13
 unfolding entry_of
 returns-in-B13 c = ap entry_of (sym c.in-B13.is)
 
+pub returns-in-B14 : goal.returns-in-B14
+unfolding entry_of
+returns-in-B14 c = ap entry_of (sym c.in-B14.is)
+
 pub returns-in-W1 : goal.returns-in-W1
 unfolding entry_of
 returns-in-W1 c = ap entry_of (sym c.in-W1.is)
