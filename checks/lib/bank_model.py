@@ -159,25 +159,6 @@ class Model:
         self.capital[name] = amount
         return []
 
-    def do_capital(self, words: list[str]) -> list[str]:
-        if len(words) != 2 or "," in words:
-            raise Refused(NOT_A_COMMAND)
-        name, before = words[0], self.capital.get(words[0])
-        if before is None:
-            raise Refused(f"B4 no such resource: {printable(name)}")
-        amount = amount_of(words[1])
-        over = [job.name for job in self.jobs() if job.claim.get(name, 0) > amount]
-        if over:
-            return [f"claimed {' '.join(over)}"]
-        if amount < before - self.cash(name):
-            return [f"wait cash {name} {self.cash(name)}"]
-        self.capital[name] = amount
-        rest = self.finish()[1]
-        if rest:
-            self.capital[name] = before
-            return [f"wait rest {' '.join(it.name for it in rest)}"]
-        return self.serve()
-
     def do_job(self, words: list[str]) -> list[str]:
         if len(words) < 2 or words[0] == ",":
             raise Refused(NOT_A_COMMAND)
