@@ -30,8 +30,8 @@ abbrev pub line_kind : List ℕ → Kind
 line_kind line = kind_within (nat_lt most (length (trimmed line))) (first_of (words_of (trimmed line)))
 
 -- what is said begins with this word
-abbrev pub IsRefused : List ℕ → Type 0
-IsRefused said = take 8 said ≡ codes "refused "
+abbrev pub SaysRefused : List ℕ → Type 0
+SaysRefused said = take 8 said ≡ codes "refused "
 
 -- ---- laws
 
@@ -43,4 +43,4 @@ ReadingChangesNothing =
 -- a line that is refused leaves the desk as it is
 abbrev pub RefusedChangesNothing : Type 0
 RefusedChangesNothing =
-    (d : DeskValue) (line said : List ℕ) (next : DeskValue) → AnswersLine d line said next → IsRefused said → next ≡ d
+    (d : DeskValue) (line said : List ℕ) (next : DeskValue) → AnswersLine d line said next → SaysRefused said → next ≡ d
