@@ -121,7 +121,7 @@ class Model:
         """Reads `K R, ..`, along the line."""
         amounts: Amounts = {}
         while True:
-            if len(words) < 2 or "," in words[:2]:
+            if len(words) < 2:
                 raise Refused(NOT_A_COMMAND)
             amount, resource = amount_of(words[0]), words[1]
             if resource not in self.capital:
@@ -146,7 +146,7 @@ class Model:
     # The commands
 
     def do_resource(self, words: list[str]) -> list[str]:
-        if len(words) != 2 or "," in words:
+        if len(words) != 2:
             raise Refused(NOT_A_COMMAND)
         amount = amount_of(words[1])
         if not NAME.fullmatch(words[0]):
@@ -160,7 +160,7 @@ class Model:
         return []
 
     def do_job(self, words: list[str]) -> list[str]:
-        if len(words) < 2 or words[0] == ",":
+        if not words:
             raise Refused(NOT_A_COMMAND)
         name = self.new_name(words[0], [it.name for it in self.jobs()])
         claim = self.amounts_of(words[1:])
@@ -176,7 +176,7 @@ class Model:
 
     def request(self, words: list[str], is_free: bool = True) -> tuple[Job, Amounts]:
         """Reads a job and amounts; a job with a wish is refused, unless it may have one."""
-        if len(words) < 2 or words[0] == ",":
+        if not words:
             raise Refused(NOT_A_COMMAND)
         job = self.job_of(words[0])
         amounts = self.amounts_of(words[1:])
@@ -222,12 +222,12 @@ class Model:
 
     def one_job(self, words: list[str]) -> Job:
         """Reads a job, and nothing after it."""
-        if len(words) != 1 or words[0] == ",":
+        if len(words) != 1:
             raise Refused(NOT_A_COMMAND)
         return self.job_of(words[0])
 
     def do_capital(self, words: list[str]) -> list[str]:
-        if len(words) != 2 or "," in words:
+        if len(words) != 2:
             raise Refused(NOT_A_COMMAND)
         if words[0] not in self.capital:
             raise Refused(f"B4 no such resource: {printable(words[0])}")
@@ -269,8 +269,6 @@ class Model:
         return self.serve()
 
     def do_order(self, words: list[str]) -> list[str]:
-        if "," in words:
-            raise Refused(NOT_A_COMMAND)
         if not words:
             return [" ".join(["order", *(job.name for job in self.finish()[0])])]
         jobs = [self.job_of(name) for name in words]

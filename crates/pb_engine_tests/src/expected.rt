@@ -125,7 +125,7 @@ const CASES: [Case; 16] = [
         any_order: false,
         fair: false,
         states: 1_000,
-        said: b"outcome 1\np ended\nq ended\nprinted\np.0 print 1\nq.0 print 2\nreached by\np.0 3\nq.0 3\nnot as expected: other prints\n",
+        said: b"outcome 1\np ended\nq ended\nprinted\np.0 print 1\nq.0 print 2\nreached by\np.0 1\nq.0 1\np.0 2\nq.0 2\nnot as expected: other prints\n",
         status: Status::Unexpected,
     },
     // of which both will do

@@ -193,13 +193,13 @@ const CASES: [Case; 19] = [
     Case {
         text: b"process p begin integer x; parbegin x := 1; print x parend end\n",
         options: PRINTS,
-        said: b"outcome 1\np ended\np.x 1\nprinted\np.2 print 1\nreached by\np.0 1\np.1 3\np.2 3\np.0 2\noutcome 2\np ended\np.x 1\nprinted\np.2 print 0\nreached by\np.0 1\np.1 1\np.2 1\np.1 2\np.2 2\np.0 2\n2 outcomes\n",
+        said: b"outcome 1\np ended\np.x 1\nprinted\np.2 print 1\nreached by\np.0 1\np.1 3\np.2 3\np.0 2\noutcome 2\np ended\np.x 1\nprinted\np.2 print 0\nreached by\np.0 1\np.1 1\np.2 3\np.1 2\np.0 2\n2 outcomes\n",
         status: Status::Done,
     },
     Case {
         text: b"process p begin print 1 end process q begin print 2 end",
         options: PRINTS,
-        said: b"outcome 1\np ended\nq ended\nprinted\np.0 print 1\nq.0 print 2\nreached by\np.0 3\nq.0 3\noutcome 2\np ended\nq ended\nprinted\nq.0 print 2\np.0 print 1\nreached by\np.0 1\nq.0 2\np.0 2\nq.0 1\n2 outcomes\n",
+        said: b"outcome 1\np ended\nq ended\nprinted\np.0 print 1\nq.0 print 2\nreached by\np.0 1\nq.0 1\np.0 2\nq.0 2\noutcome 2\np ended\nq ended\nprinted\nq.0 print 2\np.0 print 1\nreached by\np.0 1\nq.0 3\np.0 2\n2 outcomes\n",
         status: Status::Done,
     },
     Case {
