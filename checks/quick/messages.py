@@ -53,8 +53,9 @@ def shell(line, folder, error=subprocess.PIPE):
 
 
 def wanted(name):
-    """Returns what a call is to say on standard error: nothing of a command of the bank, whose session goes on."""
-    if re.fullmatch(r"B\d+", name):
+    """Returns what a call is to say on standard error: nothing of a command of the bank, whose session goes on, nor of an
+    accepted text."""
+    if re.fullmatch(r"[BW]\d+", name):
         return ""
     file = FOLDER / f"{name}.txt"
     return file.read_text(encoding="utf-8") if file.is_file() else None

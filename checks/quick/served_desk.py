@@ -16,7 +16,6 @@ from contextlib import suppress
 
 sys.path.insert(0, str(pathlib.Path(__file__).resolve().parents[1] / "lib"))
 
-from bank_model import Model  # noqa: E402
 from calls import Tally, program  # noqa: E402
 from desk_model import DeskModel  # noqa: E402
 from served_bank import CAPITAL, drawn_amounts, drawn_commands  # noqa: E402
@@ -26,7 +25,7 @@ from script.serving.desk import Desk, Diverged  # noqa: E402
 from script.serving.sessions import Done  # noqa: E402
 from script.serving.snapshots import restored, snapshot  # noqa: E402
 
-HISTORIES, COMMANDS, SESSIONS, MOST_COPIES = 3, 400, (1, 2, 3, 4), 4
+HISTORIES, COMMANDS, SESSIONS, MOST_COPIES = 6, 400, (1, 2, 3, 4), 4
 # What the drawn commands are not, in shares of them.
 USES, REPETITIONS, SNAPSHOTS, ENDS, CAPITALS, CLAIMS, GIVES, DROPS = 0.15, 0.05, 0.02, 0.01, 0.03, 0.05, 0.3, 0.1
 # Who says a command: who uses the job, or anybody; else its owner.
@@ -110,10 +109,12 @@ class History:
             self.say(self.drawn_session(job), f"give {job} {amounts}")
 
     def draw_drop(self) -> None:
-        """Takes a wish back, whosever it is."""
+        """Takes a wish back, in half of the cases one of another session that uses the job."""
         if self.desk.wishes:
-            job = self.rng.choice(list(self.desk.wishes))
-            self.say(self.drawn_session(job), f"drop {job}")
+            job, (wishing, _) = self.rng.choice(list(self.desk.wishes.items()))
+            others = [sid for sid, it in self.desk.sessions.items() if job in it.shares and sid != wishing]
+            is_of_others = others and self.rng.random() < 0.5
+            self.say(self.rng.choice(others) if is_of_others else self.drawn_session(job), f"drop {job}")
 
     def draw_use(self) -> None:
         """Lets a session use a job, mostly by the right key."""
@@ -128,12 +129,9 @@ class History:
         self.say(self.rng.choice(SESSIONS), f"capital {name} {self.rng.randint(0, CAPITAL[name] + 2)}", self.rng.random() < 0.8)
 
     def draw_claim(self) -> None:
-        """Changes a claim, if the model of the bank knows that; else lets one try that who may not."""
+        """Changes a claim, or tries to, of whatever session the job is."""
         if self.desk.owners:
-            job, owner = self.rng.choice(list(self.desk.owners.items()))
-            sid = self.rng.choice(SESSIONS)
-            if sid != owner or hasattr(Model, "do_claim"):
-                self.say(sid, f"claim {job} {drawn_amounts(self.rng)}")
+            self.say(self.rng.choice(SESSIONS), f"claim {self.rng.choice(list(self.desk.owners))} {drawn_amounts(self.rng)}")
 
     def repeat(self) -> None:
         """Sends a request once more: nothing may change."""
