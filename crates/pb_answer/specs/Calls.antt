@@ -28,7 +28,9 @@ use Rattle.pb_engines.specs.Runs.{SaysOfTextRun}
 use Rattle.pb_explain.specs.Pages.{SaysOfExplain}
 use Rattle.pb_options.specs.Lends.{lending_for}
 use Rattle.pb_page_engine.specs.States.{SaysOfStates}
-use Rattle.pb_plan_engine.specs.PlanLines.{SaysOfPlan}
+use Rattle.pb_plan_engine.specs.Plans as plans
+use Rattle.pb_plan_engine.specs.Plans.{SaysOfPlan}
+use Rattle.pb_plan_engine.specs.Sayings as plan_sayings
 use Rattle.pb_search_engine.specs.SaysOfAll.{SaysOfSearches}
 use Rattle.pb_search_tool.specs.Search.{shown_by}
 use Rattle.pb_server_engine.specs.Servers.{SaysOfServer}
@@ -52,7 +54,8 @@ CommandSays (option.Explain code) = λ bytes. SaysOfExplain code
 CommandSays option.Lsp = SaysOfServer
 CommandSays option.Migrate = Written line_of (SaysOfAny SaysOfMigration)
 CommandSays (option.Outcomes numbers) = SaysOfInput (SaysOfSearches numbers)
-CommandSays (option.Plan options changes) = SaysOfInput (SaysOfPlan (lending_for options.lend) (changes_in changes))
+CommandSays (option.Plan options changes) =
+    Written plan_sayings.line_of (plans.SaysOfAny (SaysOfPlan (lending_for options.lend) (changes_in changes)))
 CommandSays (option.Record numbers) = SaysOfInput (SaysOfRecord (lending_for numbers.lend) numbers.run.steps numbers.seed)
 CommandSays (option.Replay options) = Written line_of (SaysOfAny (SaysOfReplay (lending_for options.lend)))
 CommandSays (option.Run numbers) = Written line_of (SaysOfAny (SaysOfTextRun numbers.steps))

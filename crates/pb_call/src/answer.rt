@@ -49,15 +49,24 @@ fn say_tool<O: Output>(voice: &mut Voice, output: &mut O, tool: Tool) -> Result<
     ensures err { OnErr result (Breaks (at O.written O.failures voice.old output.old) (elsewhere voice.old.form tool)
         (at O.written O.failures voice.new output.new)) }
 {
-    let front: &[u8] = match voice.form() {
-        Form::Lines => b"error: this command is answered by ",
-        Form::Objects => b"{\"kind\":\"line\",\"text\":\"error: this command is answered by ",
-    };
-    let end: &[u8] = match voice.form() {
-        Form::Lines => b"\n",
-        Form::Objects => b"\"}\n",
-    };
-    voice.say_all(output, &[front, tool.name().as_bytes(), end])
+    match voice.form() {
+        Form::Lines => voice.say_all(
+            output,
+            &[
+                b"error: this command is answered by ",
+                tool.name().as_bytes(),
+                b"\n",
+            ],
+        ),
+        Form::Objects => voice.say_all(
+            output,
+            &[
+                b"{\"kind\":\"line\",\"text\":\"error: this command is answered by ",
+                tool.name().as_bytes(),
+                b"\"}\n",
+            ],
+        ),
+    }
 }
 
 /// Writes which tool answers the command.

@@ -14,10 +14,22 @@ use pb_words::Tool;
 use std::sync::Wait;
 use std::thread::Threads;
 
-/// Returns whether a tool writes this of a command, with an empty input, and ends with this status.
+/// Returns whether a tool writes this of a command as lines, with an empty input, and ends with this status.
 fn says<R: AllocGlobal + Threads + Wait + Sync, C: Commands>(
     commands: &C,
     rt: &R,
+    command: &str,
+    said: &[u8],
+    wanted: Status,
+) -> Option<bool> {
+    says_in(commands, rt, Form::Lines, command, said, wanted)
+}
+
+/// Returns whether a tool writes this of a command in a form, with an empty input, and ends with this status.
+fn says_in<R: AllocGlobal + Threads + Wait + Sync, C: Commands>(
+    commands: &C,
+    rt: &R,
+    form: Form,
     command: &str,
     said: &[u8],
     wanted: Status,
@@ -29,7 +41,7 @@ fn says<R: AllocGlobal + Threads + Wait + Sync, C: Commands>(
         commands,
         rt,
         rt.alloc(),
-        Form::Lines,
+        form,
         words.as_slice(),
         &mut input,
         &mut output,
@@ -59,4 +71,30 @@ fn each_names_the_tool_of_another_command(rt: HostRuntime) {
     let edit = b"error: this command is answered by parbegin-edit\n";
     assert!(rt; says(&SearchTool, &rt, "lsp", edit, Status::Words) == Some(true));
     assert!(rt; Tool::Debug.name() == "parbegin-debug");
+}
+
+#[test]
+fn commands_that_tell_data_write_objects(rt: HostRuntime) {
+    let refused = b"{\"kind\":\"refused\",\"code\":\"P1\",\"at\":0}\n";
+    assert!(rt; says_in(&RunTool, &rt, Form::Objects, "run", refused, Status::Refused) == Some(true));
+    assert!(rt; says_in(&SearchTool, &rt, Form::Objects, "plan", refused, Status::Refused) == Some(true));
+    assert!(rt; RunTool.writes_objects(&["parbegin", "run"]));
+    assert!(rt; RunTool.writes_objects(&["parbegin", "check", "--heap=1"]));
+    assert!(rt; SearchTool.writes_objects(&["parbegin", "plan"]));
+}
+
+#[test]
+fn other_commands_write_lines_alone(rt: HostRuntime) {
+    assert!(rt; !RunTool.writes_objects(&["parbegin", "explain"]));
+    assert!(rt; !RunTool.writes_objects(&["run"]));
+    assert!(rt; !SearchTool.writes_objects(&["parbegin", "outcomes"]));
+    assert!(rt; !BankTool.writes_objects(&["parbegin", "bank"]));
+    assert!(rt; !DebugTool.writes_objects(&["parbegin", "draw"]));
+    assert!(rt; !EditTool.writes_objects(&["parbegin", "lsp"]));
+}
+
+#[test]
+fn words_are_refused_in_objects(rt: HostRuntime) {
+    let named = b"{\"kind\":\"line\",\"text\":\"error: this command is answered by parbegin-search\"}\n";
+    assert!(rt; says_in(&RunTool, &rt, Form::Objects, "plan", named, Status::Words) == Some(true));
 }

@@ -15,4 +15,6 @@ mod told;
 #[cfg(test)]
 mod told_engines;
 #[cfg(test)]
+mod told_plans;
+#[cfg(test)]
 mod told_runs;

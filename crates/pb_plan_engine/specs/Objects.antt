@@ -32,10 +32,14 @@ called_json kind process =
 abbrev pub later_json : Part → List ℕ
 later_json part = codes "," ++ decimal part.line
 
+-- the key for the lines of the parts, and the first of them
+abbrev pub first_json : (line : ℕ) → List ℕ
+first_json line = concat (codes ",\"lines\":[" ∷ decimal line ∷ [])
+
 -- the member for the lines of the parts; none if there is no part
 abbrev pub lines_json : List Part → List ℕ
 lines_json [] = []
-lines_json (first ∷ parts) = concat (codes ",\"lines\":[" ∷ decimal first.line ∷ []) ++ (flat_map later_json parts ++ codes "]")
+lines_json (first ∷ parts) = first_json first.line ++ (flat_map later_json parts ++ codes "]")
 
 -- a claim on a resource, without its lines
 abbrev pub claim_json : (amount : ℕ) → Name → List ℕ
@@ -71,10 +75,13 @@ code_json None member = codes "}\n"
 code_json (Some cause) member =
     concat (codes ",\"code\":\"" ∷ code_name cause.code ∷ codes "\"" ∷ offset_json cause.at ∷ member ∷ codes "}\n" ∷ [])
 
+-- the front of the object of the refusal of a text that has this number
+abbrev pub front_json : (number : ℕ) → List ℕ
+front_json number = concat (codes "{\"kind\":\"refused\",\"of_text\":" ∷ decimal number ∷ [])
+
 -- the object of the fault of a text that has this number
 abbrev pub numbered_json : (number : ℕ) → CompileFault → List ℕ
-numbered_json number f =
-    concat (codes "{\"kind\":\"refused\",\"of_text\":" ∷ decimal number ∷ []) ++ code_json (text_cause f) (member_of f)
+numbered_json number f = front_json number ++ code_json (text_cause f) (member_of f)
 
 -- the object of the fault of a text, with the number of the text, if there are several
 abbrev pub refusal_json : Option ℕ → CompileFault → List ℕ

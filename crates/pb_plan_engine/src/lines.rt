@@ -1,6 +1,6 @@
 //! What a plan says, as lines.
 
-ghost use Rattle.std.specs.Prelude.{◌≡◌, ◌++◌, [], OnOk, OnErr, codes, map};
+ghost use Rattle.std.specs.Prelude.{◌≡◌, OnOk, OnErr, map};
 ghost use Rattle.std.specs.List.{flat_map};
 ghost use Rattle.pb_joint.specs.View.{full_name};
 ghost use Rattle.pb_plan_engine.specs.Sayings.{called_text, claim_words, line_of, line_text, lines_text, name_text, nest_words};
@@ -12,8 +12,6 @@ ghost use Rattle.pb_voice.specs.Voices.{Adds, Breaks};
 
 use crate::said::{Claim, Need, Nested, Refusal, Said};
 use itoa::Buffer;
-use pb_accept::tell_line as tell_line_of_text;
-use pb_accept::Said as SaidOfText;
 use pb_base::{DeviceFault, Output};
 use pb_joint::FullName;
 use pb_plan::Part;
@@ -47,7 +45,23 @@ fn tell_refusal<O: Output>(
         (at O.written O.failures voice.new output.new)) }
 {
     say_number(voice, output, refusal.text)?;
-    tell_line_of_text(voice, output, SaidOfText::Refused(&refusal.fault))
+    pb_accept::tell_line(voice, output, pb_accept::Said::Refused(&refusal.fault))
+}
+
+/// Says the number of a text after the name of a process of it, if there are several.
+fn say_of_text<O: Output>(
+    voice: &mut Voice,
+    output: &mut O,
+    text: Option<usize>,
+) -> Result<(), DeviceFault>
+    ensures ok { OnOk result (Adds (at O.written O.failures voice.old output.old) (saying.of_words text) (at O.written O.failures voice.new output.new)) }
+    ensures err { OnErr result (Breaks (at O.written O.failures voice.old output.old) (saying.of_words text) (at O.written O.failures voice.new output.new)) }
+{
+    let Some(number) = text else {
+        return voice.say(output, b"");
+    };
+    let mut digits = Buffer::new();
+    voice.say_all(output, &[b" of text ", digits.format(number).as_bytes()])
 }
 
 /// Says what a process is called.
@@ -60,11 +74,7 @@ fn say_called<O: Output>(
     ensures err { OnErr result (Breaks (at O.written O.failures voice.old output.old) (called_text (full_name called.now)) (at O.written O.failures voice.new output.new)) }
 {
     voice.say(output, &called.name)?;
-    let Some(number) = called.text else {
-        return voice.say(output, b"");
-    };
-    let mut digits = Buffer::new();
-    voice.say_all(output, &[b" of text ", digits.format(number).as_bytes()])
+    say_of_text(voice, output, called.text)
 }
 
 /// Says the source line of each part.
@@ -99,6 +109,28 @@ fn say_lines<O: Output>(
     say_numbers(voice, output, parts)
 }
 
+/// Says a claim on a resource, without the lines that it comes from.
+fn say_claim<O: Output>(
+    voice: &mut Voice,
+    output: &mut O,
+    amount: u64,
+    resource: &[u8],
+) -> Result<(), DeviceFault>
+    ensures ok { OnOk result (Adds (at O.written O.failures voice.old output.old) (claim_words amount resource.now) (at O.written O.failures voice.new output.new)) }
+    ensures err { OnErr result (Breaks (at O.written O.failures voice.old output.old) (claim_words amount resource.now) (at O.written O.failures voice.new output.new)) }
+{
+    let mut digits = Buffer::new();
+    voice.say_all(
+        output,
+        &[
+            b" claim ",
+            digits.format(amount).as_bytes(),
+            b" ",
+            resource,
+        ],
+    )
+}
+
 /// Tells the line of a claim.
 fn tell_claim<O: Output>(
     voice: &mut Voice,
@@ -110,10 +142,8 @@ fn tell_claim<O: Output>(
     ensures err { OnErr result (Breaks (at O.written O.failures voice.old output.old) (line_of (said_view (given.Claim claim.now)))
         (at O.written O.failures voice.new output.new)) }
 {
-    let mut digits = Buffer::new();
     say_called(voice, output, &claim.process)?;
-    let amount = digits.format(claim.amount).as_bytes();
-    voice.say_all(output, &[b" claim ", amount, b" ", &claim.resource])?;
+    say_claim(voice, output, claim.amount, &claim.resource)?;
     say_lines(voice, output, &claim.parts)?;
     voice.say(output, b"\n")
 }

@@ -13,8 +13,6 @@ ghost use Rattle.pb_voice.specs.Voices.{Adds, Breaks};
 
 use crate::said::{Claim, Need, Nested, Refusal, Said};
 use itoa::Buffer;
-use pb_accept::Said as SaidOfText;
-use pb_accept::tell_object as tell_object_of_text;
 use pb_accept::{Cause, limit_json, text_cause};
 use pb_base::{DeviceFault, Output};
 use pb_codegen::CompileFault;
@@ -78,6 +76,20 @@ fn say_code<O: Output>(
     }
 }
 
+/// Says the front of the object of the refusal of a text that has this number.
+fn say_front<O: Output>(
+    voice: &mut Voice,
+    output: &mut O,
+    number: usize,
+) -> Result<(), DeviceFault>
+    ensures ok { OnOk result (Adds (at O.written O.failures voice.old output.old) (spec.front_json number) (at O.written O.failures voice.new output.new)) }
+    ensures err { OnErr result (Breaks (at O.written O.failures voice.old output.old) (spec.front_json number) (at O.written O.failures voice.new output.new)) }
+{
+    let mut digits = Buffer::new();
+    let number = digits.format(number).as_bytes();
+    voice.say_all(output, &[b"{\"kind\":\"refused\",\"of_text\":", number])
+}
+
 /// Tells the object of the fault of a text that has this number.
 fn tell_numbered<O: Output>(
     voice: &mut Voice,
@@ -90,9 +102,7 @@ fn tell_numbered<O: Output>(
     ensures err { OnErr result (Breaks (at O.written O.failures voice.old output.old) (spec.numbered_json number fault.now)
         (at O.written O.failures voice.new output.new)) }
 {
-    let mut digits = Buffer::new();
-    let number = digits.format(number).as_bytes();
-    voice.say_all(output, &[b"{\"kind\":\"refused\",\"of_text\":", number])?;
+    say_front(voice, output, number)?;
     say_code(voice, output, text_cause(fault), member_of(fault))
 }
 
@@ -109,7 +119,7 @@ fn tell_refusal<O: Output>(
 {
     match refusal.text {
         Some(number) => tell_numbered(voice, output, number, &refusal.fault),
-        None => tell_object_of_text(voice, output, SaidOfText::Refused(&refusal.fault)),
+        None => pb_accept::tell_object(voice, output, pb_accept::Said::Refused(&refusal.fault)),
     }
 }
 
@@ -166,6 +176,19 @@ fn say_later<O: Output>(
     Ok(())
 }
 
+/// Says the key for the lines of parts, and the first of them.
+fn say_first<O: Output>(
+    voice: &mut Voice,
+    output: &mut O,
+    line: u32,
+) -> Result<(), DeviceFault>
+    ensures ok { OnOk result (Adds (at O.written O.failures voice.old output.old) (spec.first_json line) (at O.written O.failures voice.new output.new)) }
+    ensures err { OnErr result (Breaks (at O.written O.failures voice.old output.old) (spec.first_json line) (at O.written O.failures voice.new output.new)) }
+{
+    let mut digits = Buffer::new();
+    voice.say_all(output, &[b",\"lines\":[", digits.format(line).as_bytes()])
+}
+
 /// Says the member for the lines of parts; none if there is no part.
 fn say_lines<O: Output>(
     voice: &mut Voice,
@@ -178,9 +201,7 @@ fn say_lines<O: Output>(
     let [first, rest @ ..] = parts else {
         return voice.say(output, b"");
     };
-    let mut digits = Buffer::new();
-    let number = digits.format(first.line).as_bytes();
-    voice.say_all(output, &[b",\"lines\":[", number])?;
+    say_first(voice, output, first.line)?;
     say_later(voice, output, rest)?;
     voice.say(output, b"]")
 }

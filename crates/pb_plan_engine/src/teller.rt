@@ -73,8 +73,8 @@ fn tell_each<O: Output, T: Teller>(
     ensures broken { OnErr result (Breaking T.tells T.breaks (at O.written O.failures teller.old output.old) (map said_view said.now)
         (at O.written O.failures teller.new output.new)) }
 {
-    for one in said {
-        teller.tell(output, one)?;
+    for i in 0..said.len() {
+        teller.tell(output, &said[i])?;
     }
     Ok(())
 }

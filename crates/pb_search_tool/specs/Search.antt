@@ -1,5 +1,6 @@
 -- What the tool that goes through all runs says.
-use Rattle.std.specs.Prelude.{◌≡◌, ℕ, Bool, true, false, List, Option}
+use Rattle.std.specs.Prelude.{◌≡◌, ℕ, Bool, true, false, List, [], ◌∷◌, Option, codes}
+use Rattle.std.specs.Str.{bytes_eq}
 use Rattle.pb_capitals.specs.Changes.{changes_in}
 use Rattle.pb_command_io.specs.Inputs.{SaysOfInput}
 use Rattle.pb_command_io.specs.declared.status.Status.{Status}
@@ -9,9 +10,11 @@ use Rattle.pb_options.specs.Lends.{lending_for}
 use Rattle.pb_options.specs.declared.options.StatesOptions.{StatesOptions}
 use Rattle.pb_page.specs.declared.run.Shown.{Shown as PartOfRun}
 use Rattle.pb_page_engine.specs.States.{SaysOfStates}
-use Rattle.pb_plan_engine.specs.PlanLines.{SaysOfPlan}
+use Rattle.pb_plan_engine.specs.Objects.{text_of}
+use Rattle.pb_plan_engine.specs.Plans.{SaysOfAny, SaysOfPlan}
 use Rattle.pb_search_engine.specs.SaysOfAll.{SaysOfSearches}
 use Rattle.pb_search_tool.specs.Messages.{SaysOfExpected, SaysOfTogether}
+use Rattle.pb_voice.specs.Voices.{Written}
 use Rattle.pb_voice.specs.declared.form.Form.{Form}
 use Rattle.pb_words.specs.declared.words.Options.{Options}
 use Rattle.pb_words.specs.declared.words.Options.TheVariants as option
@@ -20,10 +23,16 @@ use Rattle.pb_words.specs.declared.words.Options.TheVariants as option
 abbrev pub shown_by : StatesOptions → PartOfRun
 shown_by numbers = record { from = numbers.from; rows = numbers.rows }
 
--- what its commands may say of an input; they have lines alone
+-- whether the command of some words, which is the word after the program's name, writes its objects of JSON itself
+abbrev pub writes_objects : List (List ℕ) → Bool
+writes_objects [] = false
+writes_objects (name ∷ []) = false
+writes_objects (name ∷ command ∷ words) = bytes_eq command (codes "plan")
+
+-- what its commands may say of an input in a form; the others have lines alone
 abbrev pub says : Form → Options → List ℕ → List ℕ → Status → Type 0
 says form (option.Outcomes numbers) = SaysOfInput (SaysOfSearches numbers)
-says form (option.Plan options changes) = SaysOfInput (SaysOfPlan (lending_for options.lend) (changes_in changes))
+says form (option.Plan options changes) = Written (text_of form) (SaysOfAny (SaysOfPlan (lending_for options.lend) (changes_in changes)))
 says form (option.States options) = SaysOfInput (SaysOfStates (lending_for options.lend) (shown_by options))
 says form _ = λ bytes text status. ⊥
 

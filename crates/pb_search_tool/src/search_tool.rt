@@ -1,7 +1,6 @@
 //! What the tool does with its commands.
 
-ghost use Rattle.std.specs.Prelude.{false};
-ghost use Rattle.pb_search_tool.specs.Search.{leaves, says, tells_refused};
+ghost use Rattle.pb_search_tool.specs.Search.{leaves, says, tells_refused, writes_objects};
 ghost use Rattle.pb_words.specs.declared.tool.Tool.TheVariants.{Search};
 
 use crate::expected::outcomes_message;
@@ -28,28 +27,31 @@ impl Commands for SearchTool {
 
     ghost MaySay = { says };
 
-    ghost writes_objects = { λ words. false };
+    ghost writes_objects = { writes_objects };
 
     ghost Leaves = { leaves };
 
     ghost TellsRefused = { tells_refused };
 
-    fn writes_objects(&self, _words: &[&str]) -> bool {
-        false
+    fn writes_objects(&self, words: &[&str]) -> bool {
+        match words {
+            [_, command, ..] => *command == "plan",
+            _ => false,
+        }
     }
 
     fn answer<R: Threads + Wait + Sync, I: Input, O: Output>(
         &self,
         _rt: &R,
         alloc: Global,
-        _form: Form,
+        form: Form,
         options: Options,
         input: &mut I,
         output: &mut O,
     ) -> Option<Status> {
         match options {
             Options::Outcomes(options) => Some(outcomes_engine(alloc, options, input, output)),
-            Options::Plan(options, changes) => Some(plan(alloc, options, &changes, input, output)),
+            Options::Plan(options, changes) => Some(plan(alloc, form, options, &changes, input, output)),
             Options::States(options) => Some(states(alloc, options, input, output)),
             _ => None,
         }

@@ -10,7 +10,7 @@ use pb_engines::{
     write_checks, write_claims, write_emission, write_execution, write_migration, write_replay,
     write_run,
 };
-use pb_plan_engine::plan_engine;
+use pb_plan_engine::write_plan;
 use pb_voice::Form;
 use std::sync::Wait;
 use std::thread::Threads;
@@ -94,8 +94,8 @@ fn status_of(
             write_execution(rt, alloc, Form::Lines, run_options(quantum, steps)?, &mut input, output)
         }
         Command::Migrate => write_migration(alloc, Form::Lines, &mut input, output),
-        Command::Plan => plan_engine(alloc, Lending::ByBanker, &none, &mut input, output),
-        Command::PlanByCash => plan_engine(alloc, Lending::ByCash, &none, &mut input, output),
+        Command::Plan => write_plan(alloc, Form::Lines, Lending::ByBanker, &none, &mut input, output),
+        Command::PlanByCash => write_plan(alloc, Form::Lines, Lending::ByCash, &none, &mut input, output),
         Command::Record { seed } => {
             let options = RecordOptions {
                 run: run_options(64, 1_000_000)?,

@@ -4,7 +4,7 @@ use Rattle.pb_names.specs.View.{resolved_view}
 use Rattle.pb_plan_engine.proofs.OrderLemmas.{ask_below}
 use Rattle.pb_plan_engine.proofs.PlanLemmas.{capitals_are_small}
 use Rattle.pb_plan.specs.Needs.{scarce}
-use Rattle.pb_plan_engine.specs.PlanLines.{IsOrderIfAny}
+use Rattle.pb_plan_engine.specs.Plans.{IsOrderIfAny}
 use Rattle.pb_plan_engine.proofs.plan.plan.Goals as goal
 
 pub capital-requires-clause-small : goal.capital-requires-clause-small
@@ -15,8 +15,8 @@ capital-requires-clause-small g c =
 pub capital-requires-clause-few : goal.capital-requires-clause-few
 capital-requires-clause-few g c = c.requires.numbered.numbered.few_resources
 
-pub plan_text-requires-clause-capital : goal.plan_text-requires-clause-capital
-plan_text-requires-clause-capital g c = c.in_ok-capital.ensures
+pub said_of_plan-said-requires-clause-capital : goal.said_of_plan-said-requires-clause-capital
+said_of_plan-said-requires-clause-capital g c = c.in_ok-capital.ensures
 
 pub status-status-requires-clause-width : goal.status-status-requires-clause-width
 status-status-requires-clause-width g c =
@@ -38,12 +38,12 @@ scarce-requires g c =
     capital_width (resolved_view c.args.program.now) c.in_ok-capital.capital c.args.claims.now c.in_ok-capital.ensures
     (claims_width is.tree (resolved_view c.args.program.now) c.args.claims.now is.numbered is.claimed)
 
-pub plan_text-requires-clause-few : goal.plan_text-requires-clause-few
-plan_text-requires-clause-few g c =
+pub said_of_plan-said-requires-clause-few : goal.said_of_plan-said-requires-clause-few
+said_of_plan-said-requires-clause-few g c =
     c.deref-2.ensures.value ∙ c.in_ok-few.ensures ∙ ap (scarce c.args.claims.now) c.in_ok-capital.ensures
 
-pub plan_text-requires-clause-ordered : goal.plan_text-requires-clause-ordered
-plan_text-requires-clause-ordered g c =
+pub said_of_plan-said-requires-clause-ordered : goal.said_of_plan-said-requires-clause-ordered
+said_of_plan-said-requires-clause-ordered g c =
     subst (λ (xs : List ℕ). IsOrderIfAny (resolved_view c.args.program.now) xs (option_map (λ (o : Vec ℕ Global). o.items) c.in_ok-order.order))
     (c.deref.ensures.value ∙ c.in_ok-few.ensures ∙ ap (scarce c.args.claims.now) c.in_ok-capital.ensures) c.in_ok-order.ensures
 
