@@ -7,7 +7,7 @@ use Rattle.pb_call.specs.Calls.{AfterRead, CallTellsFaults, CallWrites, Saying}
 use Rattle.pb_command_io.specs.Faults.{TellsFaults}
 use Rattle.pb_command_io.specs.declared.status.Status.{Status}
 use Rattle.pb_command_io.specs.declared.status.Status.TheVariants.{Done}
-use Rattle.pb_call.specs.Explained.{Answers, AnswersAsObjects, AnswersInJson, AnswersLive, IsFirst, IsWithout, WritesJson, WritesObjects, devices_of}
+use Rattle.pb_call.specs.Explained.{Answers, AnswersAsObjects, AnswersInJson, AnswersLive, IsFirst, IsWithout, WritesJson, InObjects, devices_of}
 use Rattle.pb_call.specs.Explained.IsWithout.{whole, after}
 use Rattle.pb_json_lines.specs.Dialects.{comes_live, dialect_of}
 use Rattle.pb_json_lines.specs.Live.{LiveSink, seen_by_writers}
@@ -30,17 +30,17 @@ no_words word (name ∷ words) few = absurd (omega (arith, few))
 
 -- an answer that is not to be in JSON lines, and one that is, by its command itself or of its lines, as they come or at the end
 module _ (tool : Tool) (MaySay : Saying) (Leaves : AfterRead) (words : List (Bor Text)) (rest left : Option (List ℕ)) (reads_old reads_new : ℕ) (old new : LiveSink) (status : Status) where
-  pub as_it_is : (writes_objects : WritesObjects) (json : Bool) → json ≡ false → CallWrites tool MaySay Lines words rest (seen_by_writers old) (seen_by_writers new) status
+  pub as_it_is : (in_objects : InObjects) (json : Bool) → json ≡ false → CallWrites tool MaySay Lines words rest (seen_by_writers old) (seen_by_writers new) status
       → CallTellsFaults tool Leaves words rest left (devices_of reads_old old) (devices_of reads_new new) status
-      → Answers tool MaySay Leaves writes_objects json words rest left reads_old reads_new old new status
-  as_it_is writes_objects false is writes faults = (writes, faults)
-  as_it_is writes_objects true is writes faults = absurd cc
+      → Answers tool MaySay Leaves in_objects json words rest left reads_old reads_new old new status
+  as_it_is in_objects false is writes faults = (writes, faults)
+  as_it_is in_objects true is writes faults = absurd cc
 
-  pub as_json : (writes_objects : WritesObjects) (json : Bool) → json ≡ true
-      → AnswersAsObjects tool MaySay Leaves (writes_objects (map (λ word. word.now) words)) words rest left reads_old reads_new old new status
-      → Answers tool MaySay Leaves writes_objects json words rest left reads_old reads_new old new status
-  as_json writes_objects true is answers = answers
-  as_json writes_objects false is answers = absurd cc
+  pub as_json : (in_objects : InObjects) (json : Bool) → json ≡ true
+      → AnswersAsObjects tool MaySay Leaves (in_objects (map (λ word. word.now) words)) words rest left reads_old reads_new old new status
+      → Answers tool MaySay Leaves in_objects json words rest left reads_old reads_new old new status
+  as_json in_objects true is answers = answers
+  as_json in_objects false is answers = absurd cc
 
   pub by_itself : (itself : Bool) → itself ≡ true → CallWrites tool MaySay Objects words rest (seen_by_writers old) (seen_by_writers new) status
       → CallTellsFaults tool Leaves words rest left (devices_of reads_old old) (devices_of reads_new new) status

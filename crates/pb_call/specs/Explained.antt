@@ -189,23 +189,23 @@ AnswersAsObjects tool MaySay Leaves false words rest left reads_old reads_new ol
     AnswersInJson tool MaySay Leaves (comes_live (dialect_of (map (λ word. word.now) words) Done)) words rest left reads_old reads_new old new status
 
 -- by the words of a call, whether its command writes its objects of JSON itself
-abbrev pub WritesObjects : Type 0
-WritesObjects = List Text → Bool
+abbrev pub InObjects : Type 0
+InObjects = List Text → Bool
 
 -- the answer of a call, in lines or in JSON
-abbrev pub Answers : Tool → Saying → AfterRead → WritesObjects → (json : Bool) → (words : List (Bor Text)) → (rest left : Option (List ℕ))
+abbrev pub Answers : Tool → Saying → AfterRead → InObjects → (json : Bool) → (words : List (Bor Text)) → (rest left : Option (List ℕ))
     → (reads_old reads_new : ℕ) → (old new : LiveSink) → Status → Type 0
-Answers tool MaySay Leaves writes_objects false words rest left reads_old reads_new old new status =
+Answers tool MaySay Leaves in_objects false words rest left reads_old reads_new old new status =
     AnswersInForm tool MaySay Leaves Lines words rest left reads_old reads_new old new status
-Answers tool MaySay Leaves writes_objects true words rest left reads_old reads_new old new status =
-    AnswersAsObjects tool MaySay Leaves (writes_objects (map (λ word. word.now) words)) words rest left reads_old reads_new old new status
+Answers tool MaySay Leaves in_objects true words rest left reads_old reads_new old new status =
+    AnswersAsObjects tool MaySay Leaves (in_objects (map (λ word. word.now) words)) words rest left reads_old reads_new old new status
 
 -- the answer of a call is on its output, in JSON lines if `--json` is the first word but for `--quiet`, and what a
 -- person is told of it on standard error; the words are read without these two
-abbrev pub AnswersAndExplains : Tool → Saying → AfterRead → WritesObjects → Telling → (words : List (Bor Text)) → (rest left kept : Option (List ℕ))
+abbrev pub AnswersAndExplains : Tool → Saying → AfterRead → InObjects → Telling → (words : List (Bor Text)) → (rest left kept : Option (List ℕ))
     → (reads_old reads_new : ℕ) → (old new : LiveSink) → (error_old error_new : Devices) → Status → Type 0
-AnswersAndExplains tool MaySay Leaves writes_objects TellsRefused words rest left kept reads_old reads_new old new error_old error_new status =
+AnswersAndExplains tool MaySay Leaves in_objects TellsRefused words rest left kept reads_old reads_new old new error_old error_new status =
     (heard : List (Bor Text)) × (said : List (Bor Text)) × (json : Bool)
     × IsWithout (codes "--quiet") words heard × IsWithout (codes "--json") heard said × (IsTrue json ↔ IsInJson heard)
-    × Answers tool MaySay Leaves writes_objects json said rest left reads_old reads_new old new status
+    × Answers tool MaySay Leaves in_objects json said rest left reads_old reads_new old new status
     × TellsPerson TellsRefused words said status kept error_old error_new

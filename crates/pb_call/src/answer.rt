@@ -110,12 +110,7 @@ fn status_of(fault: &WordsFault) -> Status
 }
 
 /// Writes the text of a fault, and returns its status.
-pub fn refuse<O: Output>(
-    alloc: Global,
-    form: Form,
-    output: &mut O,
-    fault: &WordsFault,
-) -> Status
+pub fn refuse<O: Output>(alloc: Global, form: Form, output: &mut O, fault: &WordsFault) -> Status
     ensures text { Says (O.written output.old) (O.written output.new) (words_fault_text form fault.now) (fault_status fault.now) result }
     ensures faults { TellsWriteFaults (O.failures output.old) (O.failures output.new) result }
 {

@@ -28,7 +28,7 @@ pub trait Commands {
     ghost MaySay: { AnyForm → AnyOptions → List ℕ → List ℕ → AnyStatus → Type 0 };
 
     /// Whether the command of some words writes its objects of JSON itself. If it does not, they are made of its lines.
-    ghost writes_objects: { List (List ℕ) → Bool };
+    ghost in_objects: { List (List ℕ) → Bool };
 
     /// What a command has written if a read of it fails, by the bytes that were to come before the command and after
     /// it, and what was written before.
@@ -39,8 +39,8 @@ pub trait Commands {
 
     /// Returns whether the command of some words, of which the first is the program's own name, writes its objects of
     /// JSON itself.
-    fn writes_objects(&self, words: &[&str]) -> bool
-        ensures { result ≡ writes_objects (map (λ w. w.now) words.now) };
+    fn has_objects(&self, words: &[&str]) -> bool
+        ensures { result ≡ in_objects (map (λ w. w.now) words.now) };
 
     /// Does what the options say, writes it in this form if the command has it, and returns the status. If another tool
     /// answers the command, nothing is read or written, and nothing is returned. Commands that start threads or wait do

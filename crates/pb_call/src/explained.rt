@@ -32,7 +32,7 @@ pub fn answer_and_explain<R: Threads + Wait + Sync, C: Commands, I: Input, O: Ou
     output: &mut LiveOutput<O>,
     error: &mut E,
 ) -> Status
-    ensures { AnswersAndExplains C.tool C.MaySay C.Leaves C.writes_objects C.TellsRefused words.now input.old.rest input.new.rest input.new.kept
+    ensures { AnswersAndExplains C.tool C.MaySay C.Leaves C.in_objects C.TellsRefused words.now input.old.rest input.new.rest input.new.kept
         input.old.failures input.new.failures output.old output.new
         (record { reads = input.old.failures; writes = E.failures error.old; written = E.written error.old })
         (record { reads = input.new.failures; writes = E.failures error.new; written = E.written error.new })
@@ -80,7 +80,7 @@ fn answer_as<R: Threads + Wait + Sync, C: Commands, I: Input, O: Output>(
     input: &mut KeptInput<I>,
     output: &mut LiveOutput<O>,
 ) -> Status
-    ensures { Answers C.tool C.MaySay C.Leaves C.writes_objects json words.now input.old.rest input.new.rest input.old.failures input.new.failures
+    ensures { Answers C.tool C.MaySay C.Leaves C.in_objects json words.now input.old.rest input.new.rest input.old.failures input.new.failures
         output.old output.new result }
 {
     if json {
@@ -99,10 +99,10 @@ fn answer_as_objects<R: Threads + Wait + Sync, C: Commands, I: Input, O: Output>
     input: &mut KeptInput<I>,
     output: &mut LiveOutput<O>,
 ) -> Status
-    ensures { AnswersAsObjects C.tool C.MaySay C.Leaves (C.writes_objects (map (λ w. w.now) words.now)) words.now
+    ensures { AnswersAsObjects C.tool C.MaySay C.Leaves (C.in_objects (map (λ w. w.now) words.now)) words.now
         input.old.rest input.new.rest input.old.failures input.new.failures output.old output.new result }
 {
-    if commands.writes_objects(words) {
+    if commands.has_objects(words) {
         answer(commands, rt, alloc, Form::Objects, words, input, output)
     } else {
         answer_in_json(commands, rt, alloc, words, input, output)

@@ -70,6 +70,14 @@ fn answer_at_the_end<R: Threads + Wait + Sync, C: Commands, I: Input, O: Output>
         result }
 {
     let mut gathered = Gathered::new(alloc);
-    let given = answer(commands, rt, alloc, Form::Lines, words, input, &mut gathered);
+    let given = answer(
+        commands,
+        rt,
+        alloc,
+        Form::Lines,
+        words,
+        input,
+        &mut gathered,
+    );
     tell_json(alloc, &gathered, given, dialect_of(words, given), output)
 }

@@ -28,13 +28,13 @@ impl Commands for DebugTool {
 
     ghost MaySay = { says };
 
-    ghost writes_objects = { λ words. false };
+    ghost in_objects = { λ words. false };
 
     ghost Leaves = { leaves };
 
     ghost TellsRefused = { tells_refused };
 
-    fn writes_objects(&self, _words: &[&str]) -> bool {
+    fn has_objects(&self, _words: &[&str]) -> bool {
         false
     }
 

@@ -23,13 +23,13 @@ impl Commands for EditTool {
 
     ghost MaySay = { says };
 
-    ghost writes_objects = { λ words. false };
+    ghost in_objects = { λ words. false };
 
     ghost Leaves = { leaves };
 
     ghost TellsRefused = { λ o bytes told. ⊥ };
 
-    fn writes_objects(&self, _words: &[&str]) -> bool {
+    fn has_objects(&self, _words: &[&str]) -> bool {
         false
     }
 

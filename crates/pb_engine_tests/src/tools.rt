@@ -78,19 +78,19 @@ fn commands_that_tell_data_write_objects(rt: HostRuntime) {
     let refused = b"{\"kind\":\"refused\",\"code\":\"P1\",\"at\":0}\n";
     assert!(rt; says_in(&RunTool, &rt, Form::Objects, "run", refused, Status::Refused) == Some(true));
     assert!(rt; says_in(&SearchTool, &rt, Form::Objects, "plan", refused, Status::Refused) == Some(true));
-    assert!(rt; RunTool.writes_objects(&["parbegin", "run"]));
-    assert!(rt; RunTool.writes_objects(&["parbegin", "check", "--heap=1"]));
-    assert!(rt; SearchTool.writes_objects(&["parbegin", "plan"]));
+    assert!(rt; RunTool.has_objects(&["parbegin", "run"]));
+    assert!(rt; RunTool.has_objects(&["parbegin", "check", "--heap=1"]));
+    assert!(rt; SearchTool.has_objects(&["parbegin", "plan"]));
 }
 
 #[test]
 fn other_commands_write_lines_alone(rt: HostRuntime) {
-    assert!(rt; !RunTool.writes_objects(&["parbegin", "explain"]));
-    assert!(rt; !RunTool.writes_objects(&["run"]));
-    assert!(rt; !SearchTool.writes_objects(&["parbegin", "outcomes"]));
-    assert!(rt; !BankTool.writes_objects(&["parbegin", "bank"]));
-    assert!(rt; !DebugTool.writes_objects(&["parbegin", "draw"]));
-    assert!(rt; !EditTool.writes_objects(&["parbegin", "lsp"]));
+    assert!(rt; !RunTool.has_objects(&["parbegin", "explain"]));
+    assert!(rt; !RunTool.has_objects(&["run"]));
+    assert!(rt; !SearchTool.has_objects(&["parbegin", "outcomes"]));
+    assert!(rt; !BankTool.has_objects(&["parbegin", "bank"]));
+    assert!(rt; !DebugTool.has_objects(&["parbegin", "draw"]));
+    assert!(rt; !EditTool.has_objects(&["parbegin", "lsp"]));
 }
 
 #[test]

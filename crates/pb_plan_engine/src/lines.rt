@@ -122,12 +122,7 @@ fn say_claim<O: Output>(
     let mut digits = Buffer::new();
     voice.say_all(
         output,
-        &[
-            b" claim ",
-            digits.format(amount).as_bytes(),
-            b" ",
-            resource,
-        ],
+        &[b" claim ", digits.format(amount).as_bytes(), b" ", resource],
     )
 }
 
@@ -149,11 +144,7 @@ fn tell_claim<O: Output>(
 }
 
 /// Tells the line of a resource.
-fn tell_need<O: Output>(
-    voice: &mut Voice,
-    output: &mut O,
-    need: &Need,
-) -> Result<(), DeviceFault>
+fn tell_need<O: Output>(voice: &mut Voice, output: &mut O, need: &Need) -> Result<(), DeviceFault>
     ensures ok { OnOk result (Adds (at O.written O.failures voice.old output.old) (line_of (said_view (given.Resource need.now)))
         (at O.written O.failures voice.new output.new)) }
     ensures err { OnErr result (Breaks (at O.written O.failures voice.old output.old) (line_of (said_view (given.Resource need.now)))
@@ -211,11 +202,7 @@ fn tell_order<O: Output>(
 }
 
 /// Says the resource and the line of each of two holds, and the end of a line.
-fn say_holds<O: Output>(
-    voice: &mut Voice,
-    output: &mut O,
-    nest: &Nested,
-) -> Result<(), DeviceFault>
+fn say_holds<O: Output>(voice: &mut Voice, output: &mut O, nest: &Nested) -> Result<(), DeviceFault>
     ensures ok { OnOk result (Adds (at O.written O.failures voice.old output.old)
         (nest_words nest.now.outer.items nest.now.outer_line nest.now.inner.items nest.now.inner_line) (at O.written O.failures voice.new output.new)) }
     ensures err { OnErr result (Breaks (at O.written O.failures voice.old output.old)
@@ -240,11 +227,7 @@ fn say_holds<O: Output>(
 }
 
 /// Tells the line of a hold inside another one.
-fn tell_nest<O: Output>(
-    voice: &mut Voice,
-    output: &mut O,
-    nest: &Nested,
-) -> Result<(), DeviceFault>
+fn tell_nest<O: Output>(voice: &mut Voice, output: &mut O, nest: &Nested) -> Result<(), DeviceFault>
     ensures ok { OnOk result (Adds (at O.written O.failures voice.old output.old) (line_of (said_view (given.Nest nest.now)))
         (at O.written O.failures voice.new output.new)) }
     ensures err { OnErr result (Breaks (at O.written O.failures voice.old output.old) (line_of (said_view (given.Nest nest.now)))

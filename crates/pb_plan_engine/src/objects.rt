@@ -77,11 +77,7 @@ fn say_code<O: Output>(
 }
 
 /// Says the front of the object of the refusal of a text that has this number.
-fn say_front<O: Output>(
-    voice: &mut Voice,
-    output: &mut O,
-    number: usize,
-) -> Result<(), DeviceFault>
+fn say_front<O: Output>(voice: &mut Voice, output: &mut O, number: usize) -> Result<(), DeviceFault>
     ensures ok { OnOk result (Adds (at O.written O.failures voice.old output.old) (spec.front_json number) (at O.written O.failures voice.new output.new)) }
     ensures err { OnErr result (Breaks (at O.written O.failures voice.old output.old) (spec.front_json number) (at O.written O.failures voice.new output.new)) }
 {
@@ -136,7 +132,10 @@ fn say_of_text<O: Output>(
         return voice.say(output, b"");
     };
     let mut digits = Buffer::new();
-    voice.say_all(output, &[b",\"of_text\":", digits.format(number).as_bytes()])
+    voice.say_all(
+        output,
+        &[b",\"of_text\":", digits.format(number).as_bytes()],
+    )
 }
 
 /// Says an object of this kind, as far as the process that it is of.
@@ -177,11 +176,7 @@ fn say_later<O: Output>(
 }
 
 /// Says the key for the lines of parts, and the first of them.
-fn say_first<O: Output>(
-    voice: &mut Voice,
-    output: &mut O,
-    line: u32,
-) -> Result<(), DeviceFault>
+fn say_first<O: Output>(voice: &mut Voice, output: &mut O, line: u32) -> Result<(), DeviceFault>
     ensures ok { OnOk result (Adds (at O.written O.failures voice.old output.old) (spec.first_json line) (at O.written O.failures voice.new output.new)) }
     ensures err { OnErr result (Breaks (at O.written O.failures voice.old output.old) (spec.first_json line) (at O.written O.failures voice.new output.new)) }
 {
@@ -248,11 +243,7 @@ fn tell_claim<O: Output>(
 }
 
 /// Tells the object of a resource.
-fn tell_need<O: Output>(
-    voice: &mut Voice,
-    output: &mut O,
-    need: &Need,
-) -> Result<(), DeviceFault>
+fn tell_need<O: Output>(voice: &mut Voice, output: &mut O, need: &Need) -> Result<(), DeviceFault>
     ensures ok { OnOk result (Adds (at O.written O.failures voice.old output.old) (json_of (said_view (given.Resource need.now)))
         (at O.written O.failures voice.new output.new)) }
     ensures err { OnErr result (Breaks (at O.written O.failures voice.old output.old) (json_of (said_view (given.Resource need.now)))
@@ -344,11 +335,7 @@ fn tell_order<O: Output>(
 }
 
 /// Says the resource and the line of each of two holds, and the end of an object.
-fn say_holds<O: Output>(
-    voice: &mut Voice,
-    output: &mut O,
-    nest: &Nested,
-) -> Result<(), DeviceFault>
+fn say_holds<O: Output>(voice: &mut Voice, output: &mut O, nest: &Nested) -> Result<(), DeviceFault>
     ensures ok { OnOk result (Adds (at O.written O.failures voice.old output.old)
         (nest_json nest.now.outer.items nest.now.outer_line nest.now.inner.items nest.now.inner_line) (at O.written O.failures voice.new output.new)) }
     ensures err { OnErr result (Breaks (at O.written O.failures voice.old output.old)
@@ -375,11 +362,7 @@ fn say_holds<O: Output>(
 }
 
 /// Tells the object of a hold inside another one.
-fn tell_nest<O: Output>(
-    voice: &mut Voice,
-    output: &mut O,
-    nest: &Nested,
-) -> Result<(), DeviceFault>
+fn tell_nest<O: Output>(voice: &mut Voice, output: &mut O, nest: &Nested) -> Result<(), DeviceFault>
     ensures ok { OnOk result (Adds (at O.written O.failures voice.old output.old) (json_of (said_view (given.Nest nest.now)))
         (at O.written O.failures voice.new output.new)) }
     ensures err { OnErr result (Breaks (at O.written O.failures voice.old output.old) (json_of (said_view (given.Nest nest.now)))
@@ -402,7 +385,11 @@ fn tell_unknown<O: Output>(
         voice,
         output,
         &[false, true, false],
-        &[b"{\"kind\":\"refused\",\"code\":\"N3\",\"text\":", name, b"}\n"],
+        &[
+            b"{\"kind\":\"refused\",\"code\":\"N3\",\"text\":",
+            name,
+            b"}\n",
+        ],
     )
 }
 

@@ -20,7 +20,9 @@ ghost use Rattle.pb_voice.specs.Held.{at};
 ghost use Rattle.pb_voice.specs.Tellings.{Answers, Speaks};
 
 use crate::changing::{change_capitals, undeclared};
-use crate::rows::{add, add_circle, add_process, add_resources, bottleneck_of, order_said, process_name};
+use crate::rows::{
+    add, add_circle, add_process, add_resources, bottleneck_of, order_said, process_name,
+};
 use crate::said::{Refusal, Said};
 use crate::teller::{Teller, tell_all, tell_last};
 use crate::texts::texts_of;

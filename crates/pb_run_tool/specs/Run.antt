@@ -32,10 +32,10 @@ is_data command =
     || bytes_eq command (codes "run")
 
 -- whether the command of some words does; it is the word after the program's name
-abbrev pub writes_objects : List (List ℕ) → Bool
-writes_objects [] = false
-writes_objects (name ∷ []) = false
-writes_objects (name ∷ command ∷ words) = is_data command
+abbrev pub in_objects : List (List ℕ) → Bool
+in_objects [] = false
+in_objects (name ∷ []) = false
+in_objects (name ∷ command ∷ words) = is_data command
 
 -- what its commands may say of an input in a form; the others have lines alone
 abbrev pub says : Form → Options → List ℕ → List ℕ → Status → Type 0

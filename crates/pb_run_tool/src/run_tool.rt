@@ -1,7 +1,7 @@
 //! What the tool does with its commands.
 
 ghost use Rattle.std.specs.Prelude.{◌≡◌};
-ghost use Rattle.pb_run_tool.specs.Run.{format_reading, is_data, leaves, says, tells_refused, writes_objects};
+ghost use Rattle.pb_run_tool.specs.Run.{format_reading, is_data, leaves, says, tells_refused, in_objects};
 ghost use Rattle.pb_words.specs.declared.tool.Tool.TheVariants.{Run};
 
 use pb_base::{Input, NoMemory, Output};
@@ -30,13 +30,13 @@ impl Commands for RunTool {
 
     ghost MaySay = { says };
 
-    ghost writes_objects = { writes_objects };
+    ghost in_objects = { in_objects };
 
     ghost Leaves = { leaves };
 
     ghost TellsRefused = { tells_refused };
 
-    fn writes_objects(&self, words: &[&str]) -> bool {
+    fn has_objects(&self, words: &[&str]) -> bool {
         match words {
             [_, command, ..] => tells_data(command),
             _ => false,
@@ -56,7 +56,9 @@ impl Commands for RunTool {
             Options::Check(numbers) => Some(write_checks(alloc, form, numbers, input, output)),
             Options::Claims => Some(write_claims(alloc, form, input, output)),
             Options::Emit(numbers) => Some(write_emission(alloc, form, numbers, input, output)),
-            Options::Exec(numbers) => Some(write_execution(rt, alloc, form, numbers, input, output)),
+            Options::Exec(numbers) => Some(write_execution(
+                rt, alloc, form, numbers, input, output,
+            )),
             Options::Explain(code) => Some(explain_engine(alloc, code, output)),
             Options::Migrate => Some(write_migration(alloc, form, input, output)),
             Options::Record(numbers) => Some(record_engine(rt, alloc, numbers, input, output)),

@@ -24,10 +24,10 @@ abbrev pub shown_by : StatesOptions → PartOfRun
 shown_by numbers = record { from = numbers.from; rows = numbers.rows }
 
 -- whether the command of some words, which is the word after the program's name, writes its objects of JSON itself
-abbrev pub writes_objects : List (List ℕ) → Bool
-writes_objects [] = false
-writes_objects (name ∷ []) = false
-writes_objects (name ∷ command ∷ words) = bytes_eq command (codes "plan")
+abbrev pub in_objects : List (List ℕ) → Bool
+in_objects [] = false
+in_objects (name ∷ []) = false
+in_objects (name ∷ command ∷ words) = bytes_eq command (codes "plan")
 
 -- what its commands may say of an input in a form; the others have lines alone
 abbrev pub says : Form → Options → List ℕ → List ℕ → Status → Type 0

@@ -1,6 +1,6 @@
 //! What the tool does with its commands.
 
-ghost use Rattle.pb_search_tool.specs.Search.{leaves, says, tells_refused, writes_objects};
+ghost use Rattle.pb_search_tool.specs.Search.{leaves, says, tells_refused, in_objects};
 ghost use Rattle.pb_words.specs.declared.tool.Tool.TheVariants.{Search};
 
 use crate::expected::outcomes_message;
@@ -27,13 +27,13 @@ impl Commands for SearchTool {
 
     ghost MaySay = { says };
 
-    ghost writes_objects = { writes_objects };
+    ghost in_objects = { in_objects };
 
     ghost Leaves = { leaves };
 
     ghost TellsRefused = { tells_refused };
 
-    fn writes_objects(&self, words: &[&str]) -> bool {
+    fn has_objects(&self, words: &[&str]) -> bool {
         match words {
             [_, command, ..] => *command == "plan",
             _ => false,
@@ -51,7 +51,9 @@ impl Commands for SearchTool {
     ) -> Option<Status> {
         match options {
             Options::Outcomes(options) => Some(outcomes_engine(alloc, options, input, output)),
-            Options::Plan(options, changes) => Some(plan(alloc, form, options, &changes, input, output)),
+            Options::Plan(options, changes) => Some(plan(
+                alloc, form, options, &changes, input, output,
+            )),
             Options::States(options) => Some(states(alloc, options, input, output)),
             _ => None,
         }

@@ -10,7 +10,7 @@ pub returns-in-Ok-clause-text : goal.returns-in-Ok-clause-text
 returns-in-Ok-clause-text g c =
     text_written c.args.form (λ form. words_fault_text form c.args.fault.now) (at g.O.Output.written g.O.Output.failures c.new-voice.result c.args.output.now)
     (at g.O.Output.written g.O.Output.failures c.say_fault.new.voice c.say_fault.new.output) c.new-voice.ensures
-    (g.O.Output.written c.finish.new.output) (fault_status c.args.fault.now) c.finish.result c.in-Ok.ensures.ok 
+    (g.O.Output.written c.finish.new.output) (fault_status c.args.fault.now) c.finish.result c.in-Ok.ensures.ok
     (subst (λ (s : Status). Says (g.O.Output.written c.say_fault.new.output) (g.O.Output.written c.finish.new.output) c.say_fault.new.voice.waits s c.finish.result)
     c.status_of.ensures.said (c.finish.ensures.text c.status_of.ensures.no_device))
 
