@@ -51,7 +51,14 @@ pub fn answer_alone<I: Input, O: Output>(
         Ok(Options::Lsp) => server_engine(alloc, input, output),
         Ok(Options::Migrate) => write_migration(alloc, Form::Lines, input, output),
         Ok(Options::Outcomes(numbers)) => outcomes_engine(alloc, numbers, input, output),
-        Ok(Options::Plan(options, changes)) => plan(alloc, Form::Lines, options, &changes, input, output),
+        Ok(Options::Plan(options, changes)) => plan(
+            alloc,
+            Form::Lines,
+            options,
+            &changes,
+            input,
+            output,
+        ),
         Ok(Options::Replay(options)) => write_replay(alloc, Form::Lines, options, input, output),
         Ok(Options::Exec(numbers)) => {
             let _ = numbers;

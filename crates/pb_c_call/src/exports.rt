@@ -96,7 +96,14 @@ pub extern "C" fn pb_plan(alloc: Global, texts: &[u8], output: &mut [u8], needed
     let mut source = MemoryInput::new(texts);
     let mut reply = Kept::new(alloc);
     let none = Changes::none();
-    let status = write_plan(alloc, Form::Lines, Lending::ByBanker, &none, &mut source, &mut reply);
+    let status = write_plan(
+        alloc,
+        Form::Lines,
+        Lending::ByBanker,
+        &none,
+        &mut source,
+        &mut reply,
+    );
     let bytes = reply.as_slice();
     put_front(output, bytes);
     *needed = bytes.len();

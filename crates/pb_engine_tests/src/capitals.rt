@@ -31,7 +31,14 @@ fn is_planned(alloc: Global, changes: &[&str], wanted: &[u8], status: Status) ->
     let mut input = MemoryInput::new(TEXT);
     match MemoryOutput::new(alloc, 1_000) {
         Ok(mut output) => {
-            let ended = write_plan(alloc, Form::Lines, Lending::ByBanker, &changes, &mut input, &mut output);
+            let ended = write_plan(
+                alloc,
+                Form::Lines,
+                Lending::ByBanker,
+                &changes,
+                &mut input,
+                &mut output,
+            );
             ended == status && output.as_slice() == wanted
         }
         Err(_) => false,

@@ -291,7 +291,13 @@ const REPLAYS: [(&[u8], &[u8]); 2] = [
 fn replays(alloc: Global, lend: Lend, input: &[u8], said: &[u8], wanted: Status) -> Option<bool> {
     let mut input = MemoryInput::new(input);
     let mut output = MemoryOutput::new(alloc, 4_096).ok()?;
-    let status = write_replay(alloc, Form::Lines, ReplayOptions { lend }, &mut input, &mut output);
+    let status = write_replay(
+        alloc,
+        Form::Lines,
+        ReplayOptions { lend },
+        &mut input,
+        &mut output,
+    );
     Some(status == wanted && output.as_slice() == said)
 }
 

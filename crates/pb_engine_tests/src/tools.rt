@@ -76,8 +76,26 @@ fn each_names_the_tool_of_another_command(rt: HostRuntime) {
 #[test]
 fn commands_that_tell_data_write_objects(rt: HostRuntime) {
     let refused = b"{\"kind\":\"refused\",\"code\":\"P1\",\"at\":0}\n";
-    assert!(rt; says_in(&RunTool, &rt, Form::Objects, "run", refused, Status::Refused) == Some(true));
-    assert!(rt; says_in(&SearchTool, &rt, Form::Objects, "plan", refused, Status::Refused) == Some(true));
+    assert!(rt;
+        says_in(
+            &RunTool,
+            &rt,
+            Form::Objects,
+            "run",
+            refused,
+            Status::Refused
+        ) == Some(true)
+    );
+    assert!(rt;
+        says_in(
+            &SearchTool,
+            &rt,
+            Form::Objects,
+            "plan",
+            refused,
+            Status::Refused
+        ) == Some(true)
+    );
     assert!(rt; RunTool.has_objects(&["parbegin", "run"]));
     assert!(rt; RunTool.has_objects(&["parbegin", "check", "--heap=1"]));
     assert!(rt; SearchTool.has_objects(&["parbegin", "plan"]));
@@ -95,6 +113,7 @@ fn other_commands_write_lines_alone(rt: HostRuntime) {
 
 #[test]
 fn words_are_refused_in_objects(rt: HostRuntime) {
-    let named = b"{\"kind\":\"line\",\"text\":\"error: this command is answered by parbegin-search\"}\n";
+    let named =
+        b"{\"kind\":\"line\",\"text\":\"error: this command is answered by parbegin-search\"}\n";
     assert!(rt; says_in(&RunTool, &rt, Form::Objects, "plan", named, Status::Words) == Some(true));
 }

@@ -75,7 +75,12 @@ fn plans_are_told_alike(rt: HostRuntime) {
     let alloc = rt.alloc();
     let none = Changes::none();
     let text = b"process p begin print 1 end";
-    assert!(rt; matches!(says_the_same(alloc, &none, CIRCLE, Status::Deadlock), Ok(true)));
+    assert!(rt;
+        matches!(
+            says_the_same(alloc, &none, CIRCLE, Status::Deadlock),
+            Ok(true)
+        )
+    );
     assert!(rt; matches!(says_the_same(alloc, &none, TWO, Status::Done), Ok(true)));
     assert!(rt; matches!(says_the_same(alloc, &none, text, Status::Done), Ok(true)));
 }
@@ -86,6 +91,11 @@ fn refusals_of_plans_are_told_alike(rt: HostRuntime) {
     let none = Changes::none();
     let text = b"process p begin print x end";
     assert!(rt; matches!(says_the_same(alloc, &none, text, Status::Refused), Ok(true)));
-    assert!(rt; matches!(says_the_same(alloc, &none, TWO_CAPITALS, Status::Refused), Ok(true)));
+    assert!(rt;
+        matches!(
+            says_the_same(alloc, &none, TWO_CAPITALS, Status::Refused),
+            Ok(true)
+        )
+    );
     assert!(rt; matches!(unknown_is_told_alike(alloc), Ok(true)));
 }

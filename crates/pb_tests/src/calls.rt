@@ -71,7 +71,13 @@ pub fn make<I: Input, O: Output>(
     match call {
         Call::Check(options) => write_checks(alloc, Form::Lines, options, input, output),
         Call::Claims => write_claims(alloc, Form::Lines, input, output),
-        Call::Emit(object) => write_emission(alloc, Form::Lines, EmitOptions { object }, input, output),
+        Call::Emit(object) => write_emission(
+            alloc,
+            Form::Lines,
+            EmitOptions { object },
+            input,
+            output,
+        ),
         Call::Exec(options) => write_execution(rt, alloc, Form::Lines, options, input, output),
         Call::Migrate => write_migration(alloc, Form::Lines, input, output),
         Call::Record(run, seed) => {

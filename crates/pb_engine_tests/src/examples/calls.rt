@@ -82,7 +82,13 @@ fn status_of(
     let none = Changes::none();
     Some(match call.command {
         Command::Bank => bank_engine(alloc, &mut input, output),
-        Command::Check => write_checks(alloc, Form::Lines, CheckOptions { heap: None }, &mut input, output),
+        Command::Check => write_checks(
+            alloc,
+            Form::Lines,
+            CheckOptions { heap: None },
+            &mut input,
+            output,
+        ),
         Command::Claims => write_claims(alloc, Form::Lines, &mut input, output),
         Command::Emit => {
             let options = EmitOptions {
@@ -91,11 +97,32 @@ fn status_of(
             write_emission(alloc, Form::Lines, options, &mut input, output)
         }
         Command::Exec { quantum, steps } => {
-            write_execution(rt, alloc, Form::Lines, run_options(quantum, steps)?, &mut input, output)
+            write_execution(
+                rt,
+                alloc,
+                Form::Lines,
+                run_options(quantum, steps)?,
+                &mut input,
+                output,
+            )
         }
         Command::Migrate => write_migration(alloc, Form::Lines, &mut input, output),
-        Command::Plan => write_plan(alloc, Form::Lines, Lending::ByBanker, &none, &mut input, output),
-        Command::PlanByCash => write_plan(alloc, Form::Lines, Lending::ByCash, &none, &mut input, output),
+        Command::Plan => write_plan(
+            alloc,
+            Form::Lines,
+            Lending::ByBanker,
+            &none,
+            &mut input,
+            output,
+        ),
+        Command::PlanByCash => write_plan(
+            alloc,
+            Form::Lines,
+            Lending::ByCash,
+            &none,
+            &mut input,
+            output,
+        ),
         Command::Record { seed } => {
             let options = RecordOptions {
                 run: run_options(64, 1_000_000)?,
@@ -115,7 +142,14 @@ fn status_of(
         Command::Replay => write_replay(alloc, Form::Lines, BY_BANKER, &mut input, output),
         Command::ReplayByCash => write_replay(alloc, Form::Lines, BY_CASH, &mut input, output),
         Command::Run { quantum, steps } => {
-            write_run(rt, alloc, Form::Lines, run_options(quantum, steps)?, &mut input, output)
+            write_run(
+                rt,
+                alloc,
+                Form::Lines,
+                run_options(quantum, steps)?,
+                &mut input,
+                output,
+            )
         }
     })
 }
