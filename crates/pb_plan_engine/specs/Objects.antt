@@ -36,10 +36,14 @@ later_json part = codes "," ++ decimal part.line
 abbrev pub first_json : (line : ℕ) → List ℕ
 first_json line = concat (codes ",\"lines\":[" ∷ decimal line ∷ [])
 
--- the member for the lines of the parts; none if there is no part
+-- the member for the lines of parts, of which this is the first
+abbrev pub some_lines_json : (first : ℕ) → (later : List Part) → List ℕ
+some_lines_json first later = first_json first ++ (flat_map later_json later ++ codes "]")
+
+-- the member for the lines of parts; none if there is no part
 abbrev pub lines_json : List Part → List ℕ
 lines_json [] = []
-lines_json (first ∷ parts) = first_json first.line ++ (flat_map later_json parts ++ codes "]")
+lines_json (first ∷ later) = some_lines_json first.line later
 
 -- a claim on a resource, without its lines
 abbrev pub claim_json : (amount : ℕ) → Name → List ℕ

@@ -1,5 +1,5 @@
 -- What a plan says, as plain data, and the line of each thing.
-use Rattle.std.specs.Prelude.{ℕ, List, [], ◌∷◌, ◌++◌, codes, Option, Some, None}
+use Rattle.std.specs.Prelude.{ℕ, cond, ◌==◌, List, [], ◌∷◌, ◌++◌, length, codes, Option, Some, None}
 use Rattle.std.specs.Fmt.{decimal}
 use Rattle.std.specs.List.{concat, flat_map}
 use Rattle.pb_accept.specs.Sayings.{fault_said}
@@ -39,10 +39,13 @@ called_text process = process.name ++ of_words process.text
 abbrev pub line_text : Part → List ℕ
 line_text part = codes " " ++ decimal part.line
 
--- the word `lines` and the line of each part; nothing if there is no part
+-- the word `lines` and the line of each part
+abbrev pub some_lines_text : List Part → List ℕ
+some_lines_text parts = codes " lines" ++ flat_map line_text parts
+
+-- the same; nothing if there is no part
 abbrev pub lines_text : List Part → List ℕ
-lines_text [] = []
-lines_text (first ∷ parts) = codes " lines" ++ flat_map line_text (first ∷ parts)
+lines_text parts = cond (length parts == 0) [] (some_lines_text parts)
 
 -- the claim of a process on a resource, without the lines that it comes from
 abbrev pub claim_words : (amount : ℕ) → Name → List ℕ

@@ -3,7 +3,7 @@
 ghost use Rattle.std.specs.Prelude.{◌≡◌, OnOk, OnErr, map};
 ghost use Rattle.std.specs.List.{flat_map};
 ghost use Rattle.pb_joint.specs.View.{full_name};
-ghost use Rattle.pb_plan_engine.specs.Sayings.{called_text, claim_words, line_of, line_text, lines_text, name_text, nest_words};
+ghost use Rattle.pb_plan_engine.specs.Sayings.{called_text, claim_words, line_of, line_text, lines_text, name_text, nest_words, some_lines_text};
 ghost use Rattle.pb_plan_engine.specs.Sayings as saying;
 ghost use Rattle.pb_plan_engine.specs.View.{said_view};
 ghost use Rattle.pb_plan_engine.specs.declared.said.Said.TheVariants as given;
@@ -93,6 +93,19 @@ fn say_numbers<O: Output>(
     Ok(())
 }
 
+/// Says the word `lines` and the source line of each part.
+fn say_some_lines<O: Output>(
+    voice: &mut Voice,
+    output: &mut O,
+    parts: &[Part],
+) -> Result<(), DeviceFault>
+    ensures ok { OnOk result (Adds (at O.written O.failures voice.old output.old) (some_lines_text parts.now) (at O.written O.failures voice.new output.new)) }
+    ensures err { OnErr result (Breaks (at O.written O.failures voice.old output.old) (some_lines_text parts.now) (at O.written O.failures voice.new output.new)) }
+{
+    voice.say(output, b" lines")?;
+    say_numbers(voice, output, parts)
+}
+
 /// Says the word `lines` and the source line of each part; nothing if there is no part.
 fn say_lines<O: Output>(
     voice: &mut Voice,
@@ -102,11 +115,11 @@ fn say_lines<O: Output>(
     ensures ok { OnOk result (Adds (at O.written O.failures voice.old output.old) (lines_text parts.now) (at O.written O.failures voice.new output.new)) }
     ensures err { OnErr result (Breaks (at O.written O.failures voice.old output.old) (lines_text parts.now) (at O.written O.failures voice.new output.new)) }
 {
-    if parts.is_empty() {
-        return voice.say(output, b"");
+    if parts.len() == 0 {
+        voice.say(output, b"")
+    } else {
+        say_some_lines(voice, output, parts)
     }
-    voice.say(output, b" lines")?;
-    say_numbers(voice, output, parts)
 }
 
 /// Says a claim on a resource, without the lines that it comes from.

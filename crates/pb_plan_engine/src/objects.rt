@@ -1,8 +1,9 @@
 //! What a plan says, as objects of JSON.
 
-ghost use Rattle.std.specs.Prelude.{◌≡◌, ◌<◌, OnOk, OnErr, length, map, drop};
+ghost use Rattle.std.specs.Prelude.{◌≡◌, ◌++◌, OnOk, OnErr, map};
 ghost use Rattle.std.specs.List.{flat_map};
 ghost use Rattle.pb_joint.specs.View.{full_name};
+ghost use Rattle.pb_json.specs.Strings.{escaped};
 ghost use Rattle.pb_plan_engine.specs.Objects as spec;
 ghost use Rattle.pb_plan_engine.specs.Objects.{called_json, code_json, json_of, later_json, later_name, lines_json, names_json, nest_json};
 ghost use Rattle.pb_plan_engine.specs.Sayings as saying;
@@ -184,6 +185,21 @@ fn say_first<O: Output>(voice: &mut Voice, output: &mut O, line: u32) -> Result<
     voice.say_all(output, &[b",\"lines\":[", digits.format(line).as_bytes()])
 }
 
+/// Says the member for the lines of parts, of which this is the first.
+fn say_some_lines<O: Output>(
+    voice: &mut Voice,
+    output: &mut O,
+    first: u32,
+    later: &[Part],
+) -> Result<(), DeviceFault>
+    ensures ok { OnOk result (Adds (at O.written O.failures voice.old output.old) (spec.some_lines_json first later.now) (at O.written O.failures voice.new output.new)) }
+    ensures err { OnErr result (Breaks (at O.written O.failures voice.old output.old) (spec.some_lines_json first later.now) (at O.written O.failures voice.new output.new)) }
+{
+    say_first(voice, output, first)?;
+    say_later(voice, output, later)?;
+    voice.say(output, b"]")
+}
+
 /// Says the member for the lines of parts; none if there is no part.
 fn say_lines<O: Output>(
     voice: &mut Voice,
@@ -193,12 +209,10 @@ fn say_lines<O: Output>(
     ensures ok { OnOk result (Adds (at O.written O.failures voice.old output.old) (lines_json parts.now) (at O.written O.failures voice.new output.new)) }
     ensures err { OnErr result (Breaks (at O.written O.failures voice.old output.old) (lines_json parts.now) (at O.written O.failures voice.new output.new)) }
 {
-    let [first, rest @ ..] = parts else {
-        return voice.say(output, b"");
-    };
-    say_first(voice, output, first.line)?;
-    say_later(voice, output, rest)?;
-    voice.say(output, b"]")
+    match parts {
+        [first, later @ ..] => say_some_lines(voice, output, first.line, later),
+        [] => voice.say(output, b""),
+    }
 }
 
 /// Says a claim on a resource, without its lines.
@@ -300,6 +314,22 @@ fn say_later_names<O: Output>(
     Ok(())
 }
 
+/// Says names inside a string, with blanks between them, of which this is the first.
+fn say_some_names<O: Output>(
+    voice: &mut Voice,
+    output: &mut O,
+    first: &[u8],
+    later: &[Vec<u8>],
+) -> Result<(), DeviceFault>
+    ensures ok { OnOk result (Adds (at O.written O.failures voice.old output.old)
+        (flat_map escaped first.now ++ flat_map (λ name. later_name name.items) later.now) (at O.written O.failures voice.new output.new)) }
+    ensures err { OnErr result (Breaks (at O.written O.failures voice.old output.old)
+        (flat_map escaped first.now ++ flat_map (λ name. later_name name.items) later.now) (at O.written O.failures voice.new output.new)) }
+{
+    say_escaped(voice, output, first)?;
+    say_later_names(voice, output, later)
+}
+
 /// Says names inside a string, with blanks between them.
 fn say_names<O: Output>(
     voice: &mut Voice,
@@ -311,11 +341,10 @@ fn say_names<O: Output>(
     ensures err { OnErr result (Breaks (at O.written O.failures voice.old output.old) (names_json (map (λ name. name.items) names.now))
         (at O.written O.failures voice.new output.new)) }
 {
-    let [first, rest @ ..] = names else {
-        return voice.say(output, b"");
-    };
-    say_escaped(voice, output, first)?;
-    say_later_names(voice, output, rest)
+    match names {
+        [first, later @ ..] => say_some_names(voice, output, first, later),
+        [] => voice.say(output, b""),
+    }
 }
 
 /// Tells the object of an order.
