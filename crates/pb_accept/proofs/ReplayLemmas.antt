@@ -11,7 +11,7 @@ use Rattle.pb_codegen.specs.Compiled.{IsCompiled}
 use Rattle.pb_history.specs.Entries.{Entry, events_of, picks_of}
 use Rattle.pb_history.proofs.TraceSteps.{traces_make}
 use Rattle.pb_command_io.specs.Parts.{AreTwoParts}
-use Rattle.pb_accept.specs.Claims as any
+use Rattle.pb_voice.specs.Inputs as any
 use Rattle.pb_accept.specs.Claims.{SaysOfAny}
 use Rattle.pb_accept.specs.ReplayLines.{AreReplayedBy, IsEnding, IsEndStatus, IsLinesFaultBy}
 use Rattle.pb_accept.specs.Causes.{lines_cause}
