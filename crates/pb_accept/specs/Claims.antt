@@ -33,4 +33,4 @@ pub data SaysOfClaims (text : List ℕ) : List Saying → Status → Type 0 wher
 
 -- what may be said of any input of which this is said if it is read
 abbrev pub SaysOfAny : (List ℕ → List Saying → Status → Type 0) → List ℕ → List Saying → Status → Type 0
-SaysOfAny = inputs.SaysOfAny TooLong NoMemory
+SaysOfAny = inputs.SaysOfWhole TooLong NoMemory

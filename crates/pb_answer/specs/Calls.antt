@@ -55,7 +55,7 @@ CommandSays option.Lsp = SaysOfServer
 CommandSays option.Migrate = Written line_of (SaysOfAny SaysOfMigration)
 CommandSays (option.Outcomes numbers) = SaysOfInput (SaysOfSearches numbers)
 CommandSays (option.Plan options changes) =
-    Written plan_sayings.line_of (plans.SaysOfAny (SaysOfPlan (lending_for options.lend) (changes_in changes)))
+    Written plan_sayings.line_of (plans.SaysOfTexts (SaysOfPlan (lending_for options.lend) (changes_in changes)))
 CommandSays (option.Record numbers) = SaysOfInput (SaysOfRecord (lending_for numbers.lend) numbers.run.steps numbers.seed)
 CommandSays (option.Replay options) = Written line_of (SaysOfAny (SaysOfReplay (lending_for options.lend)))
 CommandSays (option.Run numbers) = Written line_of (SaysOfAny (SaysOfTextRun numbers.steps))

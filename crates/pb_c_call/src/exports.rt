@@ -90,7 +90,7 @@ pub extern "C" fn pb_claims(alloc: Global, text: &[u8], output: &mut [u8], neede
 /// banker, and gives the reply as `pb_call` does.
 #[unsafe(no_mangle)]
 pub extern "C" fn pb_plan(alloc: Global, texts: &[u8], output: &mut [u8], needed: &mut usize) -> u8
-    ensures given { IsGiven (Tellings (Written plan_sayings.line_of (plans.SaysOfAny (SaysOfPlan Lending.ByBanker []))) texts.now) output.new result needed.new }
+    ensures given { IsGiven (Tellings (Written plan_sayings.line_of (plans.SaysOfTexts (SaysOfPlan Lending.ByBanker []))) texts.now) output.new result needed.new }
     ensures no_device { result ≢ 6 }
 {
     let mut source = MemoryInput::new(texts);

@@ -8,7 +8,7 @@ use Rattle.pb_command_io.specs.Answers.{Says, Tells}
 use Rattle.pb_command_io.specs.Faults.{Devices, TellsAnyFault, TellsFaults}
 use Rattle.pb_command_io.specs.declared.status.Status.{Status}
 use Rattle.pb_command_io.specs.declared.status.Status.TheVariants.{Words, Memory}
-use Rattle.pb_voice.specs.Texts.{memory_in, text_in}
+use Rattle.pb_voice.specs.Texts.{memory_in, text_as}
 use Rattle.pb_voice.specs.declared.form.Form.{Form}
 use Rattle.pb_voice.specs.declared.form.Form.TheVariants.{Lines, Objects}
 use Rattle.pb_words.specs.Read.{WordsSay}
@@ -31,7 +31,7 @@ AfterRead = Options → (rest left : Option (List ℕ)) → (old new : Option (L
 
 -- the text and the status if words were not read
 abbrev pub words_fault_text : Form → WordsFault → List ℕ
-words_fault_text form (fault.Words text) = text_in form text.bytes.items
+words_fault_text form (fault.Words text) = text_as form text.bytes.items
 words_fault_text form fault.Memory = memory_in form
 
 abbrev pub fault_status : WordsFault → Status
@@ -64,7 +64,7 @@ NamesTool tool form words old new status =
 -- the words say nothing, and some text of theirs is written
 abbrev pub RefusesWords : Form → List (Bor Text) → (old new : Option (List ℕ)) → Status → Type 0
 RefusesWords form words old new status =
-    ((o : Options) → WordsSay words o → ⊥) × ((text : List ℕ) × Says old new (text_in form text) Words status)
+    ((o : Options) → WordsSay words o → ⊥) × ((text : List ℕ) × Says old new (text_as form text) Words status)
 
 -- one of these in a form, or the tool is out of memory before it knows what the words say
 abbrev pub CallWrites : Tool → Saying → Form → List (Bor Text) → (rest old new : Option (List ℕ)) → Status → Type 0

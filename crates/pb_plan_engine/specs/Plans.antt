@@ -186,5 +186,5 @@ pub data SaysOfPlan (lending : Lending) (changes : List Change) (bytes : List �
       → TellsPlan lending changes (names_of trees) program claims said given → SaysOfPlan lending changes bytes said given
 
 -- what may be said of any input of which this is said if it is read
-abbrev pub SaysOfAny : (List ℕ → List Saying → Status → Type 0) → List ℕ → List Saying → Status → Type 0
-SaysOfAny = inputs.SaysOfAny TooLong NoMemory
+abbrev pub SaysOfTexts : (List ℕ → List Saying → Status → Type 0) → List ℕ → List Saying → Status → Type 0
+SaysOfTexts = inputs.SaysOfWhole TooLong NoMemory

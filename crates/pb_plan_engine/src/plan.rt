@@ -11,7 +11,7 @@ ghost use Rattle.pb_plan.specs.Circles.{IsCircleAmong};
 ghost use Rattle.pb_plan.specs.Nests.{AskBelow};
 ghost use Rattle.pb_plan.specs.declared.edge.Edge.{Edge as EdgeValue};
 ghost use Rattle.pb_plan_engine.specs.Plans as plans;
-ghost use Rattle.pb_plan_engine.specs.Plans.{HasNoOrderAmong, HasStatus, IsOfTree, IsOrderIfAny, IsPlan, SaysOfAny, SaysOfPlan, TellsPlan};
+ghost use Rattle.pb_plan_engine.specs.Plans.{HasNoOrderAmong, HasStatus, IsOfTree, IsOrderIfAny, IsPlan, SaysOfTexts, SaysOfPlan, TellsPlan};
 ghost use Rattle.pb_plan_engine.specs.Plans.{said_of_circle, said_of_claims, scarce_of};
 ghost use Rattle.pb_plan_engine.specs.Sayings as saying;
 ghost use Rattle.pb_plan_engine.specs.View.{said_view};
@@ -293,7 +293,7 @@ fn tell_plan<O: Output, T: Teller>(
     output: &mut O,
 ) -> Status
     requires { length bytes.now ≤ MAX_INPUT }
-    ensures { Speaks T.tells T.breaks (SaysOfAny (SaysOfPlan lending (changes_in changes.now)) bytes.now)
+    ensures { Speaks T.tells T.breaks (SaysOfTexts (SaysOfPlan lending (changes_in changes.now)) bytes.now)
         (at O.written O.failures teller.old output.old) (at O.written O.failures teller.new output.new) result }
 {
     match plan_of_texts(alloc, lending, changes, bytes) {
@@ -326,7 +326,7 @@ pub fn plan_engine<I: Input, O: Output, T: Teller>(
     teller: &mut T,
     output: &mut O,
 ) -> Status
-    ensures { Answers T.tells T.breaks (SaysOfAny (SaysOfPlan lending (changes_in changes.now))) (I.rest input.old) (I.failures input.old)
+    ensures { Answers T.tells T.breaks (SaysOfTexts (SaysOfPlan lending (changes_in changes.now))) (I.rest input.old) (I.failures input.old)
         (I.failures input.new) (at O.written O.failures teller.old output.old) (at O.written O.failures teller.new output.new) result }
 {
     match read_whole(alloc, input, MAX_INPUT) {

@@ -5,7 +5,7 @@ ghost use Rattle.pb_capitals.specs.Changes.{changes_in};
 ghost use Rattle.pb_command_io.specs.Answers.{Tells};
 ghost use Rattle.pb_command_io.specs.Faults.{TellsFaults};
 ghost use Rattle.pb_plan_engine.specs.Objects.{text_of};
-ghost use Rattle.pb_plan_engine.specs.Plans.{SaysOfAny, SaysOfPlan};
+ghost use Rattle.pb_plan_engine.specs.Plans.{SaysOfTexts, SaysOfPlan};
 ghost use Rattle.pb_voice.specs.Voices.{Written};
 
 use crate::plan::plan_engine;
@@ -27,7 +27,7 @@ pub fn write_plan<I: Input, O: Output>(
     output: &mut O,
 ) -> Status
     ensures text { IfSome (I.rest input.old) (λ bytes.
-        Tells (Written (text_of form) (SaysOfAny (SaysOfPlan lending (changes_in changes.now))) bytes) (O.written output.old) (O.written output.new) result) }
+        Tells (Written (text_of form) (SaysOfTexts (SaysOfPlan lending (changes_in changes.now))) bytes) (O.written output.old) (O.written output.new) result) }
     ensures faults { TellsFaults
         (record { reads = I.failures input.old; writes = O.failures output.old; written = O.written output.old })
         (record { reads = I.failures input.new; writes = O.failures output.new; written = O.written output.new })

@@ -11,7 +11,7 @@ use Rattle.pb_options.specs.declared.options.StatesOptions.{StatesOptions}
 use Rattle.pb_page.specs.declared.run.Shown.{Shown as PartOfRun}
 use Rattle.pb_page_engine.specs.States.{SaysOfStates}
 use Rattle.pb_plan_engine.specs.Objects.{text_of}
-use Rattle.pb_plan_engine.specs.Plans.{SaysOfAny, SaysOfPlan}
+use Rattle.pb_plan_engine.specs.Plans.{SaysOfTexts, SaysOfPlan}
 use Rattle.pb_search_engine.specs.SaysOfAll.{SaysOfSearches}
 use Rattle.pb_search_tool.specs.Messages.{SaysOfExpected, SaysOfTogether}
 use Rattle.pb_voice.specs.Voices.{Written}
@@ -32,7 +32,7 @@ in_objects (name ∷ command ∷ words) = bytes_eq command (codes "plan")
 -- what its commands may say of an input in a form; the others have lines alone
 abbrev pub says : Form → Options → List ℕ → List ℕ → Status → Type 0
 says form (option.Outcomes numbers) = SaysOfInput (SaysOfSearches numbers)
-says form (option.Plan options changes) = Written (text_of form) (SaysOfAny (SaysOfPlan (lending_for options.lend) (changes_in changes)))
+says form (option.Plan options changes) = Written (text_of form) (SaysOfTexts (SaysOfPlan (lending_for options.lend) (changes_in changes)))
 says form (option.States options) = SaysOfInput (SaysOfStates (lending_for options.lend) (shown_by options))
 says form _ = λ bytes text status. ⊥
 

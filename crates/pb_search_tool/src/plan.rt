@@ -6,7 +6,7 @@ ghost use Rattle.pb_command_io.specs.Answers.{Tells};
 ghost use Rattle.pb_command_io.specs.Faults.{TellsFaults};
 ghost use Rattle.pb_options.specs.Lends.{lending_for};
 ghost use Rattle.pb_plan_engine.specs.Objects.{text_of};
-ghost use Rattle.pb_plan_engine.specs.Plans.{SaysOfAny, SaysOfPlan};
+ghost use Rattle.pb_plan_engine.specs.Plans.{SaysOfTexts, SaysOfPlan};
 ghost use Rattle.pb_voice.specs.Voices.{Written};
 
 use pb_base::{Input, Output};
@@ -26,7 +26,7 @@ pub fn plan<I: Input, O: Output>(
     input: &mut I,
     output: &mut O,
 ) -> Status
-    ensures text { IfSome (I.rest input.old) (λ bytes. Tells (Written (text_of form) (SaysOfAny (SaysOfPlan (lending_for options.lend) (changes_in changes.now))) bytes)
+    ensures text { IfSome (I.rest input.old) (λ bytes. Tells (Written (text_of form) (SaysOfTexts (SaysOfPlan (lending_for options.lend) (changes_in changes.now))) bytes)
         (O.written output.old) (O.written output.new) result) }
     ensures faults { TellsFaults
         (record { reads = I.failures input.old; writes = O.failures output.old; written = O.written output.old })

@@ -19,24 +19,24 @@ nothing_added None = refl
 nothing_added (Some held) = ap Some (sym (append-nil held))
 
 -- a text was said to a new voice of this form, and then it wrote what waited
-module _ (form : Form) (text_in : Form → List ℕ) (old mid : At Held) (new : old.teller ≡ record { form = form; waits = [] }) where
-  on_nothing : old.teller.waits ++ text_in old.teller.form ≡ text_in form
-  on_nothing = ap (λ (h : Held). h.waits ++ text_in h.form) new
+module _ (form : Form) (text_as : Form → List ℕ) (old mid : At Held) (new : old.teller ≡ record { form = form; waits = [] }) where
+  on_nothing : old.teller.waits ++ text_as old.teller.form ≡ text_as form
+  on_nothing = ap (λ (h : Held). h.waits ++ text_as h.form) new
 
-  pub text_written : (written : Option (List ℕ)) (status answered : Status) → Adds old (text_in old.teller.form) mid
-      → Says mid.written written mid.teller.waits status answered → Says old.written written (text_in form) status answered
+  pub text_written : (written : Option (List ℕ)) (status answered : Status) → Adds old (text_as old.teller.form) mid
+      → Says mid.written written mid.teller.waits status answered → Says old.written written (text_as form) status answered
   text_written written status answered adds says =
-      Says-then old.written mid.written written (text_in form) mid.teller.waits status answered
+      Says-then old.written mid.written written (text_as form) mid.teller.waits status answered
       (subst (λ (t : List ℕ). Leaves old.written mid.written t mid.teller.waits) on_nothing adds.leaves) says
 
-  pub text_counted : (failures : ℕ) (answered : Status) → Adds old (text_in old.teller.form) mid
+  pub text_counted : (failures : ℕ) (answered : Status) → Adds old (text_as old.teller.form) mid
       → TellsWriteFaults mid.failures failures answered → TellsWriteFaults old.failures failures answered
   text_counted failures answered adds faults = subst (λ (n : ℕ). TellsWriteFaults n failures answered) adds.counted faults
 
-  pub text_broken : (status : Status) → Breaks old (text_in old.teller.form) mid → Says old.written mid.written (text_in form) status Device
+  pub text_broken : (status : Status) → Breaks old (text_as old.teller.form) mid → Says old.written mid.written (text_as form) status Device
   text_broken status breaks = inr (subst (λ (t : List ℕ). AddsPrefix old.written mid.written t) on_nothing breaks.prefix, refl)
 
-  pub broken_counted : Breaks old (text_in old.teller.form) mid → TellsWriteFaults old.failures mid.failures Device
+  pub broken_counted : Breaks old (text_as old.teller.form) mid → TellsWriteFaults old.failures mid.failures Device
   broken_counted breaks = (λ not_device. absurd (not_device refl), λ device. breaks.counted)
 
 -- a voice of which nothing waited has been told something, and then it wrote what waited, unless a write had failed

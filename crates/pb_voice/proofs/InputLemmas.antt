@@ -4,13 +4,13 @@ use Rattle.std.specs.Bool.{⊤}
 use Rattle.pb_base.specs.declared.limits.TheConstants.{MAX_INPUT}
 use Rattle.pb_command_io.specs.declared.status.Status.{Status}
 use Rattle.pb_command_io.specs.declared.status.Status.TheVariants as status
-use Rattle.pb_voice.specs.Inputs.{SaysOfAny, SaysOfNothing, too_long, no_memory, nothing, read}
+use Rattle.pb_voice.specs.Inputs.{SaysOfWhole, SaysOfNothing, too_long, no_memory, nothing, read}
 use Rattle.pb_voice.specs.Tellings.{Answers, Ends, Speaks}
 
 module _ {T S : Type 0} (long_said memory_said : S) (tells breaks : T → S → T → Type 0) (Says : List ℕ → List S → Status → Type 0)
     (old new : T) (given : Status) where
   abbrev Any : (List ℕ → List S → Status → Type 0) → List ℕ → List S → Status → Type 0
-  Any = SaysOfAny long_said memory_said
+  Any = SaysOfWhole long_said memory_said
 
   pub something : (P : List S → Status → Type 0) → Speaks tells breaks P old new given
       → Speaks tells breaks (λ (said : List S) (s : Status). ⊤) old new given

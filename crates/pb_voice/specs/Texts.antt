@@ -25,9 +25,9 @@ abbrev pub lines_json : (kind : List ℕ) → List ℕ → List ℕ
 lines_json kind text = flat_map (line_json kind) (lines_of text)
 
 -- a text in a form
-abbrev pub text_in : Form → List ℕ → List ℕ
-text_in Lines text = text
-text_in Objects text = lines_json (codes "line") text
+abbrev pub text_as : Form → List ℕ → List ℕ
+text_as Lines text = text
+text_as Objects text = lines_json (codes "line") text
 
 -- the object of a call that is out of memory
 abbrev pub memory_json : List ℕ

@@ -3,7 +3,7 @@
 ghost use Rattle.std.specs.Prelude.{◌≡◌, ◌<◌, ◌==◌, ◌∷◌, IfSome, OnOk, OnErr, length};
 ghost use Rattle.std.specs.List.{position};
 ghost use Rattle.pb_voice.specs.Held.{at};
-ghost use Rattle.pb_voice.specs.Texts.{line_json, lines_json, lines_of, memory_in, text_in};
+ghost use Rattle.pb_voice.specs.Texts.{line_json, lines_json, lines_of, memory_in, text_as};
 ghost use Rattle.pb_voice.specs.Voices.{Adds, Breaks};
 
 use crate::form::Form;
@@ -91,9 +91,9 @@ pub fn say_text<O: Output>(
     output: &mut O,
     text: &[u8],
 ) -> Result<(), DeviceFault>
-    ensures ok { OnOk result (Adds (at O.written O.failures voice.old output.old) (text_in voice.old.form text.now)
+    ensures ok { OnOk result (Adds (at O.written O.failures voice.old output.old) (text_as voice.old.form text.now)
         (at O.written O.failures voice.new output.new)) }
-    ensures err { OnErr result (Breaks (at O.written O.failures voice.old output.old) (text_in voice.old.form text.now)
+    ensures err { OnErr result (Breaks (at O.written O.failures voice.old output.old) (text_as voice.old.form text.now)
         (at O.written O.failures voice.new output.new)) }
 {
     match voice.form() {

@@ -1,7 +1,7 @@
 use Rattle.std.proofs.Common.{ap}
 use Rattle.pb_capitals.specs.Changes.{changes_in}
 use Rattle.pb_plan_engine.specs.Objects.{text_of}
-use Rattle.pb_plan_engine.specs.Plans.{SaysOfAny, SaysOfPlan}
+use Rattle.pb_plan_engine.specs.Plans.{SaysOfTexts, SaysOfPlan}
 use Rattle.pb_voice.specs.Held.{Held, at}
 use Rattle.pb_voice.specs.Inputs.{nothing}
 use Rattle.pb_voice.proofs.EndLemmas.{faults_as_told, written_in}
@@ -15,7 +15,7 @@ returns-clause-text g c =
     c.new-voice.ensures c.finish.ensures.text c.finish.ensures.faults
     (λ device. let kept = c.finish.ensures.device device in
     (ap g.O.Output.written kept.0, ap g.O.Output.failures kept.0, kept.1))
-    (SaysOfAny (SaysOfPlan c.args.lending (changes_in c.args.changes.now))) (λ bytes. nothing)
+    (SaysOfTexts (SaysOfPlan c.args.lending (changes_in c.args.changes.now))) (λ bytes. nothing)
     (g.I.Input.rest c.args.input.now) (g.I.Input.failures c.args.input.now) (g.I.Input.failures c.plan_engine-given.new.input)
     c.plan_engine-given.ensures
 
@@ -27,6 +27,6 @@ returns-clause-faults g c =
     (ap (λ (h : Held). h.waits) c.new-voice.ensures) c.finish.ensures.text c.finish.ensures.faults
     (λ device. let kept = c.finish.ensures.device device in
     (ap g.O.Output.written kept.0, ap g.O.Output.failures kept.0, kept.1))
-    (SaysOfAny (SaysOfPlan c.args.lending (changes_in c.args.changes.now))) (λ bytes. nothing)
+    (SaysOfTexts (SaysOfPlan c.args.lending (changes_in c.args.changes.now))) (λ bytes. nothing)
     (g.I.Input.rest c.args.input.now) (g.I.Input.failures c.args.input.now) (g.I.Input.failures c.plan_engine-given.new.input)
     c.plan_engine-given.ensures
