@@ -1,7 +1,7 @@
 //! The C functions. What C owes for each of them: pointers to memory of the types that are named, which nothing
 //! else uses during the call.
 
-ghost use Rattle.std.specs.Prelude.{◌≢◌, ◌⊎◌, [], map};
+ghost use Rattle.std.specs.Prelude.{◌≢◌, ◌⊎◌, [], false, map};
 ghost use Rattle.pb_accept.specs.Checks.{SaysOfChecks};
 ghost use Rattle.pb_accept.specs.Claims.{SaysOfAny, SaysOfClaims};
 ghost use Rattle.pb_accept.specs.Sayings.{line_of};

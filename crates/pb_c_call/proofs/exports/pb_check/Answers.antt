@@ -1,4 +1,4 @@
-use Rattle.std.proofs.Common.{ap}
+use Rattle.std.proofs.Common.{ap, false}
 use Rattle.pb_accept.specs.Checks.{SaysOfChecks}
 use Rattle.pb_accept.specs.Claims.{SaysOfAny}
 use Rattle.pb_accept.specs.Sayings.{line_of}
