@@ -10,7 +10,9 @@ import signal
 import socket
 import subprocess
 import time
-from collections.abc import Callable, Iterator, Sequence
+from collections.abc import Callable, Container, Iterator, Sequence
+
+from calls import DONE, Tally
 
 CAPITAL = {"tape": 3, "disk": 5, "gpu": 2}
 AMOUNTS = ", ".join(f"{amount} {name}" for name, amount in CAPITAL.items())
@@ -144,3 +146,14 @@ def drawn_commands(rng: random.Random, count: int, jobs: int = 7) -> Iterator[st
     for _ in range(count):
         verb, name = rng.choice(verbs), rng.choice(names)
         yield f"{verb} {name}" if verb in ("leave", "drop") else f"{verb} {name} {drawn_amounts(rng)}"
+
+
+def try_parts(tally: Tally, served: Served, calls: dict[str, Callable[[], None]], parts: Container[str]) -> None:
+    """Makes the calls of these parts over a server, which ends with status 0 after them."""
+    try:
+        for part, call in calls.items():
+            if part in parts:
+                call()
+        tally.expect(served.end() == DONE, "SIGTERM does not end a server with status 0")
+    finally:
+        served.kill()

@@ -27,7 +27,7 @@ from contextlib import suppress
 sys.path.insert(0, str(pathlib.Path(__file__).resolve().parents[1] / "lib"))
 
 from calls import DONE, FAULT, TOP, WATCHDOG, WORDS, Tally, installed, program  # noqa: E402
-from served_bank import AMOUNTS, CAPITAL, PATIENCE, Served, Wire, certified, drawn_amounts, free_port  # noqa: E402
+from served_bank import AMOUNTS, CAPITAL, PATIENCE, Served, Wire, certified, drawn_amounts, free_port, try_parts  # noqa: E402
 
 from script.serving.bank import BankProcess  # noqa: E402
 from script.serving.words import KEPT, MAX_COMMAND, MAX_LINE  # noqa: E402
@@ -341,13 +341,7 @@ def try_at_server(tally: Tally, script: str, folder: pathlib.Path, parts: Sequen
         "http": lambda: try_http(tally, served, page), "words": lambda: try_words(tally, script, served),
         "copies": lambda: try_copies(tally, script, served),
     }
-    try:
-        for part, call in calls.items():
-            if part in parts:
-                call()
-        tally.expect(served.end() == DONE, "SIGTERM does not end a server with status 0")
-    finally:
-        served.kill()
+    try_parts(tally, served, calls, parts)
 
 
 def main() -> None:

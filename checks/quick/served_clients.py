@@ -23,7 +23,7 @@ from contextlib import suppress
 sys.path.insert(0, str(pathlib.Path(__file__).resolve().parents[1] / "lib"))
 
 from calls import DONE, TOP, WATCHDOG, Tally, installed, program  # noqa: E402
-from served_bank import CAPITAL, PATIENCE, Served, Wire, wait_for  # noqa: E402
+from served_bank import CAPITAL, PATIENCE, Served, Wire, try_parts, wait_for  # noqa: E402
 
 sys.path.insert(1, str(TOP / "extras/python"))
 
@@ -236,13 +236,7 @@ def main() -> None:
             "json": lambda: try_json(tally, served), "terminal": lambda: try_terminal(tally, script, served),
             "rust": lambda: try_rust(tally, folder, served),
         }
-        try:
-            for part, call in calls.items():
-                if part in parts:
-                    call()
-            tally.expect(served.end() == DONE, "SIGTERM does not end a server with status 0")
-        finally:
-            served.kill()
+        try_parts(tally, served, calls, parts)
     tally.end("served_clients")
 
 
