@@ -2,20 +2,21 @@
 from __future__ import annotations
 
 import concurrent.futures
+import json
 import os
 import re
 import subprocess
 import sys
-from collections.abc import Callable, Iterable, Iterator
-from dataclasses import dataclass, replace
+from collections.abc import Iterable, Iterator
+from dataclasses import dataclass
 from typing import Tuple, Union
 
 from script import files, helping
-from script.findings import Finding, Text, Unread, finding, texts_of
-from script.places import DEVICE, WORDS, say, shown, write_message
-from script.reports import gcc_lines, json_lines, sarif_document
+from script.findings import Finding, Unread, by_file, found_in, message, texts_of
+from script.places import DEVICE, REFUSED, WORDS, say, shown, write_message
+from script.reports import gcc_lines, json_line, json_unread, sarif_document
 from script.standard import drop_output
-from script.warned import by_text, messages, warning
+from script.warned import by_text, messages
 
 FORMATS = ("text", "gcc", "json", "sarif")
 STANDARD_INPUT = "<stdin>"
@@ -148,7 +149,7 @@ def tell_text(name: str, given: bytes, answer: Answer, is_quiet: bool) -> None:
     told = re.sub(rb"^(?=error )", lambda _: os.fsencode(f"{shown(name)}: "), answer.messages, flags=re.M)
     write_message(told)
     if not is_quiet:
-        write_message("".join(messages(texts_to_check(name, given), answer.lines)))
+        write_message("".join(messages(texts_of(name, given, files.parts_of(given)), answer.lines)))
 
 
 @dataclass
@@ -178,44 +179,61 @@ def check_as_text(checker: Checker, source: Source, jobs: int, sums: Sums) -> No
                 say(told)
 
 
-def texts_to_check(name: str, given: bytes | Unread) -> list[Text]:
-    """Returns the texts of a file, none of one that can't be read."""
-    return [] if isinstance(given, Unread) else texts_of(name, given, files.parts_of(given))
+# What is said of a file that is too long, and of one of which nothing is said because there was too little memory.
+TOO_LONG = "input", "refused input", "the input is longer than 4194304 bytes"
+UNSAID = "memory", "memory", "out of memory"
 
 
-def findings_of(group: list[Read], checker: Checker, jobs: int, sums: Sums) -> Iterator[Finding | Unread]:
-    """Yields what is said of each text of each of these files, or why a file can't be read."""
-    by_file = [texts_to_check(*it) for it in group]
-    texts = [text for texts in by_file for text in texts]
-    answers = iter(checker.ask_all([text.given for text in texts], jobs))
-    for (_, given), of_file in zip(group, by_file):
-        if isinstance(given, Unread):
-            yield given
-            continue
-        worst = Answer(0, [], b"")
-        for text in of_file:
-            answer = next(answers)
-            worst = max(worst, answer, key=lambda it: it.status)
-            line, *warnings = answer.lines or [""]
-            found = finding(text, line, answer.messages.decode(errors="replace"))
-            is_warned = found.is_accepted and "--warn" in checker.call
-            yield replace(found, warnings=[warning(text, it) for it in warnings]) if is_warned else found
-        sums.add(worst)
+def unsaid(name: str, given: bytes) -> list[str]:
+    """Returns the line about a file of which the program said nothing."""
+    code, line, words = TOO_LONG if len(message(name, given)) > files.MOST_READ else UNSAID
+    said = {"file": name, "text": 1, "accepted": False, "code": code, "refusal": line, "message": words}
+    return [json_line({**said, "places": [], "expected": [], "hints": [], "notes": []})]
 
 
-def check_as_data(checker: Checker, source: Source, options: Options, sums: Sums) -> None:
+def in_ascii(name: str, lines: list[str]) -> list[str]:
+    """Returns lines about a file in ASCII, with its name as it is, also if that is of bytes that are no text."""
+    return [line if line.isascii() and name.isascii() else json_line({**json.loads(line), "file": name}) for line in lines]
+
+
+class Finder:
+    """Calls of the program's `findings`."""
+
+    def __init__(self, start: list[str], words: list[str]) -> None:
+        self.call = [*start[:1], "findings", *words]
+
+    def ask(self, group: list[tuple[str, bytes]], sums: Sums) -> Iterator[list[str]]:
+        """Yields the lines about each of these files, and counts the answers."""
+        given = b"".join(message(name, it) for name, it in group)
+        ran = subprocess.run(self.call, input=given, capture_output=True, check=False)
+        # (the last line is none of a text if the program was out of memory, or the input too long)
+        answers = by_file([f"{line}\n" for line in ran.stdout.decode(errors="replace").split("\n") if line.startswith("{")])
+        for name, it in group:
+            lines = in_ascii(name, next(answers, unsaid(name, it)))
+            are_accepted = all(json.loads(line)["accepted"] for line in lines)
+            sums.add(Answer(0 if are_accepted else max(REFUSED, ran.returncode), lines, b""))
+            yield lines
+
+
+def check_as_data(finder: Finder, source: Source, options: Options, sums: Sums) -> None:
     """Checks each file, and tells of each text in a format for programs."""
-    lines: dict[str, Callable[[Finding | Unread], Iterator[str]]] = {"gcc": gcc_lines, "json": json_lines}
     kept: list[Finding | Unread] = []
     for group in groups(source.read()):
-        for found in findings_of(group, checker, options.jobs, sums):
-            if options.format in lines:
-                sys.stdout.writelines(lines[options.format](found))
+        answers = finder.ask([(name, given) for name, given in group if not isinstance(given, Unread)], sums)
+        for name, given in group:
+            is_unread = isinstance(given, Unread)
+            lines = [json_line(json_unread(given))] if is_unread else next(answers)
+            if options.format == "json":
+                sys.stdout.buffer.write("".join(lines).encode())
+                continue
+            found = [given] if is_unread else [found_in(name, line) for line in lines]
+            if options.format == "gcc":
+                sys.stdout.writelines(line for it in found for line in gcc_lines(it))
             else:
-                kept.append(found)
+                kept += found
         sys.stdout.flush()
     if options.format == "sarif":
-        sys.stdout.write(sarif_document(checker.call[:1], kept))
+        sys.stdout.write(sarif_document(finder.call[:1], kept))
         sys.stdout.flush()
 
 
@@ -243,13 +261,11 @@ def check(start: list[str], words: list[str]) -> int:
     source, sums = Source(sorted_words.named or [STANDARD_INPUT]), Sums()
     # (a name of bytes that are no text is written as it is)
     sys.stdout.reconfigure(errors="surrogateescape")
-    # (places and words are taken from the messages, which are not shown)
-    checker = Checker(start if options.format == "text" else start[:1], sorted_words.others)
     try:
         if options.format == "text":
-            check_as_text(checker, source, options.jobs, sums)
+            check_as_text(Checker(start, sorted_words.others), source, options.jobs, sums)
         else:
-            check_as_data(checker, source, options, sums)
+            check_as_data(Finder(start, sorted_words.others), source, options, sums)
     except OSError as fault:
         return drop_output(fault)
     if "--quiet" not in start and (len(source.names) > 1 or options.format != "text"):

@@ -17,7 +17,7 @@ MINUTES = {
     "pb_call": 0.8, "pb_bank": 2.3, "pb_bank_engine": 0.3, "pb_banker": 1.6, "pb_base": 2.5, "pb_capitals": 0.9, "pb_circles": 0.8,
     "pb_claims": 1.3, "pb_code": 0.7, "pb_codegen": 1.1, "pb_command_io": 0.5, "pb_command_line": 3.2,
     "pb_conversations": 0.7, "pb_debug": 2.3, "pb_debug_commands": 0.5, "pb_debug_engine": 0.6, "pb_debug_positions": 1,
-    "pb_debug_stops": 0.4, "pb_debug_texts": 1.4, "pb_diagnostics": 1.3, "pb_draw": 0.9, "pb_draw_engine": 0.4,
+    "pb_debug_stops": 0.4, "pb_debug_texts": 1.4, "pb_diagnostics": 1.3, "pb_draw": 0.9, "pb_findings": 1.2, "pb_draw_engine": 0.4,
     "pb_draw_picture": 2.9, "pb_engines": 0.6, "pb_explain": 0.6, "pb_frames": 0.4,
     "pb_generator": 1, "pb_grammar": 2.8, "pb_groups": 0.4, "pb_history": 1.2, "pb_joint": 0.8, "pb_json": 0.5,
     "pb_json_lines": 2.5, "pb_lexer": 0.7, "pb_machine": 1.9, "pb_mends": 0.9, "pb_message_excerpts": 0.7,

@@ -21,7 +21,7 @@ OF_PICKS = ("replay", "draw")
 # Options of the program that have no value.
 WITHOUT_VALUE = ("--quiet", "--json", "--help", "--live", "--first-deadlock", "--prints", "--fair", "--expect", "--any-order", "--endless", "--graph")
 # Commands that an editor starts, and what its messages begin with.
-OF_MESSAGES = ("dap", "lsp")
+OF_MESSAGES = ("dap", "findings", "lsp")
 MESSAGE = b"Content-Length:"
 # What each command waits for at a terminal; any other waits for a text.
 AWAITED = {
@@ -29,7 +29,7 @@ AWAITED = {
     "replay": "a text, a line %% and pick lines", "draw": "a text, a line %% and pick lines",
     "debug": "a text, a line %%, pick lines, a line %% and commands", "states": "a text or an object, a line %% and pick lines",
     "bank": "commands, which `help` lists", "dap": "messages of the Debug Adapter Protocol",
-    "lsp": "messages of the Language Server Protocol",
+    "lsp": "messages of the Language Server Protocol", "findings": "messages, of each file its name and its bytes",
 }
 PICK = re.compile(rb"[A-Za-z]\w*\.\d+ \d+$")
 # A file of which the kind is looked for is read up to here: the longest input of the program.

@@ -1,8 +1,11 @@
-"""What `check` or `plan` says of a text, taken from the program's line and from its message."""
+"""What `check` or `plan` says of a text, taken from an object of the program, or from its line and its message."""
 from __future__ import annotations
 
+import json
 import re
+from collections.abc import Iterator
 from dataclasses import dataclass, field
+from typing import Any
 
 HEAD = re.compile(r"error (\w+): (.*)")
 # (what stands before a place: `1 of tape: `, `it is opened at `, `a comment? `)
@@ -77,6 +80,44 @@ def texts_of(file: str, given: bytes, parts: list[bytes]) -> list[Text]:
         lines += part.count(b"\n") + 1
     assert at - len(b"%%\n") in (len(given), len(given) + 1)
     return texts
+
+
+def message(name: str, given: bytes) -> bytes:
+    """Returns the two messages by which the program's `findings` reads a file: its name and its bytes."""
+    # (a name of bytes that are no text is told with each of them escaped)
+    named = name.encode(errors="backslashreplace")
+    return b"".join(b"Content-Length: %d\r\n\r\n%s" % (len(it), it) for it in (named, given))
+
+
+def by_file(lines: list[str]) -> Iterator[list[str]]:
+    """Yields the lines of the program's `findings` about the texts of each file, of which the first is text 1."""
+    of_file: list[str] = []
+    for line in lines:
+        if json.loads(line)["text"] == 1 and of_file:
+            yield of_file
+            of_file = []
+        of_file.append(line)
+    if of_file:
+        yield of_file
+
+
+def place_in(said: dict[str, Any]) -> Place:
+    """Returns a place that an object tells."""
+    return Place(said["line"], said["column"], said.get("what", ""))
+
+
+def found_in(name: str, line: str) -> Finding:
+    """Returns what a line of the program's `findings` says of a text of a file."""
+    said = json.loads(line)
+    text = Text(name, said["text"], b"")
+    if said["accepted"]:
+        warnings = [
+            Finding(text, it["warning"], it["code"], it["message"], places=[place_in(it)], level="warning") for it in said.get("warnings", [])
+        ]
+        return Finding(text, "ok", warnings=warnings)
+    places = [place_in(it) for it in said["places"]]
+    lists = said["expected"], said["hints"], said["notes"]
+    return Finding(text, said["refusal"], said["code"], said["message"], said.get("offset"), places, *lists)
 
 
 def place_at(text: Text, at: int) -> Place:

@@ -168,6 +168,8 @@ def called(words: list[str]) -> list[str]:
     if command not in COMMANDS or helping.asks_for_help([word for word in words if word not in ("--quiet", "--json")]):
         return []
     at_prompt = command == "debug" and os.isatty(0) and os.isatty(1) and len(words) > 1
+    if command == "check" and is_in_format(words):
+        return ["check", "findings"]
     return ["debug", "emit"] if at_prompt else [command]
 
 

@@ -60,20 +60,6 @@ def message_object(finding: Finding) -> dict[str, Any]:
     return {**given, "places": [place_object(it) for it in finding.places], **lists}
 
 
-def warning_object(finding: Finding) -> dict[str, Any]:
-    """Returns a warning for JSON."""
-    return {"code": finding.code, "warning": finding.line, "message": finding.message, **place_object(finding.places[0])}
-
-
-def json_object(finding: Finding) -> dict[str, Any]:
-    """Returns a finding for JSON, as docs/schema/check.json describes it."""
-    given: dict[str, Any] = {"file": finding.text.file, "text": finding.text.number, "accepted": finding.is_accepted}
-    if finding.is_accepted:
-        warnings = {} if finding.warnings is None else {"warnings": [warning_object(it) for it in finding.warnings]}
-        return {**given, **warnings}
-    return {**given, "code": finding.code, "refusal": finding.line, **message_object(finding)}
-
-
 def json_unread(unread: Unread) -> dict[str, Any]:
     """Returns for JSON that a file cannot be read."""
     return {"file": unread.file, "accepted": False, "read": False, "message": unread.reason}
@@ -82,11 +68,6 @@ def json_unread(unread: Unread) -> dict[str, Any]:
 def json_line(said: dict[str, Any]) -> str:
     """Returns an object as a line."""
     return json.dumps(said, ensure_ascii=True) + "\n"
-
-
-def json_lines(said: Finding | Unread) -> Iterator[str]:
-    """Yields the line of a finding, or of a file that cannot be read."""
-    yield json_line(json_unread(said) if isinstance(said, Unread) else json_object(said))
 
 
 def location(file: str, place: Place | None) -> dict[str, Any]:

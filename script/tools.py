@@ -11,7 +11,7 @@ COMMANDS_OF = {
     "run": ("check", "claims", "emit", "exec", "explain", "migrate", "record", "replay", "run"),
     "search": ("outcomes", "plan", "states"),
     "debug": ("dap", "debug", "draw"),
-    "edit": ("lsp",),
+    "edit": ("findings", "lsp"),
 }
 # All commands, as `--help` lists them by name.
 COMMANDS = tuple(sorted(command for commands in COMMANDS_OF.values() for command in commands))

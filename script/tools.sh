@@ -15,7 +15,7 @@ case ${command-} in
     check | claims | emit | exec | explain | migrate | record | replay | run) path_of run ;;
     outcomes | plan | states) path_of search ;;
     dap | debug | draw) path_of debug ;;
-    lsp) path_of edit ;;
+    findings | lsp) path_of edit ;;
     *)
         for name in bank run search debug edit; do
             path_of $name

@@ -1,4 +1,4 @@
-"""Members of etcd on loopback, for checks: started, killed, paused and started anew. They need Debian's etcd-server."""
+"""Members of etcd for checks, on loopback or on hosts: started, killed, paused and started anew. They need Debian's etcd-server."""
 from __future__ import annotations
 
 import pathlib
@@ -10,6 +10,8 @@ import time
 import urllib.request
 from collections.abc import Sequence
 from contextlib import suppress
+
+from network_hosts import Hosts
 
 # Seconds in which members have to find one another, on a machine that does other work.
 PATIENCE = 120.0
@@ -29,11 +31,14 @@ def free_ports(count: int) -> list[int]:
 class Members:
     """Some members of etcd in a folder."""
 
-    def __init__(self, folder: pathlib.Path, count: int = 3, words: Sequence[str] = (), scheme: str = "http") -> None:
+    def __init__(
+        self, folder: pathlib.Path, count: int = 3, words: Sequence[str] = (), scheme: str = "http", hosts: Hosts | None = None,
+    ) -> None:
         ports = free_ports(2 * count)
-        self.folder, self.words, self.scheme = folder, list(words), scheme
-        self.clients = [f"127.0.0.1:{port}" for port in ports[:count]]
-        self.peers = [f"http://127.0.0.1:{port}" for port in ports[count:]]
+        self.folder, self.words, self.scheme, self.hosts = folder, list(words), scheme, hosts
+        addresses = ["127.0.0.1"] * count if hosts is None else hosts.addresses
+        self.clients = [f"{it}:{port}" for it, port in zip(addresses, ports)]
+        self.peers = [f"http://{it}:{port}" for it, port in zip(addresses, ports[count:])]
         self.processes: list[subprocess.Popen[bytes] | None] = [None] * count
 
     @staticmethod
@@ -50,7 +55,7 @@ class Members:
         cluster = ",".join(f"e{number}={peer}" for number, peer in enumerate(self.peers))
         client, peer = f"{self.scheme}://{self.clients[at]}", self.peers[at]
         words = [
-            "etcd", "--name", f"e{at}", "--data-dir", f"{self.folder}/e{at}", "--listen-peer-urls", peer,
+            *([] if self.hosts is None else self.hosts.within(at)), "etcd", "--name", f"e{at}", "--data-dir", f"{self.folder}/e{at}", "--listen-peer-urls", peer,
             "--initial-advertise-peer-urls", peer, "--listen-client-urls", client, "--advertise-client-urls", client,
             "--initial-cluster", cluster, "--initial-cluster-state", "new", "--auto-compaction-mode", "revision",
             "--auto-compaction-retention", "1000", *self.words,

@@ -12,7 +12,8 @@ SAYS = """(at) => {
       if (!isFaulted) out.push(s[g] === IDLE ? `${a} idle` : s[g] === ENDED ? `${a} ended` : `${a} at ${s[g]}`);
     }
     for (const g of program.armsOf(p)) {
-      const line = program.lineOf(s, g), why = s[program.reasons + g];
+      const line = program.lineOf(s, g), why = s[program.reasons + g], words = s[program.words + g];
+      out.push(`${program.arms[g].name}${s[g] >= 0 && line ? ` line ${line}` : ""}: ${words}`);
       out.push(line ? `line ${line}` : "line none");
       const cash = () => `cash ${program.cash(s, program.resources[why[1]])} ${program.resources[why[1]].name}`;
       const rest = () => `rest ${why.slice(1).map((q) => program.processes[q].name).join(" ")}`;

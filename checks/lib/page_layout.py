@@ -89,10 +89,10 @@ def look_at_map(tally: Tally, it: Any, folder: Path) -> None:
         it.open(path, "picks=")
         labels, outside = it.js(LABELS)
         tally.expect(len(labels) > 8 and outside == [], path.name, f"labels {labels} leave the map: {outside}")
-        is_whole = name == "long" or not any("…" in one.replace("works out … + …", "") for one in labels)
+        is_whole = name == "long" or not any("…" in one.replace("computes … + …", "") for one in labels)
         tally.expect(is_whole, path.name, f"a label of {labels} is cut")
         if name == "paths":
-            tally.expect(labels == 2 * ["reads counter", "number 1", "works out … + …", "assigns counter", "ends"], path.name, f"the labels are {labels}")
+            tally.expect(labels == 2 * ["reads counter", "number 1", "computes … + …", "assigns counter", "ends"], path.name, f"the labels are {labels}")
 
 
 def look_at_numbers(tally: Tally, it: Any, folder: Path) -> None:

@@ -59,7 +59,7 @@ def look_at_quiz_of_schedules(tally: Tally, it: Any, folder: Path) -> None:
     tally.expect(it.js(TOLD) == [0, 0], path.name, "a quiz tells whether a request is granted")
     it.key("2")
     said = it.js("$('happened').textContent")
-    tally.expect("the banker says no" in said and it.js("view.rows.length") == 1, path.name, f"a quiz does not answer a pick: {said}")
+    tally.expect("waits: it is there, but" in said and it.js("view.rows.length") == 1, path.name, f"a quiz does not answer a pick: {said}")
     it.click("input[name=lend]", 1)
     it.key("2")
     tally.expect(it.js("$('ending').textContent").startswith("Deadlock."), path.name, "a quiz does not tell a deadlock")

@@ -115,11 +115,13 @@ def wait_for(condition: Callable[[], object]) -> None:
         time.sleep(0.05)
 
 
-def certified(folder: pathlib.Path) -> list[str]:
-    """Makes a certificate, and returns the options of a server that has it and lets one token in."""
+def certified(folder: pathlib.Path, *addresses: str) -> list[str]:
+    """Makes a certificate of this machine and of these addresses, and returns the options of a server that has it and lets
+    one token in."""
     kind = ["-newkey", "ec", "-pkeyopt", "ec_paramgen_curve:prime256v1", "-nodes"]
     words = ["req", "-x509", *kind, "-days", "2", "-subj", "/CN=localhost"]
-    files = ["-keyout", f"{folder}/key", "-out", f"{folder}/cert", "-addext", "subjectAltName=DNS:localhost"]
+    names = ",".join(["DNS:localhost", *(f"IP:{it}" for it in addresses)])
+    files = ["-keyout", f"{folder}/key", "-out", f"{folder}/cert", "-addext", f"subjectAltName={names}"]
     subprocess.run(["openssl", *words, *files], stderr=subprocess.DEVNULL, check=True)
     (folder / "tokens").write_text(f"{hashlib.sha256(b'right').hexdigest()}\n")
     return ["--cert", f"{folder}/cert", "--key", f"{folder}/key", "--tokens", f"{folder}/tokens"]

@@ -5,11 +5,11 @@ import random
 import sys
 import threading
 import time
-from collections.abc import Sequence
+from collections.abc import Callable, Iterable, Sequence
 
 from bank_model import Model
 from calls import TOP, Tally
-from served_bank import CAPITAL, PATIENCE
+from served_bank import CAPITAL, PATIENCE, wait_for
 
 sys.path.insert(1, str(TOP / "extras/python"))
 
@@ -18,6 +18,9 @@ from parbegin import Answer, Fault, RemoteBank  # noqa: E402
 from script.serving.bank import BankProcess  # noqa: E402
 from script.serving.desk import Desk  # noqa: E402
 
+CLIENTS = 8
+# Answers that have to come between two things that go wrong, so that the clients have found their way.
+BETWEEN = 40
 # What is not in the journal, and may be answered anew.
 READING = ("state", "why", "order", "fence", "beat", "end")
 
@@ -70,14 +73,15 @@ class Client(RemoteBank):
 class Worker(threading.Thread):
     """A client whose jobs come and go, and that knows what they hold."""
 
-    def __init__(self, at: int, address: str, seen: Seen, seed: int) -> None:
+    def __init__(self, at: int, address: str, seen: Seen, seed: int, **access: str) -> None:
         super().__init__(daemon=True)
         self.at, self.address, self.seen, self.rng = at, address, seen, random.Random(f"{seed}-{at}")
+        self.token, self.authority = access.get("token"), access.get("authority")
 
     def run(self) -> None:
         try:
             Client.seen = self.seen
-            with Client(self.address, lease=600, patience=PATIENCE) as bank:
+            with Client(self.address, lease=600, patience=PATIENCE, token=self.token, authority=self.authority) as bank:
                 count = 0
                 while not self.seen.is_over.is_set():
                     count += 1
@@ -126,6 +130,29 @@ class Worker(threading.Thread):
         self.seen.compared += 1
         if {row[2]: int(row[6]) for row in rows} != holds:
             self.seen.wrong.append((job, "holds", holds, "and the bank says", rows))
+
+
+def seen_while(tally: Tally, address: str, what: str, seed: int, faults: Iterable[Callable[[], None]], **access: str) -> Seen:
+    """Lets clients use a bank while one thing after the other goes wrong. Returns what they saw, of which nothing may be
+    wrong; and at the end nothing is left in the bank."""
+    seen = Seen()
+    workers = [Worker(at, address, seen, seed, **access) for at in range(CLIENTS)]
+    for worker in workers:
+        worker.start()
+    for fault in faults:
+        before = len(seen.answers)
+        wait_for(lambda: len(seen.answers) > before + BETWEEN or seen.wrong)
+        fault()
+    seen.is_over.set()
+    for worker in workers:
+        worker.join(5 * PATIENCE)
+    tally.expect(not any(worker.is_alive() for worker in workers), what, "a client waits for ever")
+    tally.expect(not seen.wrong, what, len(seen.wrong), "are wrong:", *seen.wrong[:3])
+    tally.expect(not seen.over_capital(), what, "more is lent than there is:", *seen.over_capital())
+    with RemoteBank(address, patience=PATIENCE, token=access.get("token"), authority=access.get("authority")) as bank:
+        left = [line for line in bank.state() if line.startswith(("job", "wish"))]
+    tally.expect(not left, what, "something is left", *left)
+    return seen
 
 
 def compare_answers(tally: Tally, entries: Sequence[str], seen: Seen) -> int:

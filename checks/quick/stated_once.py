@@ -4,8 +4,8 @@
     checks/quick/stated_once.py [--list]
 
 Three counts, none of which may grow: public lemmas of proofs/ that are stated in two crates, functions of three lines or
-more whose bodies are the same in two crates, and names of specs/ that have a meaning in each of two crates. With
-`--list` it writes what is counted. Crates of tests are not looked at. Exits with 1 if a count is over its limit.
+more whose bodies are the same in two crates, and names of specs/ that have a meaning in each of two crates, but for those
+that name one role in each. With `--list` it writes what is counted. Crates of tests are not looked at. Exits with 1 if a count is over its limit.
 """
 from __future__ import annotations
 
@@ -21,7 +21,9 @@ DEFINED = re.compile(r"(?=.*\bpub )(?:(?:abbrev|unfoldable|opaque|data|record|pu
 HEAD = re.compile(r"( *)(?:pub(?:\(crate\))? )?(?:const )?fn \w+")
 LEAST_LINES = 3
 # What is left of each, which may become less.
-MOST = {"lemmas": 4, "functions": 23, "names": 295}
+MOST = {"lemmas": 4, "functions": 23, "names": 288}
+# Each crate that tells data has these, by the same name: what it says, as plain data, and as bytes in each form.
+ROLES = {"Saying", "said_view", "line_of", "json_of", "text_of", "in_objects"}
 
 Places = dict[str, set[str]]
 
@@ -80,7 +82,7 @@ def names() -> Places:
     for crate, path in files("specs", ".antt"):
         for line in path.read_text(encoding="utf-8").splitlines():
             match = DEFINED.match(line)
-            if match:
+            if match and match[1] not in ROLES:
                 found[match[1]].add(crate)
     return found
 

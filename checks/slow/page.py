@@ -4,8 +4,8 @@
     checks/slow/page.py [PROGRAM]     PROGRAM is the one that ./parbegin has built if none is given
 
 It is run by hand, and needs Debian's package `chromium`; with `firefox-esr` the same is looked at there. At each
-position of a run the places, the integers, the lines, the reasons, the loans and the cash that the page has must be
-those that `debug` says; the outcomes and the deadlocks to which one can walk must be those that `outcomes` says, by the
+position of a run the places, the integers, what each arm does next, the lines, the reasons, the loans and the cash that
+the page has must be those that `debug` says, and what it says of a pick what `debug` says before it; the outcomes and the deadlocks to which one can walk must be those that `outcomes` says, by the
 banker and by the cash alone, and `replay` must make the picks that lead there. A run by the cash alone must tell its
 deadlock, and the drawing of who holds and asks for what must be as `outcomes` says it. It walks by clicks: an arm that
 may not go on says why, and nothing changes. Further it looks at keys, the address, contrast, sizes from a telephone to
@@ -40,15 +40,23 @@ SIZES = ((360, 700), (800, 600), (1280, 720), (1920, 1080), (3840, 2160))
 
 
 def debugger_says(text: str, picks: str, at: int, names: list, lend: str) -> list[str]:
-    """Returns what `debug` says of a position. (Of a request that may be granted a page has no order.)"""
+    """Returns what `debug` says of a position. (Of a request that may be granted a page has no order, and no words of an arm
+    that is not live.)"""
     commands = [f"to {at}"]
     for name, arms in names:
         commands += [f"vars {name}", f"threads {name}"]
         for arm in range(arms):
-            commands += [f"line {name}.{arm}", f"why {name}.{arm}"]
+            commands += [f"does {name}.{arm}", f"line {name}.{arm}", f"why {name}.{arm}"]
     given = f"{text}\n%%\n{picks}%%\n" + "\n".join([*commands, "loans"]) + "\n"
     _, said = call(["debug", "--lend", lend], given.encode())
-    return [re.sub(r"^(order .*|granted)$", "order", line) for line in said.decode().splitlines()[1:]]
+    lines = [re.sub(r": (idle|ended|faulted)$", ": ", line) for line in said.decode().splitlines()[1:]]
+    return [re.sub(r"^(order .*|granted)$", "order", line) for line in lines]
+
+
+def pick_says(text: str, picks: str, at: int, arm: str, lend: str) -> str:
+    """Returns what `debug` says that an arm does at a position, as a page says it of the pick that is made there."""
+    _, said = call(["debug", "--lend", lend], f"{text}\n%%\n{picks}%%\nto {at}\ndoes {arm}\n".encode())
+    return said.decode().splitlines()[1].partition(": ")[2].replace("asks for", "is lent")
 
 
 def look_at_positions(tally: Tally, it: Any, path: Path, text: str) -> None:
@@ -60,6 +68,9 @@ def look_at_positions(tally: Tally, it: Any, path: Path, text: str) -> None:
     for at in sorted({*range(0, rows, max(1, rows // 24)), rows}):
         same = it.js(f"({SAYS})({at})") == debugger_says(text, picks, at, names, lend)
         tally.expect(same, path.name, f"position {at} is not what `debug` says")
+        if at:
+            arm, said = it.js(f"(view.go({at}), [...$('happened').childNodes].slice(0, 2).map((it) => it.textContent))")
+            tally.expect(said == f" {pick_says(text, picks, at - 1, arm, lend)}", path.name, f"of the pick before {at} is said {said}")
         unlike = it.js(f"(view.go({at}), {UNLIKE})")
         tally.expect(unlike == [], path.name, f"position {at} says two things of {unlike}")
     tally.expect(it.faults() == [], path.name, f"{it.faults()}")
@@ -167,11 +178,11 @@ def look_at_deadlock(tally: Tally, it: Any, path: Path) -> None:
 
     it.key("1")
     it.key("2")
-    shows("the banker's reason", "happened", "the banker says no: there is enough, but then")
+    shows("the banker's reason", "happened", "waits: it is there, but if it were granted none of these could be sure to finish: a b")
     tally.expect(it.js("view.rows.length") == 1, path.name, "the refused pick was made")
     it.click("input[name=lend]", 1)
     tally.expect(it.js("view.rows.length") == 1, path.name, "the pick is not kept without the banker")
-    shows("what the banker would say", "processes", "the banker would say no")
+    shows("what the banker would say", "processes", "the banker would keep it back: it is there, but")
     it.key("2")
     shows("the deadlock", "ending", "Deadlock. No arm can go on, now or ever:a holds 1 tape and asks for 1 diskb holds 1 disk and asks for 1 tape")
     shows("the ticks", "goals", "1 of 2 found")

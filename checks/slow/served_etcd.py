@@ -19,8 +19,6 @@ it holds with `state`. Its status is 0 if all is as wanted, and 1 if not.
 from __future__ import annotations
 
 import asyncio
-import base64
-import json
 import os
 import pathlib
 import random
@@ -29,16 +27,17 @@ import socket
 import subprocess
 import sys
 import tempfile
-import urllib.request
 from collections.abc import Sequence
 from contextlib import suppress
+from functools import partial
 
 sys.path.insert(0, str(pathlib.Path(__file__).resolve().parents[1] / "lib"))
 
 from calls import DEVICE, DONE, TOP, Tally, installed  # noqa: E402
-from etcd_members import Members, free_ports  # noqa: E402
+from etcd_members import Members  # noqa: E402
 from served_bank import AMOUNTS, PATIENCE, certified, wait_for  # noqa: E402
-from served_history import Seen, Worker, compare_answers  # noqa: E402
+from served_fleet import SERVERS, Fleet, entries_of  # noqa: E402
+from served_history import compare_answers, seen_while  # noqa: E402
 
 sys.path.insert(1, str(TOP / "extras/python"))
 
@@ -47,75 +46,12 @@ from parbegin import RemoteBank  # noqa: E402
 from script.serving.etcd import EtcdLog, Where  # noqa: E402
 from script.serving.gateway import Access  # noqa: E402
 
-CLIENTS, ROUNDS, SERVERS, LEASE = 8, 10, 3, 2
+ROUNDS = 10
 PARTS = ("history", "snapshots", "paused", "holds", "missed", "secured")
-# Answers that have to come between two things that go wrong, so that the clients have found their way.
-BETWEEN = 40
 KINDS = ("kill", "pause", "kill-member", "pause-member")
 # The end of a leader leaves a snapshot, so that its log is not there to be replayed.
 WITH_ENDS = (*KINDS, "end")
 PAUSES = 4
-
-
-class Fleet:
-    """Servers over one etcd, of which one leads."""
-
-    def __init__(self, start: Sequence[str], members: Members, folder: pathlib.Path, *more: str) -> None:
-        self.ports = free_ports(SERVERS)
-        self.processes: list[subprocess.Popen[bytes] | None] = [None] * SERVERS
-        self.log = folder / "servers.log"
-        self.words = [*start, "--etcd", members.addresses(), "--capital", AMOUNTS, "--lead-for", str(LEASE), *more]
-
-    def address(self, at: int) -> str:
-        return f"127.0.0.1:{self.ports[at]}"
-
-    def addresses(self) -> str:
-        """Returns the addresses of all servers."""
-        return ",".join(self.address(at) for at in range(SERVERS))
-
-    def start(self, at: int) -> None:
-        """Starts a server."""
-        words = [*self.words, "--tcp", self.address(at), "--advertise", self.address(at), "--name", f"server{at}"]
-        with open(self.log, "ab") as log:
-            self.processes[at] = subprocess.Popen(words, stdin=subprocess.DEVNULL, stderr=log)
-
-    def start_all(self) -> None:
-        """Starts all servers, and waits until one leads."""
-        for at in range(SERVERS):
-            self.start(at)
-        wait_for(lambda: self.leader() is not None)
-
-    def ask(self, at: int, line: str) -> str:
-        """Asks a server a line, and returns the first one of its answer; nothing if it does not answer."""
-        with suppress(OSError), socket.create_connection(("127.0.0.1", self.ports[at]), 2) as it:
-            it.sendall(f"{line}\n".encode())
-            return it.makefile().readline()
-        return ""
-
-    def leader(self, besides: int | None = None) -> int | None:
-        """Returns which server leads, if one does."""
-        others = [at for at in range(SERVERS) if at != besides]
-        return next((at for at in others if self.ask(at, "hello").endswith(" leader\n")), None)
-
-    def signal(self, at: int, number: int) -> None:
-        """Sends a signal to a server that is there."""
-        process = self.processes[at]
-        assert process is not None
-        process.send_signal(number)
-
-    def end(self, at: int, number: int) -> int:
-        """Ends a server, and returns its status."""
-        process = self.processes[at]
-        assert process is not None
-        process.send_signal(number)
-        return process.wait(PATIENCE)
-
-    def kill_all(self) -> None:
-        """Kills all servers."""
-        for process in self.processes:
-            if process is not None and process.poll() is None:
-                process.kill()
-                process.wait()
 
 
 class Nemesis:
@@ -158,39 +94,12 @@ class Nemesis:
         wait_for(self.members.are_well)
 
 
-def entries_of(members: Members) -> list[str]:
-    """Returns the entries of a log that has no snapshot."""
-    def of(text: str) -> str:
-        return base64.b64encode(text.encode()).decode()
-
-    body = json.dumps({"key": of("/parbegin/log/"), "range_end": of("/parbegin/log0")}).encode()
-    with urllib.request.urlopen(f"http://{members.clients[0]}/v3/kv/range", body, PATIENCE) as it:
-        rows = json.load(it)["kvs"]
-    keys = [base64.b64decode(row["key"]).decode() for row in rows]
-    assert keys == sorted(keys) and int(keys[-1][-16:]) == len(keys), "batches are missing"
-    return [entry for row in rows for entry in base64.b64decode(row["value"]).decode("latin-1").split("\n")[1:]]
-
-
 def try_storm(tally: Tally, fleet: Fleet, members: Members, kind: str, rounds: int, seed: int) -> None:
     """Lets clients use the bank while things go wrong, and looks at what they saw."""
-    rng, seen = random.Random(seed), Seen()
+    rng = random.Random(seed)
     nemesis, kinds = Nemesis(tally, fleet, members, rng), KINDS if kind == "history" else WITH_ENDS
-    workers = [Worker(at, fleet.addresses(), seen, seed) for at in range(CLIENTS)]
-    for worker in workers:
-        worker.start()
-    for number in range(rounds):
-        before = len(seen.answers)
-        wait_for(lambda: len(seen.answers) > before + BETWEEN or seen.wrong)
-        nemesis.do(kinds[number] if number < len(kinds) else rng.choice(kinds))
-    seen.is_over.set()
-    for worker in workers:
-        worker.join(5 * PATIENCE)
-    tally.expect(not any(worker.is_alive() for worker in workers), kind, "a client waits for ever")
-    tally.expect(not seen.wrong, kind, len(seen.wrong), "are wrong:", *seen.wrong[:3])
-    tally.expect(not seen.over_capital(), kind, "more is lent than there is:", *seen.over_capital())
-    with RemoteBank(fleet.addresses(), patience=PATIENCE) as bank:
-        left = [line for line in bank.state() if line.startswith(("job", "wish"))]
-    tally.expect(not left, kind, "something is left", *left)
+    drawn = (kinds[number] if number < len(kinds) else rng.choice(kinds) for number in range(rounds))
+    seen = seen_while(tally, fleet.addresses(), kind, seed, (partial(nemesis.do, it) for it in drawn))
     answers = compare_answers(tally, entries_of(members), seen) if kind == "history" else len(seen.answers)
     what = ", ".join(f"{count} {name}" for name, count in nemesis.counts.items())
     print(f"{kind}: {what}; {answers} answers, {seen.compared} looks at the state, seed {seed}", flush=True)
@@ -341,9 +250,12 @@ def try_fleet(tally: Tally, start: Sequence[str], folder: pathlib.Path, part: st
                 try_hold(tally, fleet, form)
         else:
             try_storm(tally, fleet, members, part, rounds, seed)
+        # (one that was just started would not know the signal yet)
+        wait_for(lambda: all(fleet.ask(at, "hello") for at in range(SERVERS)))
         leads = fleet.leader()
         for at in [it for it in range(SERVERS) if it != leads] + ([leads] if leads is not None else []):
-            tally.expect(fleet.end(at, signal.SIGTERM) == DONE, "SIGTERM does not end a server with status 0")
+            status = fleet.end(at, signal.SIGTERM)
+            tally.expect(status == DONE, part, "SIGTERM ends a server with status", status, fleet.log.read_text()[-2000:])
     finally:
         fleet.kill_all()
         members.kill_all()

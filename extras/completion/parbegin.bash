@@ -6,7 +6,7 @@ _parbegin() {
         at=$((at + 1))
     done
     if ((COMP_CWORD <= at)); then
-        local commands="bank check claims class dap debug draw emit exec explain grade hold lsp migrate outcomes page plan record replay run sample serve states help --help --version"
+        local commands="bank check claims class dap debug draw emit exec explain findings grade hold lsp migrate outcomes page plan record replay run sample serve states help --help --version"
         if [[ ${COMP_WORDS[at - 1]} != --quiet && ${COMP_WORDS[at - 1]} != --json ]]; then
             commands+=" --quiet"
         fi
@@ -47,6 +47,7 @@ _parbegin() {
     dap | lsp) options="" ;;
     check) options="--heap --warn --format --jobs" ;;
     claims) options="" ;;
+    findings) options="--heap --warn" ;;
     class) options="--listen --exercises --try --title --names --keep --teacher --cert --key --host --proxied --states --seconds --memory --searches --jobs --rate" ;;
     debug) options="--live --lend" ;;
     draw) options="--lend --width --scale" ;;
@@ -73,7 +74,7 @@ _parbegin() {
     states) options="--rows --from --lend" ;;
     help)
         # its word is a command
-        local named="bank check claims class dap debug draw emit exec explain grade hold lsp migrate outcomes page plan record replay run sample serve states"
+        local named="bank check claims class dap debug draw emit exec explain findings grade hold lsp migrate outcomes page plan record replay run sample serve states"
         mapfile -t COMPREPLY < <(compgen -W "$named" -- "$word")
         return
         ;;

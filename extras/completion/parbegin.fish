@@ -1,5 +1,5 @@
 # Completion of parbegin for fish. To use it: copy this file to ~/.config/fish/completions, or let install.sh do it.
-set -l commands bank check claims class dap debug draw emit exec explain grade hold lsp migrate outcomes page plan record replay run sample serve states help
+set -l commands bank check claims class dap debug draw emit exec explain findings grade hold lsp migrate outcomes page plan record replay run sample serve states help
 
 complete -c parbegin -n "not __fish_seen_subcommand_from $commands" -f
 complete -c parbegin -n "not __fish_seen_subcommand_from $commands" -l unproved -d "Run the sources with no proof"
@@ -21,6 +21,7 @@ set -l codes L1 L2 L3 L4 P1 P2 P3 N1 N2 N3 N4 N6 C1 E1 O1 O2 V1 V2 V3 V4 V5 V6 V
 complete -c parbegin -n "not __fish_seen_subcommand_from $commands" -a explain -d "Print what a refusal means"
 complete -c parbegin -n "not __fish_seen_subcommand_from $commands" -a grade -d "Judge the texts of a folder against an exercise"
 complete -c parbegin -n "not __fish_seen_subcommand_from $commands" -a hold -d "Run a command while it holds resources"
+complete -c parbegin -n "not __fish_seen_subcommand_from $commands" -a findings -d "Check files that come as messages, as JSON"
 complete -c parbegin -n "not __fish_seen_subcommand_from $commands" -a lsp -d "Answer an editor by the Language Server Protocol"
 complete -c parbegin -n "not __fish_seen_subcommand_from $commands" -a migrate -d "Print an object in format 2"
 complete -c parbegin -n "not __fish_seen_subcommand_from $commands" -a outcomes -d "Print every way in which a program can end"
@@ -34,6 +35,8 @@ complete -c parbegin -n "not __fish_seen_subcommand_from $commands" -a serve -d 
 complete -c parbegin -n "not __fish_seen_subcommand_from $commands" -a states -d "Print the states along recorded picks"
 complete -c parbegin -n "not __fish_seen_subcommand_from $commands" -a help -d "Print help of a command"
 
+complete -c parbegin -n "__fish_seen_subcommand_from findings" -l heap -x -d "Bytes of the heap of each text"
+complete -c parbegin -n "__fish_seen_subcommand_from findings" -l warn -d "Tell what is probably a mistake"
 complete -c parbegin -n "__fish_seen_subcommand_from check" -l heap -x -d "Bytes of the heap of each text"
 complete -c parbegin -n "__fish_seen_subcommand_from check" -l warn -d "Tell warnings of texts that are programs"
 complete -c parbegin -n "__fish_seen_subcommand_from check" -l format -x -a "text gcc json sarif" -d "How refusals are told"

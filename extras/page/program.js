@@ -2,7 +2,7 @@
 // The page of a program: a recorded run to go along, and all schedules to walk through. A class has it too (extras/class).
 //
 // It shows what the program `parbegin` has written (docs/formats/pictures.md, "Documents for a page"). What is enabled, what a
-// pick changes, why an arm waits and how the banker can finish is in the data; words.js computes in words what a pick does.
+// pick changes, what an arm does next, why it waits and how the banker can finish is in the data.
 //
 // A state is a list. With A arms in all, numbered process by process, its entries are
 //   A places      the place of each arm's next instruction, or IDLE, ENDED or FAULTED
@@ -11,6 +11,7 @@
 //   the integers  of each process
 //   the loans     of each process, one for each resource
 //   the order     in which the banker can finish with the processes; nobody by the cash alone
+//   A words       what each arm does by its next pick, and why it is kept back; empty if it is not live
 // A row is a pick and what it changes: [process, arm, (in a graph) where it leads, entry, new value, .., event line].
 // Here the arms are numbered through all processes: a row begins with [arm, 1, ..] once it is read.
 const IDLE = -1, ENDED = -2, FAULTED = -3, HUES = 12;
@@ -90,6 +91,7 @@ class Program {
     this.integers = 3 * this.hands;
     this.loans = this.integers + integers;
     this.order = this.loans + this.processes.length * this.resources.length;
+    this.words = this.order + 1;
     // (of an object there may be no text: its instructions are shown, process by process)
     let lines = 0;
     for (const it of this.processes) it.firstLine = lines + 2, lines += it.code.length + 1;
@@ -126,28 +128,23 @@ class Program {
     return state[arm] < 0 ? 0 : this.processOf(arm).firstLine + state[arm];
   }
 
-  /** Pairs of an amount and a resource for which an arm asks, or that it gives back next. */
-  bundle(state, arm) {
-    const [, op, ...words] = this.next(state, arm);
-    return this.pairs(op, words);
-  }
-
   pairs(op, words) {
     return op === "take" || op === "give" ? words.flatMap((r, i) => (i % 2 ? [] : [[+words[i + 1], +r]])) : [];
   }
 
-  asks(state, arm) { return state[this.reasons + arm] === 0 ? [] : this.bundle(state, arm); }
-
-  /** The arms, by their numbers in the process, for which an arm waits at a join. */
-  awaits(state, arm) {
-    const [, op, first, count] = this.next(state, arm);
-    return op === "join" ? upFrom(+first, +count).filter((a) => state[this.processOf(arm).first + a] !== ENDED) : [];
+  /** Pairs of an amount and a resource for which an arm asks. */
+  asks(state, arm) {
+    const [, op, ...words] = this.next(state, arm);
+    return state[this.reasons + arm] === 0 ? [] : this.pairs(op, words);
   }
+
+  /** Whether an arm waits for others to end. */
+  isJoining(state, arm) { return state[this.words + arm].startsWith("waits for "); }
 
   /** Whether an arm is shown as one that cannot go on: it asks in vain, which a quiz does not tell, or waits at a join. */
   waits(state, arm) {
     const why = state[this.reasons + arm];
-    return (!isQuiz() && Array.isArray(why) && (why[0] === "cash" || this.data.lend !== "cash")) || this.awaits(state, arm).length > 0;
+    return (!isQuiz() && Array.isArray(why) && (why[0] === "cash" || this.data.lend !== "cash")) || this.isJoining(state, arm);
   }
 }
 

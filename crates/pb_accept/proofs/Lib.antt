@@ -5,6 +5,7 @@ pub mod EmissionLemmas
 pub mod EventLemmas
 pub mod InputLemmas
 pub mod LoadLemmas
+pub mod RecordedLemmas
 pub mod ReplayLemmas
 pub mod RunTextLemmas
 pub mod ShownLemmas

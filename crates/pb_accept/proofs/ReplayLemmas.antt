@@ -15,7 +15,7 @@ use Rattle.pb_voice.specs.Inputs as any
 use Rattle.pb_accept.specs.Claims.{SaysOfAny}
 use Rattle.pb_accept.specs.ReplayLines.{AreReplayedBy, IsEnding, IsEndStatus, IsLinesFaultBy}
 use Rattle.pb_accept.specs.Causes.{lines_cause}
-use Rattle.pb_accept.specs.Replays.{SaysOfEvents, SaysOfLines, SaysOfReplay, all_told, not_made, no_memory, replayed, no_picks, made_again}
+use Rattle.pb_accept.specs.Replays.{SaysOfEvents, SaysOfLines, SaysOfNoLines, SaysOfReplay, all_told, not_made, no_memory, refused_for, replayed, no_picks, made_again}
 use Rattle.pb_accept.specs.ToldEvents.{shown}
 use Rattle.pb_accept.specs.Sayings.{Saying, Ended, NoMemory, NoPicks}
 use Rattle.pb_accept.specs.declared.cause.Cause.{Cause}
@@ -56,9 +56,9 @@ module _ {T : Type 0} (tells breaks : T → Saying → T → Type 0) (old new : 
     where
       of_lines : (said : List Saying) (status : Status) → SaysOfLines lending code lines said status
           → SaysOfAny (SaysOfReplay lending) bytes said status
-      of_lines _ _ (not_made fault cause is its_cause) =
+      of_lines _ _ (not_made _ _ (refused_for fault cause is its_cause)) =
           any.read _ _ short (no_picks text lines cut code labels compiled fault cause is its_cause)
-      of_lines _ _ no_memory = any.no_memory
+      of_lines _ _ (not_made _ _ no_memory) = any.no_memory
       of_lines _ _ (replayed entries end are said status says) =
           any.read said status short (made_again text lines cut code labels compiled entries end are said status says
           ((compiled.same lending).no_more (events_of entries) (length entries) (can_make_again lending code lines entries end are)))
@@ -77,9 +77,14 @@ module _ {T : Type 0} (tells breaks : T → Saying → T → Type 0) (old new : 
   pub lines_are_refused : (lending : Lending) (code : Code) (lines : List ℕ) (fault : LinesFault) (cause : Option Cause) → cause ≡ lines_cause fault
       → IsLinesFaultBy lending code lines fault
       → MatchOption cause (Ends tells breaks old (NoMemory ∷ []) Memory new given) (λ c. Ends tells breaks old (NoPicks fault ∷ []) Refused new given)
-      → Speaks tells breaks (SaysOfLines lending code lines) old new given
+      → Speaks tells breaks (SaysOfNoLines lending code lines) old new given
   lines_are_refused lending code lines fault None same is ends = (NoMemory ∷ [], Memory, no_memory, ends)
-  lines_are_refused lending code lines fault (Some c) same is ends = (NoPicks fault ∷ [], Refused, not_made fault c is (sym same), ends)
+  lines_are_refused lending code lines fault (Some c) same is ends = (NoPicks fault ∷ [], Refused, refused_for fault c is (sym same), ends)
+
+  -- and so the lines are told
+  pub refusal_is_told : (lending : Lending) (code : Code) (lines : List ℕ) → Speaks tells breaks (SaysOfNoLines lending code lines) old new given
+      → Speaks tells breaks (SaysOfLines lending code lines) old new given
+  refusal_is_told lending code lines (said, status, says, ends) = (said, status, not_made said status says, ends)
 
 -- ---- the events, and how they ended
 

@@ -6,6 +6,7 @@ pub mod EventObjects
 pub mod Loading
 pub mod Migrations
 pub mod Objects
+pub mod Recordings
 pub mod Refusals
 pub mod ReplayLines
 pub mod Replays
@@ -13,5 +14,6 @@ pub mod RunTexts
 pub mod Sayings
 pub mod Stillness
 pub mod ToldEvents
+pub mod ToldRuns
 pub mod View
 pub mod Warned

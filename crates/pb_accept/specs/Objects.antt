@@ -4,8 +4,9 @@ use Rattle.std.specs.Fmt.{decimal}
 use Rattle.std.specs.List.{concat}
 use Rattle.pb_accept.specs.Causes.{lex_cause, lines_cause, load_cause, names_cause, parse_cause}
 use Rattle.pb_accept.specs.EventObjects.{event_json}
+use Rattle.pb_accept.specs.Recordings.{recorded_json}
 use Rattle.pb_accept.specs.Sayings.{Saying, Accepted, Refused, Claim, NoCode, NoPicks, BeyondFirst, Text, Shows, Ended, Limit, Threads}
-use Rattle.pb_accept.specs.Sayings.{Warns, TooLong, NoMemory, line_of}
+use Rattle.pb_accept.specs.Sayings.{Warns, Recorded, TooLong, LongOutput, NoMemory, line_of}
 use Rattle.pb_accept.specs.Warned.{warning_json}
 use Rattle.pb_accept.specs.declared.cause.Cause.{Cause}
 use Rattle.pb_accept.specs.declared.ending.Ending.{Ending}
@@ -83,12 +84,14 @@ json_of (NoCode f) = cause_json (load_cause f) []
 json_of (NoPicks f) = cause_json (lines_cause f) []
 json_of BeyondFirst = codes "{\"kind\":\"refused\",\"code\":\"E1\"}\n"
 json_of (Text text) = lines_json (codes "line") text
+json_of (Recorded text names picks) = recorded_json text names picks
 json_of (Shows names shown) = event_json names shown
 json_of (Ended ending) = ending_json ending
 json_of (Limit steps) = concat (codes "{\"kind\":\"limit\",\"limit\":" ∷ decimal steps ∷ codes "}\n" ∷ [])
 json_of (Warns warning) = warning_json warning
 json_of Threads = codes "{\"kind\":\"threads\"}\n"
 json_of TooLong = codes "{\"kind\":\"refused\",\"code\":\"input\"}\n"
+json_of LongOutput = codes "{\"kind\":\"refused\",\"code\":\"output\"}\n"
 json_of NoMemory = memory_json
 
 -- a thing in a form

@@ -27,11 +27,16 @@ pub data SaysOfEvents (lending : Lending) (code : Code) (events : List Event) (e
   all_told : (ending : Ending) → IsEnding lending code end ending → (status : Status) → IsEndStatus end ending status
       → SaysOfEvents lending code events end (shown code.names events ++ Ended ending ∷ []) status
 
+-- what is said of lines after an accepted text of which no picks are made
+pub data SaysOfNoLines (lending : Lending) (code : Code) (lines : List ℕ) : List Saying → Status → Type 0 where
+  refused_for : (fault : LinesFault) (cause : Cause) → IsLinesFaultBy lending code lines fault → lines_cause fault ≡ Some cause
+      → SaysOfNoLines lending code lines (NoPicks fault ∷ []) status.Refused
+  no_memory : SaysOfNoLines lending code lines (NoMemory ∷ []) status.Memory
+
 -- what is said of the lines after an accepted text, by its code
 pub data SaysOfLines (lending : Lending) (code : Code) (lines : List ℕ) : List Saying → Status → Type 0 where
-  not_made : (fault : LinesFault) (cause : Cause) → IsLinesFaultBy lending code lines fault → lines_cause fault ≡ Some cause
-      → SaysOfLines lending code lines (NoPicks fault ∷ []) status.Refused
-  no_memory : SaysOfLines lending code lines (NoMemory ∷ []) status.Memory
+  not_made : (said : List Saying) (status : Status) → SaysOfNoLines lending code lines said status
+      → SaysOfLines lending code lines said status
   replayed : (entries : List Entry) (end : State CodeProcess) → AreReplayedBy lending code lines entries end
       → (said : List Saying) (status : Status) → SaysOfEvents lending code (events_of entries) end said status
       → SaysOfLines lending code lines said status

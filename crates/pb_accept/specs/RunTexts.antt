@@ -5,7 +5,7 @@ use Rattle.pb_base.specs.Lines.{NameTable, line}
 use Rattle.pb_command_io.specs.declared.status.Status.{Status}
 use Rattle.pb_command_io.specs.declared.status.Status.TheVariants.{Done, Refused}
 use Rattle.pb_history.specs.declared.counted.CountedPick.{CountedPick}
-use Rattle.pb_picks.specs.PickLines.{pick_lines}
+use Rattle.pb_picks.specs.PickTexts.{pick_lines}
 
 -- the last byte of the text is a line feed
 abbrev pub EndsLine : List ℕ → Type 0

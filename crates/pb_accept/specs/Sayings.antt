@@ -4,6 +4,7 @@ use Rattle.std.specs.Fmt.{decimal}
 use Rattle.std.specs.List.{concat}
 use Rattle.pb_accept.specs.Causes.{cause_line, lex_cause, lines_cause, load_cause, names_cause, parse_cause}
 use Rattle.pb_accept.specs.Refusals.{claims_line, limit_words}
+use Rattle.pb_accept.specs.RunTexts.{with_picks}
 use Rattle.pb_accept.specs.Warned.{warning_line}
 use Rattle.pb_accept.specs.declared.cause.Cause.{Cause}
 use Rattle.pb_accept.specs.declared.ending.Ending.{Ending}
@@ -16,6 +17,7 @@ use Rattle.pb_base.specs.declared.event.Event.{Event}
 use Rattle.pb_codegen.specs.declared.fault.CompileFault.{CompileFault}
 use Rattle.pb_codegen.specs.declared.fault.CompileFault.TheVariants as fault
 use Rattle.pb_command_io.specs.Answers.{memory_line}
+use Rattle.pb_history.specs.declared.counted.CountedPick.{CountedPick}
 use Rattle.pb_names.specs.Program.{Name}
 use Rattle.pb_warnings.specs.Warnings.{Warning}
 
@@ -28,11 +30,12 @@ pub data Saying : Type 0 where
   NoPicks : LinesFault → Saying
   BeyondFirst : Saying
   Text : List ℕ → Saying
+  Recorded : (text : List ℕ) → NameTable → List CountedPick → Saying
   Shows : NameTable → Event → Saying
   Ended : Ending → Saying
   Limit : (steps : ℕ) → Saying
   Warns : Warning → Saying
-  Threads TooLong NoMemory : Saying
+  Threads TooLong LongOutput NoMemory : Saying
 
 -- the line of a cause with words after it; there is no cause if out of memory
 abbrev pub cause_said : Option Cause → (words : List ℕ) → List ℕ
@@ -67,10 +70,12 @@ line_of (NoCode f) = cause_said (load_cause f) []
 line_of (NoPicks f) = cause_said (lines_cause f) []
 line_of BeyondFirst = line (codes "refused E1")
 line_of (Text text) = text
+line_of (Recorded text names picks) = with_picks text names picks
 line_of (Shows names shown) = line (event.line_of names shown)
 line_of (Ended ending) = line (last_line ending)
 line_of (Limit steps) = line (codes "limit " ++ decimal steps)
 line_of (Warns warning) = warning_line warning
 line_of Threads = line (codes "threads")
 line_of TooLong = line (codes "refused input")
+line_of LongOutput = line (codes "refused output")
 line_of NoMemory = memory_line

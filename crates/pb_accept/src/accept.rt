@@ -24,8 +24,8 @@ pub enum Refusal {
     NoMemory,
 }
 
-/// Returns the line of a fault.
-fn fault_line(alloc: Global, fault: CompileFault) -> Result<Vec<u8>, NoMemory>
+/// Returns the line of a fault of a text, without a line feed.
+pub fn fault_line(alloc: Global, fault: CompileFault) -> Result<Vec<u8>, NoMemory>
     ensures { (text : List ℕ) → IsRefused text fault → IfOk result (λ line. RefusesWith text line.items) }
 {
     match fault {

@@ -69,8 +69,8 @@ fn look<A: Allocator + Clone>(
 }
 
 /// Looks at one text, whose trees are in a new heap of this size, or else in the arena, which is reset
-/// afterwards.
-fn look_within(
+/// afterwards, and returns its warnings if they are asked for.
+pub fn look_within(
     alloc: Global,
     options: CheckOptions,
     arena: &mut Bump,

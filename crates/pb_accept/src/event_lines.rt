@@ -57,7 +57,7 @@ fn tell_pair<O: Output>(
 }
 
 /// Tells the pairs of a bundle, in their order.
-fn tell_pairs<O: Output>(
+pub fn tell_pairs<O: Output>(
     voice: &mut Voice,
     output: &mut O,
     names: &Names,

@@ -51,7 +51,7 @@ fn tell_pair<O: Output>(
 }
 
 /// Tells the amounts of a bundle, without the brackets.
-fn tell_pairs<O: Output>(
+pub fn tell_pair_objects<O: Output>(
     voice: &mut Voice,
     output: &mut O,
     names: &Names,
@@ -97,7 +97,7 @@ fn tell_bundle<O: Output>(
             b",\"amounts\":[",
         ],
     )?;
-    tell_pairs(voice, output, names, bundle)?;
+    tell_pair_objects(voice, output, names, bundle)?;
     voice.say(output, b"]}\n")
 }
 

@@ -11,6 +11,7 @@ ghost use Rattle.pb_voice.specs.Voices.{Adds, Breaks};
 use crate::cause::{Cause, lex_cause, names_cause, parse_cause};
 use crate::event_lines::tell_event_line;
 use crate::load::load_cause;
+use crate::recorded::tell_recording_lines;
 use crate::refusal::limit_words;
 use crate::replay::lines_cause;
 use crate::said::Said;
@@ -140,6 +141,7 @@ pub fn tell_line<O: Output>(
         Said::NoPicks(fault) => tell_cause(voice, output, lines_cause(fault), b""),
         Said::BeyondFirst => voice.say(output, b"refused E1\n"),
         Said::Text(text) => voice.say(output, text),
+        Said::Recorded(recording) => tell_recording_lines(voice, output, recording),
         Said::Shows(shown) => tell_event_line(voice, output, shown),
         Said::Ended(ending) => voice.say_all(output, &[ending.last_line(), b"\n"]),
         Said::Limit(steps) => {
@@ -149,6 +151,7 @@ pub fn tell_line<O: Output>(
         Said::Warns(warning) => tell_warning_line(voice, output, warning),
         Said::Threads => voice.say(output, b"threads\n"),
         Said::TooLong => voice.say(output, b"refused input\n"),
+        Said::LongOutput => voice.say(output, b"refused output\n"),
         Said::NoMemory => voice.say(output, b"memory\n"),
     }
 }

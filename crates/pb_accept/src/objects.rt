@@ -12,6 +12,7 @@ use crate::cause::{Cause, lex_cause, names_cause, parse_cause};
 use crate::ending::Ending;
 use crate::event_objects::tell_event_object;
 use crate::load::load_cause;
+use crate::recorded::tell_recording_objects;
 use crate::replay::lines_cause;
 use crate::said::{Claim, Said};
 use crate::warning_objects::tell_warning_object;
@@ -202,6 +203,7 @@ pub fn tell_object<O: Output>(
         Said::NoPicks(fault) => tell_cause(voice, output, lines_cause(fault), b""),
         Said::BeyondFirst => voice.say(output, b"{\"kind\":\"refused\",\"code\":\"E1\"}\n"),
         Said::Text(text) => say_lines(voice, output, b"line", text),
+        Said::Recorded(recording) => tell_recording_objects(voice, output, recording),
         Said::Shows(shown) => tell_event_object(voice, output, shown),
         Said::Ended(ending) => voice.say(output, ending_json(ending)),
         Said::Limit(steps) => {
@@ -218,6 +220,7 @@ pub fn tell_object<O: Output>(
         Said::Warns(warning) => tell_warning_object(voice, output, warning),
         Said::Threads => voice.say(output, b"{\"kind\":\"threads\"}\n"),
         Said::TooLong => voice.say(output, b"{\"kind\":\"refused\",\"code\":\"input\"}\n"),
+        Said::LongOutput => voice.say(output, b"{\"kind\":\"refused\",\"code\":\"output\"}\n"),
         Said::NoMemory => voice.say(output, b"{\"kind\":\"memory\"}\n"),
     }
 }

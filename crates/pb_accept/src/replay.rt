@@ -5,7 +5,7 @@ ghost use Rattle.pb_accept.specs.Claims.{SaysOfAny};
 ghost use Rattle.pb_accept.specs.ReplayLines.{AreReplayed, AreReplayedBy, IsEndStatus, IsLinesFault, IsLinesFaultBy};
 ghost use Rattle.pb_accept.specs.ReplayLines.{IsStatusAt, SaysOfNoPicksBy};
 ghost use Rattle.pb_accept.specs.Causes as spec;
-ghost use Rattle.pb_accept.specs.Replays.{SaysOfEvents, SaysOfLines, SaysOfReplay};
+ghost use Rattle.pb_accept.specs.Replays.{SaysOfEvents, SaysOfLines, SaysOfNoLines, SaysOfReplay};
 ghost use Rattle.pb_history.specs.Entries.{events_of};
 ghost use Rattle.pb_base.specs.Steppers.{State};
 ghost use Rattle.pb_code.specs.Code.{CodeProcess};
@@ -108,8 +108,21 @@ fn replay_lines<O: Output, T: Teller>(
             let mut machine = machine;
             tell_replay(verified, &trace, &mut machine, teller, output)
         }
-        Err(fault) => tell_refused(teller, output, lines_cause(fault), Said::NoPicks(fault)),
+        Err(fault) => tell_lines_fault(teller, output, fault),
     }
+}
+
+/// Tells why pick lines are not picks, or why their picks are not made.
+pub fn tell_lines_fault<O: Output, T: Teller>(
+    teller: &mut T,
+    output: &mut O,
+    fault: LinesFault,
+) -> Status
+    ensures { (lending : LendingValue) (code : Code) (lines : List ℕ) → IsLinesFaultBy lending code lines fault
+        → Speaks T.tells T.breaks (SaysOfNoLines lending code lines) (at O.written O.failures teller.old output.old)
+        (at O.written O.failures teller.new output.new) result }
+{
+    tell_refused(teller, output, lines_cause(fault), Said::NoPicks(fault))
 }
 
 /// Makes the picks that pick lines say under the banker, from the start of the code: returns the machine after

@@ -5,6 +5,7 @@ use crate::load::LoadFault;
 use crate::replay::LinesFault;
 use pb_base::{Event, Names};
 use pb_codegen::CompileFault;
+use pb_history::CountedPick;
 use pb_warnings::Warning;
 
 /// The most that a process may hold of a resource.
@@ -20,6 +21,14 @@ pub struct Claim<'t> {
 pub struct Shown<'t> {
     pub names: &'t Names,
     pub event: &'t Event,
+}
+
+/// A run that is recorded: a text that ends in a line feed, and the picks of a run of it.
+#[derive(Clone, Copy)]
+pub struct Recording<'t> {
+    pub text: &'t [u8],
+    pub names: &'t Names,
+    pub picks: &'t [CountedPick],
 }
 
 /// One thing that is said.
@@ -40,6 +49,8 @@ pub enum Said<'t> {
     BeyondFirst,
     /// A text is written as it is.
     Text(&'t [u8]),
+    /// A run is recorded.
+    Recorded(Recording<'t>),
     /// A run shows this event.
     Shows(Shown<'t>),
     /// A run ended so.
@@ -52,6 +63,8 @@ pub enum Said<'t> {
     Threads,
     /// The input is too long.
     TooLong,
+    /// The output would be too long for an input.
+    LongOutput,
     /// Out of memory.
     NoMemory,
 }

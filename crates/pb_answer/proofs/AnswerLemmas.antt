@@ -41,6 +41,7 @@ module _ (rest left old new : Option (List ℕ)) (status : Status) where
   bank_tells (option.Emit x) is says = absurd cc
   bank_tells (option.Exec x) is says = absurd cc
   bank_tells (option.Explain x) is says = absurd cc
+  bank_tells (option.Findings x) is says = absurd cc
   bank_tells option.Lsp is says = absurd cc
   bank_tells option.Migrate is says = absurd cc
   bank_tells (option.Outcomes x) is says = absurd cc
@@ -50,7 +51,7 @@ module _ (rest left old new : Option (List ℕ)) (status : Status) where
   bank_tells (option.Run x) is says = absurd cc
   bank_tells (option.States x) is says = absurd cc
 
-  pub bank_leaves : (o : Options) → tool_for o ≡ tool.Bank → bank.leaves o rest left old new → CommandLeaves o rest left old new
+  pub bank_leaves : (o : Options) → tool_for o ≡ tool.Bank → bank.leaves Lines o rest left old new → CommandLeaves o rest left old new
   bank_leaves option.Bank is leaves = leaves
   bank_leaves (option.Check x) is leaves = absurd cc
   bank_leaves option.Claims is leaves = absurd cc
@@ -60,6 +61,7 @@ module _ (rest left old new : Option (List ℕ)) (status : Status) where
   bank_leaves (option.Emit x) is leaves = absurd cc
   bank_leaves (option.Exec x) is leaves = absurd cc
   bank_leaves (option.Explain x) is leaves = absurd cc
+  bank_leaves (option.Findings x) is leaves = absurd cc
   bank_leaves option.Lsp is leaves = absurd cc
   bank_leaves option.Migrate is leaves = absurd cc
   bank_leaves (option.Outcomes x) is leaves = absurd cc
@@ -81,6 +83,7 @@ module _ (rest left old new : Option (List ℕ)) (status : Status) where
   debug_tells (option.Emit x) is says = absurd cc
   debug_tells (option.Exec x) is says = absurd cc
   debug_tells (option.Explain x) is says = absurd cc
+  debug_tells (option.Findings x) is says = absurd cc
   debug_tells option.Lsp is says = absurd cc
   debug_tells option.Migrate is says = absurd cc
   debug_tells (option.Outcomes x) is says = absurd cc
@@ -100,6 +103,7 @@ module _ (rest left old new : Option (List ℕ)) (status : Status) where
   debug_leaves (option.Emit x) is leaves = absurd cc
   debug_leaves (option.Exec x) is leaves = absurd cc
   debug_leaves (option.Explain x) is leaves = absurd cc
+  debug_leaves (option.Findings x) is leaves = absurd cc
   debug_leaves option.Lsp is leaves = absurd cc
   debug_leaves option.Migrate is leaves = absurd cc
   debug_leaves (option.Outcomes x) is leaves = absurd cc
@@ -121,6 +125,7 @@ module _ (rest left old new : Option (List ℕ)) (status : Status) where
   edit_tells (option.Emit x) is says = absurd cc
   edit_tells (option.Exec x) is says = absurd cc
   edit_tells (option.Explain x) is says = absurd cc
+  edit_tells (option.Findings x) is says = says
   edit_tells option.Lsp is says = says
   edit_tells option.Migrate is says = absurd cc
   edit_tells (option.Outcomes x) is says = absurd cc
@@ -140,6 +145,7 @@ module _ (rest left old new : Option (List ℕ)) (status : Status) where
   edit_leaves (option.Emit x) is leaves = absurd cc
   edit_leaves (option.Exec x) is leaves = absurd cc
   edit_leaves (option.Explain x) is leaves = absurd cc
+  edit_leaves (option.Findings x) is leaves = leaves
   edit_leaves option.Lsp is leaves = leaves
   edit_leaves option.Migrate is leaves = absurd cc
   edit_leaves (option.Outcomes x) is leaves = absurd cc
@@ -161,6 +167,7 @@ module _ (rest left old new : Option (List ℕ)) (status : Status) where
   run_tells (option.Emit x) is says = says
   run_tells (option.Exec x) is says = says
   run_tells (option.Explain x) is says = says
+  run_tells (option.Findings x) is says = absurd cc
   run_tells option.Lsp is says = absurd cc
   run_tells option.Migrate is says = says
   run_tells (option.Outcomes x) is says = absurd cc
@@ -180,6 +187,7 @@ module _ (rest left old new : Option (List ℕ)) (status : Status) where
   run_leaves (option.Emit x) is leaves = leaves
   run_leaves (option.Exec x) is leaves = leaves
   run_leaves (option.Explain x) is leaves = leaves
+  run_leaves (option.Findings x) is leaves = absurd cc
   run_leaves option.Lsp is leaves = absurd cc
   run_leaves option.Migrate is leaves = leaves
   run_leaves (option.Outcomes x) is leaves = absurd cc
@@ -201,6 +209,7 @@ module _ (rest left old new : Option (List ℕ)) (status : Status) where
   search_tells (option.Emit x) is says = absurd cc
   search_tells (option.Exec x) is says = absurd cc
   search_tells (option.Explain x) is says = absurd cc
+  search_tells (option.Findings x) is says = absurd cc
   search_tells option.Lsp is says = absurd cc
   search_tells option.Migrate is says = absurd cc
   search_tells (option.Outcomes x) is says = says
@@ -220,6 +229,7 @@ module _ (rest left old new : Option (List ℕ)) (status : Status) where
   search_leaves (option.Emit x) is leaves = absurd cc
   search_leaves (option.Exec x) is leaves = absurd cc
   search_leaves (option.Explain x) is leaves = absurd cc
+  search_leaves (option.Findings x) is leaves = absurd cc
   search_leaves option.Lsp is leaves = absurd cc
   search_leaves option.Migrate is leaves = absurd cc
   search_leaves (option.Outcomes x) is leaves = leaves

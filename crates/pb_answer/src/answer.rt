@@ -85,7 +85,7 @@ fn by_tool<R: Threads + Wait + Sync, C: Commands, I: Input, O: Output>(
         (record { reads = I.failures input.new; writes = O.failures output.new; written = O.written output.new })
         result }
     ensures read { I.failures input.new ≢ I.failures input.old →
-        C.Leaves options (I.rest input.old) (I.rest input.new) (O.written output.old) (O.written output.new) }
+        C.Leaves Form.Lines options (I.rest input.old) (I.rest input.new) (O.written output.old) (O.written output.new) }
 {
     match commands.answer(rt, alloc, Form::Lines, options, input, output) {
         Some(status) => status,

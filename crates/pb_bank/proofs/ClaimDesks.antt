@@ -10,11 +10,12 @@ use Rattle.pb_base.specs.Lines.{NameTable}
 use Rattle.pb_banker.specs.Claims.{SaysOfClaim, with_claim}
 use Rattle.pb_banker.specs.Jobs.{BankValue}
 use Rattle.pb_banker.specs.declared.reason.ClaimSaid.TheVariants as claim
-use Rattle.pb_banker.specs.declared.reason.Reason.TheVariants.{Rest}
 use Rattle.pb_bank.specs.declared.request.Request.{Request}
+use Rattle.pb_bank.specs.declared.said.Said.{Said}
+use Rattle.pb_bank.specs.declared.said.Said.TheVariants.{WaitRest}
 use Rattle.pb_bank.specs.Claims.{AsksForClaim, SetsClaim, SetsClaims, amount_for, claim_refusal, wished}
 use Rattle.pb_bank.specs.Desks.{DeskValue, IsRequestOf}
-use Rattle.pb_bank.specs.Refusals.{Refuses, reason_text}
+use Rattle.pb_bank.specs.Refusals.{Refuses, jobs_of}
 use Rattle.pb_bank.specs.declared.refusal.Refusal.TheVariants.{Command}
 use Rattle.pb_bank.proofs.CapitalDesks.{same_bank}
 
@@ -59,26 +60,26 @@ requests_claimed b next p r amount wishes same all =
 
 -- the jobs that could not finish are told
 pub told_rest : (d : DeskValue) (b next : BankValue) (names : NameTable) (wishes : List Request) (job : ℕ) (pair : Pair) (slots : List Bool)
-    (out after : List ℕ) → record { bank = b; names = names; wishes = wishes } ≡ d
+    (out after : List Said) → record { bank = b; names = names; wishes = wishes } ≡ d
     → SaysOfClaim b.state job pair.resource pair.amount (claim.Rest slots)
-    → next.state ≡ b.state → next.used ≡ b.used → after ≡ out ++ reason_text [] names next.state (Rest slots)
-    → (said : List ℕ) × AsksForClaim d job pair said (record { bank = next; names = names; wishes = wishes }) × (after ≡ out ++ said)
+    → next.state ≡ b.state → next.used ≡ b.used → after ≡ out ++ WaitRest (jobs_of next.state slots) ∷ []
+    → (said : List Said) × AsksForClaim d job pair said (record { bank = next; names = names; wishes = wishes }) × (after ≡ out ++ said)
 told_rest d b next names wishes job pair slots out after view says state used is =
     let there : DeskValue = record { bank = next; names = names; wishes = wishes } in
-    subst (λ (e : DeskValue). (said : List ℕ) × AsksForClaim e job pair said there × (after ≡ out ++ said)) view (
-      reason_text [] names b.state (Rest slots),
+    subst (λ (e : DeskValue). (said : List Said) × AsksForClaim e job pair said there × (after ≡ out ++ said)) view (
+      WaitRest (jobs_of b.state slots) ∷ [],
       (
         claim.Rest slots,
         says,
         (refl, ap (λ (c : BankValue). record { bank = c; names = names; wishes = wishes }) (same_bank b next state used)),
       ),
-      is ∙ ap (λ (s : BankerState). out ++ reason_text [] names s (Rest slots)) state,
+      is ∙ ap (λ (s : BankerState). out ++ WaitRest (jobs_of s slots) ∷ []) state,
     )
 
 -- ---- the pairs of a claim
 
 -- there is just one
-pub claims_one : (d : DeskValue) (p : ℕ) (pairs : List Pair) (pair : Pair) (said : List ℕ) (next : DeskValue) → length pairs ≡ 1
+pub claims_one : (d : DeskValue) (p : ℕ) (pairs : List Pair) (pair : Pair) (said : List Said) (next : DeskValue) → length pairs ≡ 1
     → slice_get pairs 0 ≡ Some pair → SetsClaim (claim_refusal d p pair) d p pair said next → SetsClaims d p pairs said next
 claims_one d p [] pair said next one here says = absurd (omega (arith, one))
 claims_one d p (x ∷ []) pair said next one here says =
@@ -87,8 +88,8 @@ claims_one d p (x ∷ []) pair said next one here says =
 claims_one d p (x ∷ y ∷ pairs) pair said next one here says = absurd (omega (arith, one))
 
 -- there are none, or several
-pub claims_others : (d : DeskValue) (p : ℕ) (pairs : List Pair) (said : List ℕ) (next : DeskValue) → (length pairs ≡ 1 → ⊥)
-    → Refuses [] Command d said next → SetsClaims d p pairs said next
+pub claims_others : (d : DeskValue) (p : ℕ) (pairs : List Pair) (said : List Said) (next : DeskValue) → (length pairs ≡ 1 → ⊥)
+    → Refuses Command d said next → SetsClaims d p pairs said next
 claims_others d p [] said next others says = says
 claims_others d p (x ∷ []) said next others says = absurd (others refl)
 claims_others d p (x ∷ y ∷ pairs) said next others says = says

@@ -8,6 +8,7 @@ use Rattle.pb_base.specs.Banker.{BankerState, processes, resources}
 use Rattle.pb_banker.specs.Jobs.{BankValue, SaysOfJoining, put_row, joined, left}
 use Rattle.pb_banker.specs.declared.reason.Joined.TheVariants.{In}
 use Rattle.pb_bank.specs.declared.request.Request.{Request}
+use Rattle.pb_bank.specs.declared.said.Said.{Said}
 use Rattle.pb_bank.specs.Answers.{JoinsWith, desk_left, with_amounts}
 use Rattle.pb_bank.specs.Desks.{DeskValue, IsRequestOf}
 use Rattle.pb_bank.specs.Queues.{without_wish, ServesQueue}
@@ -41,14 +42,14 @@ left_desk d bank bank' jobs names wishes others p name view empty is kept =
     ∙ ap (λ (ws : List Request). with_jobs there free names ws) kept))
 
 pub joined_desk : (d : DeskValue) (bank bank' : BankValue) (jobs : List (Vec ℕ Global)) (names : List (List ℕ)) (wishes : List Request)
-    (p n : ℕ) (name : Vec ℕ Global) (words : List (List ℕ)) (word row : List ℕ) (pairs : List Pair) (said : List ℕ)
+    (p n : ℕ) (name : Vec ℕ Global) (word row : List ℕ) (pairs : List Pair) (said : List Said)
     (next : DeskValue) → desk_of bank jobs names wishes ≡ d → name.items ≡ word → n ≡ resources bank.state
     → row ≡ with_amounts (replicate MAX_RESOURCES 0) pairs → SaysOfJoining bank (take n row) (In p) bank'
-    → ServesQueue (desk_of bank' (set jobs p name) names wishes) said next → JoinsWith d words word pairs said next
-joined_desk d bank bank' jobs names wishes p n name words word row pairs said next view is many claims says serves =
+    → ServesQueue (desk_of bank' (set jobs p name) names wishes) said next → JoinsWith d word pairs said next
+joined_desk d bank bank' jobs names wishes p n name word row pairs said next view is many claims says serves =
     let same : take n row ≡ take (resources bank.state) (with_amounts (replicate MAX_RESOURCES 0) pairs) =
     ap (λ k. take k row) many ∙ ap (λ (r : List ℕ). take (resources bank.state) r) claims in
-    subst (λ (e : DeskValue). JoinsWith e words word pairs said next) view (
+    subst (λ (e : DeskValue). JoinsWith e word pairs said next) view (
       In p,
       bank',
       subst (λ (r : List ℕ). SaysOfJoining bank r (In p) bank') same says,

@@ -1,3 +1,4 @@
+pub mod Appended
 pub mod CapitalDesks
 pub mod ClaimDesks
 pub mod DeskLemmas

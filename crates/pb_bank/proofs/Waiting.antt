@@ -9,6 +9,7 @@ use Rattle.pb_banker.specs.Jobs.{BankValue, SaysWhy, state_held}
 use Rattle.pb_banker.specs.declared.reason.Reason.{Reason}
 use Rattle.pb_banker.specs.declared.reason.Reason.TheVariants.{Allowed, OverClaim, OverCash, Rest}
 use Rattle.pb_bank.specs.declared.request.Request.{Request}
+use Rattle.pb_bank.specs.declared.said.Said.{Said}
 use Rattle.pb_bank.specs.Desks.{IsDesk, IsRequestOf, NoneIsAllowed}
 use Rattle.pb_bank.specs.Queues.{Serves, nothing, grants, waits}
 use Rattle.pb_bank.proofs.MoreLoans.{well_lent, less_allowed, fewer_before}
@@ -48,19 +49,19 @@ pub record IsServed (b : BankValue) (waiting : List Request) (next : BankerState
   pub waits : NoneIsAllowed next waiting
 
 -- no wish that waits on is allowed
-pub served : (names : NameTable) (b : BankValue) → IsWellFormed b.state
-    → (queue : List Request) (said : List ℕ) (waiting : List Request) (next : BankerState) → All (IsRequestOf b) queue
-    → Serves names b.state queue said waiting next → IsServed b waiting next
-served names b good queue said waiting next of nothing = record {
+pub served : (b : BankValue) → IsWellFormed b.state
+    → (queue : List Request) (said : List Said) (waiting : List Request) (next : BankerState) → All (IsRequestOf b) queue
+    → Serves b.state queue said waiting next → IsServed b waiting next
+served b good queue said waiting next of nothing = record {
   well = good;
   claims = refl;
   capital = refl;
   of = All-nil (IsRequestOf b);
   waits = All-nil (λ (v : Request). ¬ IsAllowed b.state v.job v.bundle);
 }
-served names b good whole said' waiting' next of (grants queue said waiting mid w before allowed) =
+served b good whole said' waiting' next of (grants queue said waiting mid w before allowed) =
     let parts = All-pop (IsRequestOf b) (queue ++ w ∷ []) queue (Some w) refl of in
-    let h = served names b good queue said waiting mid parts.0 before in
+    let h = served b good queue said waiting mid parts.0 before in
     let here : BankValue = record { state = mid; used = b.used } in
     let is : IsRequestOf here w = request_in b here w h.claims h.capital parts.1 in
     record {
@@ -70,9 +71,9 @@ served names b good whole said' waiting' next of (grants queue said waiting mid 
       of = h.of;
       waits = none_more here h.well w is allowed waiting (requests_in b here waiting h.claims h.capital h.of) h.waits;
     }
-served names b good whole said' waiting' next of (waits queue said waiting mid w before refused) =
+served b good whole said' waiting' next of (waits queue said waiting mid w before refused) =
     let parts = All-pop (IsRequestOf b) (queue ++ w ∷ []) queue (Some w) refl of in
-    let h = served names b good queue said waiting mid parts.0 before in
+    let h = served b good queue said waiting mid parts.0 before in
     record {
       well = h.well;
       claims = h.claims;

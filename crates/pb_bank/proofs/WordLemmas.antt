@@ -4,6 +4,7 @@ use Rattle.std.proofs.Common.{refl, sym, ap, ◌∙◌, arith, inl, inr}
 use Rattle.std.proofs.lemmas.Bool.{cases_lt, eqb-true}
 use Rattle.std.proofs.Math.Seq.{drop-cons}
 use Rattle.std.proofs.lemmas.List.{take_more, drop_all, length-drop}
+use Rattle.pb_bank.specs.Answers.{first_of, rest_of}
 use Rattle.pb_bank.specs.Words.{is_blank, ends_word, before, cut_words, trimmed, words_of}
 
 next_at : (text : List ℕ) (i : ℕ) → i < length text → drop i text ≡ get_or text i 0 ∷ drop (i + 1) text
@@ -143,3 +144,11 @@ pub nth_first : (words : List (List ℕ)) (word : List ℕ) (rest : List (List �
     → (length word ≡ 0 → words ≡ []) → word ≡ get_or words 0 []
 nth_first words [] rest is none = ap (λ (ws : List (List ℕ)). get_or ws 0 []) (sym (none refl))
 nth_first words (b ∷ bs) rest is none = ap (λ (ws : List (List ℕ)). get_or ws 0 []) (sym is)
+
+-- the first of the words, and those after it
+pub first_is : (words : List (List ℕ)) (word : List ℕ) (rest : List (List ℕ)) → words ≡ before word rest
+    → (length word ≡ 0 → words ≡ []) → (first_of words ≡ word) × (rest_of words ≡ rest)
+first_is words [] rest is none =
+    let empty = none refl in
+    (ap first_of empty, ap rest_of empty ∙ (sym empty ∙ is))
+first_is words (b ∷ bs) rest is none = (ap first_of is, ap rest_of is)

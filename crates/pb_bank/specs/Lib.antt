@@ -7,3 +7,6 @@ pub mod Reading
 pub mod Refusals
 pub mod Requests
 pub mod Words
+pub mod Objects
+pub mod Sayings
+pub mod Tables

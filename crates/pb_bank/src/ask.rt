@@ -1,18 +1,20 @@
 //! Requests, and what comes back.
 
-ghost use Rattle.std.specs.Prelude.{◌≡◌, ◌++◌, ◌<◌, ◌≤◌, [], ℕ, List, codes, length, All, OnOk, IfNone, take, drop};
+ghost use Rattle.std.specs.Prelude.{◌≡◌, ◌++◌, ◌<◌, ◌≤◌, List, All, OnOk, IfNone};
 ghost use Rattle.pb_base.specs.Banker.{processes, resources, loan};
 ghost use Rattle.pb_banker.specs.Jobs.{SaysWhy, state_held};
 ghost use Rattle.pb_bank.specs.Answers as answers;
 ghost use Rattle.pb_bank.specs.Desks.{IsRequestOf, job_of};
-ghost use Rattle.pb_bank.specs.Queues.{ServesQueue, request_text};
+ghost use Rattle.pb_bank.specs.Queues.{ServesQueue};
 ghost use Rattle.pb_bank.specs.Words.{words_of};
+ghost use Rattle.pb_bank.specs.declared.said.Said.{Said};
 
 use crate::desk::Desk;
-use crate::queue::{put_request, without};
-use crate::refusal::{Refusal, put_refusal};
+use crate::queue::without;
+use crate::reason::say_reason;
+use crate::refusal::Refusal;
 use crate::request::Request;
-use crate::texts::put_reason;
+use crate::said::{Said, say};
 use crate::words::first_word;
 use pb_banker::{Answer, Bank, Reason};
 use pb_base::NoMemory;
@@ -42,6 +44,17 @@ fn lend(bank: &mut Bank, request: &Request) -> Reason
     match bank.ask(request.job, &request.bundle) {
         Answer::Granted => Reason::Allowed,
         Answer::NotNow | Answer::OverClaim => reason_of(bank, request),
+    }
+}
+
+/// Returns what is said of a request that is granted: that it is held, or granted.
+fn grant_said(held: bool, request: &Request) -> Said
+    ensures { result ≡ answers.grant_said held request.now }
+{
+    if held {
+        Said::Held(*request)
+    } else {
+        Said::Granted(*request)
     }
 }
 
@@ -75,89 +88,61 @@ impl Desk {
         lend(&mut self.bank, request)
     }
 
-    /// Appends the line of a request of the desk to `out`: a word, the job and the amounts.
-    pub(crate) fn tell_request(
-        &self,
-        out: &mut Vec<u8>,
-        word: &[u8],
-        request: &Request,
-    ) -> Result<(), NoMemory>
-        requires { IsRequestOf self.now.bank request.now }
-        ensures { OnOk result (out.new.items ≡ out.old.items ++ request_text word.now self.now.names request.now) }
-    {
-        // Called for its contract alone, which the proof needs.
-        let _ = self.bank.slots();
-        put_request(out, word, &self.names, request)
-    }
-
-    /// Grants a request if it is allowed, and appends the answer to `out`.
+    /// Grants a request if it is allowed, and says so; `held` says it in another word.
     pub(crate) fn say_ask(
         &mut self,
-        out: &mut Vec<u8>,
-        granted: &[u8],
+        out: &mut Vec<Said>,
+        held: bool,
         text: &[u8],
     ) -> Result<(), NoMemory>
-        ensures { OnOk result ((said : List ℕ)
-            × answers.OfRequest (answers.Grants granted.now self.old) (words_of text.now)
+        ensures { OnOk result ((said : List Said)
+            × answers.OfRequest (answers.Grants held self.old)
             (answers.asked_of self.old (words_of text.now)) self.old said self.new
             × (out.new.items ≡ out.old.items ++ said)) }
     {
         match self.asked_of(text) {
-            Ok(request) => self.tell_grant(out, granted, &request),
-            Err(refusal) => put_refusal(out, &self.names, text, refusal),
+            Ok(request) => self.tell_grant(out, held, &request),
+            Err(refusal) => say(out, Said::Refused(refusal)),
         }
     }
 
-    /// Appends why a request is not allowed to `out`.
-    fn tell_reason(&self, out: &mut Vec<u8>, reason: &Reason) -> Result<(), NoMemory>
-        requires { answers.IsReasonOf self.now.bank.state reason.now }
-        ensures { OnOk result (out.new.items
-            ≡ out.old.items ++ answers.reason_text [] self.now.names self.now.bank.state reason.now) }
-    {
-        put_reason(out, b"", &self.names, &self.bank, reason)
-    }
-
-    /// Grants a request if it is allowed, and appends a line that says so, or why not, to `out`.
+    /// Grants a request if it is allowed, and appends a line that says so, or why not,.
     fn tell_grant(
         &mut self,
-        out: &mut Vec<u8>,
-        granted: &[u8],
+        out: &mut Vec<Said>,
+        held: bool,
         request: &Request,
     ) -> Result<(), NoMemory>
         requires { IsRequestOf self.old.bank request.now }
-        ensures { OnOk result ((said : List ℕ) × answers.Grants granted.now self.old request.now said self.new
+        ensures { OnOk result ((said : List Said) × answers.Grants held self.old request.now said self.new
             × (out.new.items ≡ out.old.items ++ said)) }
     {
-        match self.grant(request) {
-            Reason::Allowed => self.tell_request(out, granted, request),
-            Reason::OverClaim(r) => self.tell_reason(out, &Reason::OverClaim(r)),
-            Reason::OverCash(r) => self.tell_reason(out, &Reason::OverCash(r)),
-            Reason::Rest(slots) => self.tell_reason(out, &Reason::Rest(slots)),
-        }
+        let reason = self.grant(request);
+        say_reason(out, grant_said(held, request), &self.bank, &reason)
     }
 
-    /// Appends why a request would be granted or not to `out`.
-    pub(crate) fn say_why(&self, out: &mut Vec<u8>, text: &[u8]) -> Result<(), NoMemory>
-        ensures { OnOk result ((said : List ℕ) × answers.AnswersWhy self.now (words_of text.now) said self.now
+    /// Says why a request would be granted or not.
+    pub(crate) fn say_why(&self, out: &mut Vec<Said>, text: &[u8]) -> Result<(), NoMemory>
+        ensures { OnOk result ((said : List Said) × answers.AnswersWhy self.now (words_of text.now) said self.now
             × (out.new.items ≡ out.old.items ++ said)) }
     {
         match self.request_of(text) {
             Ok(request) => {
                 let reason = reason_of(&self.bank, &request);
-                put_reason(out, b"allowed\n", &self.names, &self.bank, &reason)
+                say_reason(out, Said::Allowed, &self.bank, &reason)
             }
-            Err(refusal) => put_refusal(out, &self.names, text, refusal),
+            Err(refusal) => say(out, Said::Refused(refusal)),
         }
     }
 
     /// Takes back what a job gives, if it holds as much, and serves the queue.
-    fn give(&mut self, out: &mut Vec<u8>, request: &Request) -> Result<(), NoMemory>
+    fn give(&mut self, out: &mut Vec<Said>, request: &Request) -> Result<(), NoMemory>
         requires { IsRequestOf self.old.bank request.now }
-        ensures { OnOk result ((said : List ℕ) × answers.Gives self.old request.now said self.new
+        ensures { OnOk result ((said : List Said) × answers.Gives self.old request.now said self.new
             × (out.new.items ≡ out.old.items ++ said)) }
     {
         if let Some(r) = unheld(&self.bank, request) {
-            return put_refusal(out, &self.names, b"", Refusal::NotHeld(r));
+            return say(out, Said::Refused(Refusal::NotHeld(r)));
         }
         let wishes = mem::replace(&mut self.wishes, Vec::new(self.alloc));
         self.bank.give(request.job, &request.bundle);
@@ -165,35 +150,35 @@ impl Desk {
     }
 
     /// Takes back what a job gives, and serves the queue.
-    pub(crate) fn say_give(&mut self, out: &mut Vec<u8>, text: &[u8]) -> Result<(), NoMemory>
-        ensures { OnOk result ((said : List ℕ) × answers.AnswersGive self.old (words_of text.now) said self.new
+    pub(crate) fn say_give(&mut self, out: &mut Vec<Said>, text: &[u8]) -> Result<(), NoMemory>
+        ensures { OnOk result ((said : List Said) × answers.AnswersGive self.old (words_of text.now) said self.new
             × (out.new.items ≡ out.old.items ++ said)) }
     {
         match self.request_of(text) {
             Ok(request) => self.give(out, &request),
-            Err(refusal) => put_refusal(out, &self.names, text, refusal),
+            Err(refusal) => say(out, Said::Refused(refusal)),
         }
     }
 
     /// Takes back all that a job holds, frees its slot and its name, and serves the queue.
-    pub(crate) fn say_leave(&mut self, out: &mut Vec<u8>, text: &[u8]) -> Result<(), NoMemory>
-        ensures { OnOk result ((said : List ℕ) × answers.AnswersLeave self.old (words_of text.now) said self.new
+    pub(crate) fn say_leave(&mut self, out: &mut Vec<Said>, text: &[u8]) -> Result<(), NoMemory>
+        ensures { OnOk result ((said : List Said) × answers.AnswersLeave self.old (words_of text.now) said self.new
             × (out.new.items ≡ out.old.items ++ said)) }
     {
         let name = first_word(text);
         if name.word.is_empty() || !first_word(name.rest).word.is_empty() {
-            return put_refusal(out, &self.names, b"", Refusal::Command);
+            return say(out, Said::Refused(Refusal::Command));
         }
         match self.job_of(name.word) {
             Some(p) => self.leave(out, p),
-            None => put_refusal(out, &self.names, text, Refusal::NoJob(0)),
+            None => say(out, Said::Refused(Refusal::NoJob(0))),
         }
     }
 
     /// Takes back all that a slot holds, frees it and its name, and serves the queue.
-    fn leave(&mut self, out: &mut Vec<u8>, p: usize) -> Result<(), NoMemory>
+    fn leave(&mut self, out: &mut Vec<Said>, p: usize) -> Result<(), NoMemory>
         requires { p < processes self.old.bank.state }
-        ensures { OnOk result ((said : List ℕ) × ServesQueue (answers.desk_left self.old p) said self.new
+        ensures { OnOk result ((said : List Said) × ServesQueue (answers.desk_left self.old p) said self.new
             × (out.new.items ≡ out.old.items ++ said)) }
     {
         // Called for its contract alone, which the proof needs.

@@ -1,17 +1,19 @@
 //! Another claim of a job.
 
-ghost use Rattle.std.specs.Prelude.{◌≡◌, ◌<◌, ◌≤◌, ◌++◌, ◌∷◌, [], ℕ, List, OnOk, IfNone};
+ghost use Rattle.std.specs.Prelude.{◌≡◌, ◌<◌, ◌≤◌, ◌++◌, List, OnOk, IfNone};
 ghost use Rattle.pb_base.specs.Banker.{processes, resources, capital, loan};
 ghost use Rattle.pb_banker.specs.Jobs.{HasJob};
 ghost use Rattle.pb_bank.specs.Claims as claims;
 ghost use Rattle.pb_bank.specs.Desks.{IsRequestOf};
 ghost use Rattle.pb_bank.specs.Words.{words_of};
+ghost use Rattle.pb_bank.specs.declared.said.Said.{Said};
 
 use crate::desk::Desk;
-use crate::refusal::{Refusal, put_refusal};
+use crate::reason::jobs_of;
+use crate::refusal::Refusal;
 use crate::request::Request;
-use crate::texts::put_reason;
-use pb_banker::{ClaimSaid, Reason};
+use crate::said::{Said, say};
+use pb_banker::ClaimSaid;
 use pb_base::{Bundle, NoMemory, Pair};
 use std::mem;
 
@@ -63,14 +65,14 @@ impl Desk {
         None
     }
 
-    /// Changes the claim of a job if the state with it is safe, and serves the queue; or appends why not to `out`.
-    fn change_claim(&mut self, out: &mut Vec<u8>, job: usize, pair: Pair) -> Result<(), NoMemory>
+    /// Changes the claim of a job if the state with it is safe, and serves the queue; or says why not.
+    fn change_claim(&mut self, out: &mut Vec<Said>, job: usize, pair: Pair) -> Result<(), NoMemory>
         requires job { HasJob self.old.bank job }
         requires row { job < processes self.old.bank.state }
         requires resource { pair.resource < resources self.old.bank.state }
         requires held { loan self.old.bank.state job pair.resource ≤ pair.amount }
         requires within { pair.amount ≤ capital self.old.bank.state pair.resource }
-        ensures { OnOk result ((said : List ℕ) × claims.AsksForClaim self.old job pair said self.new
+        ensures { OnOk result ((said : List Said) × claims.AsksForClaim self.old job pair said self.new
             × (out.new.items ≡ out.old.items ++ said)) }
     {
         match self
@@ -81,50 +83,48 @@ impl Desk {
                 let wishes = mem::replace(&mut self.wishes, Vec::new(self.alloc));
                 self.serve(out, wishes)
             }
-            ClaimSaid::Rest(slots) => {
-                put_reason(out, b"", &self.names, &self.bank, &Reason::Rest(slots))
-            }
+            ClaimSaid::Rest(slots) => { say(out, Said::WaitRest(jobs_of(&self.bank, &slots))) }
         }
     }
 
     /// Changes the claim of a job, if it is in its range; or refuses it.
-    fn set_claim(&mut self, out: &mut Vec<u8>, job: usize, pair: Pair) -> Result<(), NoMemory>
+    fn set_claim(&mut self, out: &mut Vec<Said>, job: usize, pair: Pair) -> Result<(), NoMemory>
         requires job { HasJob self.old.bank job }
         requires row { job < processes self.old.bank.state }
         requires resource { pair.resource < resources self.old.bank.state }
-        ensures { OnOk result ((said : List ℕ)
+        ensures { OnOk result ((said : List Said)
             × claims.SetsClaim (claims.claim_refusal self.old job pair) self.old job pair said self.new
             × (out.new.items ≡ out.old.items ++ said)) }
     {
         match self.claim_refusal(job, pair) {
-            Some(refusal) => put_refusal(out, &self.names, b"", refusal),
+            Some(refusal) => say(out, Said::Refused(refusal)),
             None => self.change_claim(out, job, pair),
         }
     }
 
     /// Changes the claim that a request names, if it names one.
-    fn claim(&mut self, out: &mut Vec<u8>, request: &Request) -> Result<(), NoMemory>
+    fn claim(&mut self, out: &mut Vec<Said>, request: &Request) -> Result<(), NoMemory>
         requires of { IsRequestOf self.old.bank request.now }
         requires has { HasJob self.old.bank request.now.job }
-        ensures { OnOk result ((said : List ℕ)
+        ensures { OnOk result ((said : List Said)
             × claims.SetsClaims self.old request.now.job request.now.bundle said self.new
             × (out.new.items ≡ out.old.items ++ said)) }
     {
         if request.bundle.len() == 1 {
             self.set_claim(out, request.job, request.bundle.get(0))
         } else {
-            put_refusal(out, &self.names, b"", Refusal::Command)
+            say(out, Said::Refused(Refusal::Command))
         }
     }
 
     /// Changes the claim of a job, or refuses it.
-    pub(crate) fn say_claim(&mut self, out: &mut Vec<u8>, text: &[u8]) -> Result<(), NoMemory>
-        ensures { OnOk result ((said : List ℕ) × claims.AnswersClaim self.old (words_of text.now) said self.new
+    pub(crate) fn say_claim(&mut self, out: &mut Vec<Said>, text: &[u8]) -> Result<(), NoMemory>
+        ensures { OnOk result ((said : List Said) × claims.AnswersClaim self.old (words_of text.now) said self.new
             × (out.new.items ≡ out.old.items ++ said)) }
     {
         match self.request_of(text) {
             Ok(request) => self.claim(out, &request),
-            Err(refusal) => put_refusal(out, &self.names, text, refusal),
+            Err(refusal) => say(out, Said::Refused(refusal)),
         }
     }
 }

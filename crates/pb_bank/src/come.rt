@@ -1,15 +1,17 @@
 //! Resources, and jobs that join.
 
-ghost use Rattle.std.specs.Prelude.{◌≡◌, ◌++◌, ◌<◌, ◌≤◌, ◌∷◌, [], ℕ, List, length, All, OnOk, IfOk, OnErr, take, map, option_map, replicate};
+ghost use Rattle.std.specs.Prelude.{◌≡◌, ◌++◌, ◌<◌, ◌≤◌, ◌∷◌, [], List, length, All, OnOk, IfOk, OnErr, take, map, option_map, replicate};
 ghost use Rattle.pb_base.specs.Banker.{processes, resources, capital};
 ghost use Rattle.pb_base.specs.Lines.{names_view};
 ghost use Rattle.pb_bank.specs.Answers as answers;
 ghost use Rattle.pb_bank.specs.Requests.{pairs_of};
 ghost use Rattle.pb_bank.specs.Words.{words_of, amount_of};
+ghost use Rattle.pb_bank.specs.declared.said.Said.{Said};
 
 use crate::desk::Desk;
-use crate::refusal::{Refusal, put_refusal};
+use crate::refusal::Refusal;
 use crate::request::bundle_of;
+use crate::said::{Said, say};
 use crate::words::{amount_of, first_word, is_name, place_of, two_words};
 use pb_banker::{Bank, Joined};
 use pb_base::limits::{MAX_AMOUNT, MAX_RESOURCES};
@@ -97,23 +99,23 @@ impl Desk {
     }
 
     /// Adds a resource, or refuses it.
-    pub(crate) fn say_resource(&mut self, out: &mut Vec<u8>, text: &[u8]) -> Result<(), NoMemory>
-        ensures { OnOk result ((said : List ℕ) × answers.AnswersResource self.old (words_of text.now) said self.new
+    pub(crate) fn say_resource(&mut self, out: &mut Vec<Said>, text: &[u8]) -> Result<(), NoMemory>
+        ensures { OnOk result ((said : List Said) × answers.AnswersResource self.old (words_of text.now) said self.new
             × (out.new.items ≡ out.old.items ++ said)) }
     {
         let Some(words) = two_words(text) else {
-            return put_refusal(out, &self.names, b"", Refusal::Command);
+            return say(out, Said::Refused(Refusal::Command));
         };
         if !first_word(words.rest).word.is_empty() {
-            return put_refusal(out, &self.names, b"", Refusal::Command);
+            return say(out, Said::Refused(Refusal::Command));
         }
         let amount = amount_of(words.second);
         if let Some(refusal) = self.resource_refusal(words.first, amount) {
-            return put_refusal(out, &self.names, text, refusal);
+            return say(out, Said::Refused(refusal));
         }
         match amount {
             Some(amount) => self.add_resource(words.first, amount),
-            None => put_refusal(out, &self.names, text, Refusal::Amount(1)),
+            None => say(out, Said::Refused(Refusal::Amount(1))),
         }
     }
 
@@ -133,16 +135,10 @@ impl Desk {
         bundle_of(&self.names.resources, text)
     }
 
-    /// Has a job of this name join, and serves the queue; or refuses the command with this text after it.
-    fn join(
-        &mut self,
-        out: &mut Vec<u8>,
-        text: &[u8],
-        name: &[u8],
-        bundle: &Bundle,
-    ) -> Result<(), NoMemory>
+    /// Has a job of this name join, and serves the queue; or is refused.
+    fn join(&mut self, out: &mut Vec<Said>, name: &[u8], bundle: &Bundle) -> Result<(), NoMemory>
         requires { All (λ pair. pair.resource < resources self.old.bank.state) bundle.now }
-        ensures { OnOk result ((said : List ℕ) × answers.JoinsWith self.old (words_of text.now) name.now bundle.now said self.new
+        ensures { OnOk result ((said : List Said) × answers.JoinsWith self.old name.now bundle.now said self.new
             × (out.new.items ≡ out.old.items ++ said)) }
     {
         let resources = self.bank.resources();
@@ -154,23 +150,23 @@ impl Desk {
                 self.names.processes[p] = name;
                 self.serve(out, wishes)
             }
-            Joined::OverCapital(r) => put_refusal(out, &self.names, text, Refusal::OverCapital(r)),
-            Joined::Full => put_refusal(out, &self.names, text, Refusal::Full),
+            Joined::OverCapital(r) => say(out, Said::Refused(Refusal::OverCapital(r))),
+            Joined::Full => say(out, Said::Refused(Refusal::Full)),
         }
     }
 
     /// Has a job join, or refuses it.
-    pub(crate) fn say_job(&mut self, out: &mut Vec<u8>, text: &[u8]) -> Result<(), NoMemory>
-        ensures { OnOk result ((said : List ℕ) × answers.AnswersJob self.old (words_of text.now) said self.new
+    pub(crate) fn say_job(&mut self, out: &mut Vec<Said>, text: &[u8]) -> Result<(), NoMemory>
+        ensures { OnOk result ((said : List Said) × answers.AnswersJob self.old (words_of text.now) said self.new
             × (out.new.items ≡ out.old.items ++ said)) }
     {
         let name = first_word(text);
         if name.word.is_empty() {
-            return put_refusal(out, &self.names, b"", Refusal::Command);
+            return say(out, Said::Refused(Refusal::Command));
         }
         match self.claims_for(name.word, name.rest) {
-            Ok(bundle) => self.join(out, text, name.word, &bundle),
-            Err(refusal) => put_refusal(out, &self.names, text, refusal),
+            Ok(bundle) => self.join(out, name.word, &bundle),
+            Err(refusal) => say(out, Said::Refused(refusal)),
         }
     }
 }

@@ -78,6 +78,13 @@ impl Desk {
         self.wishes.len()
     }
 
+    /// Returns the names of jobs and resources.
+    pub fn names(&self) -> &Names
+        ensures { names_view result.now ≡ self.now.names }
+    {
+        &self.names
+    }
+
     /// Returns the slot of the job of this name.
     pub(crate) fn job_of(&self, word: &[u8]) -> Option<usize>
         ensures job { result ≡ job_of self.now word.now }

@@ -1,97 +1,67 @@
 //! Orders in which jobs finish.
 
-ghost use Rattle.std.specs.Prelude.{◌≡◌, ◌<◌, ◌++◌, ℕ, List, Ok, Err, length, All, IfOk, IfErr, OnOk};
-ghost use Rattle.pb_base.specs.Lines.{names_view, name_of};
+ghost use Rattle.std.specs.Prelude.{◌≡◌, ◌<◌, ◌≤◌, ◌+◌, ◌++◌, List, Ok, Err, length, All, IfOk, IfErr, OnOk};
 ghost use Rattle.pb_bank.specs.Answers as answers;
 ghost use Rattle.pb_bank.specs.Words.{words_of};
+ghost use Rattle.pb_bank.specs.declared.said.Said.{Said};
 
 use crate::desk::Desk;
-use crate::refusal::{Refusal, put_refusal};
-use crate::texts::end_name;
+use crate::refusal::Refusal;
+use crate::said::{Said, say};
+use crate::slots::Slots;
 use crate::words::first_word;
 use pb_banker::{Bank, OrderSaid};
+use pb_base::NoMemory;
 use pb_base::limits::MAX_PROCESSES;
-use pb_base::writing::{put, put_line, put_name};
-use pb_base::{Names, NoMemory};
 
-/// Appends the name of the job of a slot to `out`, if a job has it.
-fn put_slot_name(out: &mut Vec<u8>, names: &Names, bank: &Bank, p: usize) -> Result<(), NoMemory>
+/// Adds a slot, if a job has it.
+fn add_slot(slots: &mut Slots, bank: &Bank, p: u8)
     requires slot { p < MAX_PROCESSES }
-    requires names { length (names_view names.now).processes ≡ MAX_PROCESSES }
-    ensures { OnOk result (out.new.items ≡ out.old.items ++ answers.slot_text (names_view names.now) bank.now.used p) }
+    requires room { length slots.old < MAX_PROCESSES }
+    ensures slots { slots.new ≡ slots.old ++ answers.slot_if_in bank.now.used p }
+    ensures few { length slots.new ≤ length slots.old + 1 }
 {
-    if bank.has_job(p) {
-        put_name(out, b" ", names.processes[p].as_slice())
-    } else {
-        Ok(())
+    if bank.has_job(p as usize) {
+        slots.push(p);
     }
 }
 
-/// Appends the names of the jobs of an order to `out`.
-fn put_order(out: &mut Vec<u8>, names: &Names, bank: &Bank, order: &[u8]) -> Result<(), NoMemory>
+/// Returns the slots of an order that jobs have.
+fn order_slots(bank: &Bank, order: &[u8]) -> Slots
     requires slots { All (λ p. p < MAX_PROCESSES) order.now }
-    requires names { length (names_view names.now).processes ≡ MAX_PROCESSES }
-    ensures { OnOk result (out.new.items
-        ≡ out.old.items ++ answers.order_text (names_view names.now) bank.now.used order.now) }
+    requires few { length order.now ≤ MAX_PROCESSES }
+    ensures { result ≡ answers.order_slots bank.now.used order.now }
 {
+    let mut slots = Slots::new();
     for k in 0..order.len() {
-        put_slot_name(out, names, bank, order[k] as usize)?;
+        add_slot(&mut slots, bank, order[k]);
     }
-    Ok(())
+    slots
 }
 
-/// Appends words and the name of a slot to `out`, which is empty if there is no such slot.
-fn put_job(out: &mut Vec<u8>, words: &[u8], names: &Names, p: usize) -> Result<(), NoMemory>
-    ensures { OnOk result (out.new.items ≡ out.old.items ++ (words.now ++ name_of (names_view names.now).processes p)) }
-{
-    if p < names.processes.len() {
-        put_name(out, words, names.processes[p].as_slice())
-    } else {
-        put(out, words)
-    }
-}
-
-/// Appends the line of what is said of an order to `out`.
-fn put_order_said(
-    out: &mut Vec<u8>,
-    names: &Names,
-    text: &[u8],
-    slots: &[u8],
-    said: OrderSaid,
-) -> Result<(), NoMemory>
-    requires { answers.IsAmong (length slots.now) (length (names_view names.now).resources) said }
-    ensures { OnOk result (out.new.items
-        ≡ out.old.items ++ answers.order_line (names_view names.now) (words_of text.now) slots.now said) }
+/// Returns what is said of an order.
+fn finish_order_said(slots: &[u8], said: OrderSaid) -> Said
+    requires { answers.IsAmong (length slots.now) said }
+    ensures { result ≡ answers.finish_order_said slots.now said }
 {
     match said {
-        OrderSaid::Finishing => put_line(out, b"finishes"),
-        OrderSaid::NoJob(k) => put_refusal(out, names, text, Refusal::NoJob(k)),
-        OrderSaid::Twice(k) => {
-            put_job(out, b"twice ", names, slots[k] as usize)?;
-            put(out, b"\n")
-        }
-        OrderSaid::Lacks(k, r) => {
-            put_job(out, b"lacks ", names, slots[k] as usize)?;
-            end_name(out, b" ", names.resources[r].as_slice())
-        }
-        OrderSaid::Missing(p) => {
-            put_job(out, b"missing ", names, p)?;
-            put(out, b"\n")
-        }
+        OrderSaid::Finishing => Said::Finishes,
+        OrderSaid::NoJob(k) => Said::Refused(Refusal::NoJob(k)),
+        OrderSaid::Twice(k) => Said::Twice(slots[k] as usize),
+        OrderSaid::Lacks(k, r) => Said::Lacks(slots[k] as usize, r),
+        OrderSaid::Missing(p) => Said::Missing(p),
     }
 }
 
 impl Desk {
-    /// Appends the order in which each next job is the first that fits to `out`.
-    fn tell_order(&self, out: &mut Vec<u8>) -> Result<(), NoMemory>
-        ensures { OnOk result ((said : List ℕ) × answers.TellsOrder self.now said self.now
+    /// Says the order in which each next job is the first that fits.
+    fn tell_order(&self, out: &mut Vec<Said>) -> Result<(), NoMemory>
+        ensures { OnOk result ((said : List Said) × answers.TellsOrder self.now said self.now
             × (out.new.items ≡ out.old.items ++ said)) }
     {
         let order = self.bank.order();
         let slots = self.bank.slots();
-        put(out, b"order")?;
-        put_order(out, &self.names, &self.bank, &order[..slots])?;
-        put(out, b"\n")
+        say(out, Said::Order(order_slots(&self.bank, &order[..slots])))
     }
 
     /// Returns the slots of the jobs that words name, or the first word that names none.
@@ -116,28 +86,28 @@ impl Desk {
         }
     }
 
-    /// Appends whether all jobs finish in an order of slots to `out`, and why not.
-    fn tell_whether(&self, out: &mut Vec<u8>, text: &[u8], slots: &[u8]) -> Result<(), NoMemory>
+    /// Says whether all jobs finish in an order of slots, and why not.
+    fn tell_whether(&self, out: &mut Vec<Said>, slots: &[u8]) -> Result<(), NoMemory>
         requires { All (λ p. p < MAX_PROCESSES) slots.now }
-        ensures { OnOk result ((said : List ℕ) × answers.SaysWhether self.now (words_of text.now) slots.now said self.now
+        ensures { OnOk result ((said : List Said) × answers.SaysWhether self.now slots.now said self.now
             × (out.new.items ≡ out.old.items ++ said)) }
     {
         let said = self.bank.check_order(slots);
-        put_order_said(out, &self.names, text, slots, said)
+        say(out, finish_order_said(slots, said))
     }
 
-    /// Appends an order in which all jobs finish to `out`, or what is said of the order that words name.
+    /// Says an order in which all jobs finish, or what is to be said of the order that words name.
     #[tactic(auto, using(crate::proofs::WordLemmas::before_some, crate::proofs::WordLemmas::before_none))]
-    pub(crate) fn say_order(&self, out: &mut Vec<u8>, text: &[u8]) -> Result<(), NoMemory>
-        ensures { OnOk result ((said : List ℕ) × answers.AnswersOrder self.now (words_of text.now) said self.now
+    pub(crate) fn say_order(&self, out: &mut Vec<Said>, text: &[u8]) -> Result<(), NoMemory>
+        ensures { OnOk result ((said : List Said) × answers.AnswersOrder self.now (words_of text.now) said self.now
             × (out.new.items ≡ out.old.items ++ said)) }
     {
         if first_word(text).word.is_empty() {
             return self.tell_order(out);
         }
         match self.slots_of(text)? {
-            Ok(slots) => self.tell_whether(out, text, &slots),
-            Err(refusal) => put_refusal(out, &self.names, text, refusal),
+            Ok(slots) => self.tell_whether(out, &slots),
+            Err(refusal) => say(out, Said::Refused(refusal)),
         }
     }
 }

@@ -1,13 +1,15 @@
 //! Why a command is refused.
 
-ghost use Rattle.std.specs.Prelude.{◌≡◌, ◌++◌, ℕ, List, OnOk, map};
-ghost use Rattle.pb_base.specs.Lines.{name_of, names_view};
-ghost use Rattle.pb_bank.specs.Refusals as said;
+ghost use Rattle.std.specs.Prelude.{◌≡◌, ◌++◌, OnOk, map};
+ghost use Rattle.pb_base.specs.Lines.{names_view};
+ghost use Rattle.pb_bank.specs.Sayings.{refusal_about};
+ghost use Rattle.pb_bank.specs.Tables as said;
 ghost use Rattle.pb_bank.specs.Words as spec;
 ghost use Rattle.pb_bank.specs.Words.{words_of};
 
+use crate::lines::name_at;
 use crate::words::nth_word;
-use pb_base::writing::put;
+use pb_base::writing::{put, put_name};
 use pb_base::{Names, NoMemory};
 
 /// Why a command is refused. It changes nothing then. Words are counted from 0 after the command.
@@ -69,49 +71,60 @@ fn put_word(out: &mut Vec<u8>, text: &[u8], at: usize) -> Result<(), NoMemory>
     put_shown(out, nth_word(text, at))
 }
 
-/// Appends the name of a resource to `out`, which is empty if there is no such resource.
-fn put_resource(out: &mut Vec<u8>, names: &Names, r: usize) -> Result<(), NoMemory>
-    ensures { OnOk result (out.new.items ≡ out.old.items ++ name_of (names_view names.now).resources r) }
+/// Returns the code of a refusal.
+pub(crate) fn code_of(refusal: Refusal) -> &'static [u8]
+    ensures { result.now ≡ said.refusal_code refusal }
 {
-    if r < names.resources.len() {
-        put(out, names.resources[r].as_slice())
-    } else {
-        Ok(())
+    match refusal {
+        Refusal::Command | Refusal::NoComma(_) => b"B1",
+        Refusal::Amount(_) => b"B2",
+        Refusal::Name => b"B3",
+        Refusal::NoResource(_) => b"B4",
+        Refusal::NoJob(_) => b"B5",
+        Refusal::Twice(_) => b"B6",
+        Refusal::Taken => b"B7",
+        Refusal::Late => b"B8",
+        Refusal::Full => b"B9",
+        Refusal::OverCapital(_) => b"B10",
+        Refusal::NotHeld(_) => b"B11",
+        Refusal::HasWish => b"B12",
+        Refusal::NoWish => b"B13",
+        Refusal::InUse(_) => b"B14",
     }
 }
 
 /// Appends the words of a refusal to `out`, before what it is about.
-fn put_words(out: &mut Vec<u8>, refusal: Refusal) -> Result<(), NoMemory>
+pub(crate) fn put_words(out: &mut Vec<u8>, refusal: Refusal) -> Result<(), NoMemory>
     ensures { OnOk result (out.new.items ≡ out.old.items ++ said.refusal_words refusal) }
 {
     match refusal {
-        Refusal::Command => put(out, b"refused B1 not a command"),
-        Refusal::NoComma(_) => put(out, b"refused B1 not a command: a comma is missing before "),
-        Refusal::Amount(_) => put(out, b"refused B2 an amount is not in 0..=1000000: "),
-        Refusal::Name => put(out, b"refused B3 not a name of 1 to 32 bytes"),
-        Refusal::NoResource(_) => put(out, b"refused B4 no such resource: "),
-        Refusal::NoJob(_) => put(out, b"refused B5 no such job: "),
-        Refusal::Twice(_) => put(out, b"refused B6 a resource is named twice: "),
-        Refusal::Taken => put(out, b"refused B7 the name is taken: "),
-        Refusal::Late => put(out, b"refused B8 a job was there before the resource"),
-        Refusal::Full => put(out, b"refused B9 there are as many as there can be: "),
-        Refusal::OverCapital(_) => put(out, b"refused B10 a claim is over the capital: "),
-        Refusal::NotHeld(_) => put(out, b"refused B11 the job does not hold as much: "),
-        Refusal::HasWish => put(out, b"refused B12 the job has a wish in the queue: "),
-        Refusal::NoWish => put(out, b"refused B13 the job has no wish in the queue: "),
-        Refusal::InUse(_) => put(out, b"refused B14 the job holds or waits for more: "),
+        Refusal::Command => put(out, b"not a command"),
+        Refusal::NoComma(_) => put(out, b"not a command: a comma is missing before "),
+        Refusal::Amount(_) => put(out, b"an amount is not in 0..=1000000: "),
+        Refusal::Name => put(out, b"not a name of 1 to 32 bytes"),
+        Refusal::NoResource(_) => put(out, b"no such resource: "),
+        Refusal::NoJob(_) => put(out, b"no such job: "),
+        Refusal::Twice(_) => put(out, b"a resource is named twice: "),
+        Refusal::Taken => put(out, b"the name is taken: "),
+        Refusal::Late => put(out, b"a job was there before the resource"),
+        Refusal::Full => put(out, b"there are as many as there can be: "),
+        Refusal::OverCapital(_) => put(out, b"a claim is over the capital: "),
+        Refusal::NotHeld(_) => put(out, b"the job does not hold as much: "),
+        Refusal::HasWish => put(out, b"the job has a wish in the queue: "),
+        Refusal::NoWish => put(out, b"the job has no wish in the queue: "),
+        Refusal::InUse(_) => put(out, b"the job holds or waits for more: "),
     }
 }
 
 /// Appends what a refusal is about to `out`: of a command after which this text stands.
-fn put_about(
+pub(crate) fn put_about(
     out: &mut Vec<u8>,
     names: &Names,
     text: &[u8],
     refusal: Refusal,
 ) -> Result<(), NoMemory>
     ensures { OnOk result (out.new.items
-        ≡ out.old.items ++ said.refusal_about (names_view names.now) (words_of text.now) refusal) }
+        ≡ out.old.items ++ refusal_about (names_view names.now) (words_of text.now) refusal) }
 {
     match refusal {
         Refusal::Command | Refusal::Name | Refusal::Late => Ok(()),
@@ -121,7 +134,7 @@ fn put_about(
             put_word(out, text, 0)
         }
         Refusal::Twice(r) | Refusal::OverCapital(r) | Refusal::NotHeld(r) | Refusal::InUse(r) =>
-            put_resource(out, names, r),
+            put(out, name_at(&names.resources, r)),
     }
 }
 
@@ -133,8 +146,10 @@ pub(crate) fn put_refusal(
     refusal: Refusal,
 ) -> Result<(), NoMemory>
     ensures { OnOk result (out.new.items
-        ≡ out.old.items ++ said.refusal_text (names_view names.now) (words_of text.now) refusal) }
+        ≡ out.old.items ++ said.refusal_text (refusal_about (names_view names.now) (words_of text.now) refusal) refusal) }
 {
+    put_name(out, b"refused ", code_of(refusal))?;
+    put(out, b" ")?;
     put_words(out, refusal)?;
     put_about(out, names, text, refusal)?;
     put(out, b"\n")

@@ -1,22 +1,22 @@
 //! Wishes that join the queue, and that are taken back.
 
-ghost use Rattle.std.specs.Prelude.{◌≡◌, ◌++◌, ℕ, List, IfOk, OnOk, codes};
+ghost use Rattle.std.specs.Prelude.{◌≡◌, ◌++◌, ◌∷◌, [], List, IfOk, OnOk};
 ghost use Rattle.pb_base.specs.Banker.{IsAllowed};
-ghost use Rattle.pb_base.specs.Lines.{line};
 ghost use Rattle.pb_bank.specs.Answers as answers;
 ghost use Rattle.pb_bank.specs.Desks.{IsRequestOf};
 ghost use Rattle.pb_bank.specs.Queues as queue;
 ghost use Rattle.pb_bank.specs.Words.{words_of};
+ghost use Rattle.pb_bank.specs.declared.said.Said.{Said};
+ghost use Rattle.pb_bank.specs.declared.said.Said.TheVariants.{Queued};
 
 use crate::desk::Desk;
 use crate::queue::{has_wish, without};
-use crate::refusal::{Refusal, put_refusal};
+use crate::refusal::Refusal;
 use crate::request::Request;
-use crate::texts::end_name;
+use crate::said::{Said, say};
 use crate::words::first_word;
 use pb_banker::Reason;
 use pb_base::NoMemory;
-use pb_base::writing::put_line;
 
 impl Desk {
     /// Returns what words ask for. A job that has a wish in the queue asks for nothing else.
@@ -37,50 +37,48 @@ impl Desk {
     }
 
     /// Puts a wish that is not allowed into the queue.
-    fn queue(&mut self, out: &mut Vec<u8>, wish: Request) -> Result<(), NoMemory>
+    fn queue(&mut self, out: &mut Vec<Said>, wish: Request) -> Result<(), NoMemory>
         requires of { IsRequestOf self.old.bank wish }
         requires waits { ¬ IsAllowed self.old.bank.state wish.job wish.bundle }
         ensures wishes { OnOk result (self.new ≡ answers.with_wish self.old wish) }
-        ensures said { OnOk result (out.new.items ≡ out.old.items ++ line (codes "queued")) }
+        ensures said { OnOk result (out.new.items ≡ out.old.items ++ Queued ∷ []) }
     {
         self.wishes.push(wish)?;
-        put_line(out, b"queued")
+        say(out, Said::Queued)
     }
 
     /// Grants a wish if it is allowed; else it joins the queue, if the claim allows as much.
-    fn want(&mut self, out: &mut Vec<u8>, wish: Request) -> Result<(), NoMemory>
+    fn want(&mut self, out: &mut Vec<Said>, wish: Request) -> Result<(), NoMemory>
         requires { IsRequestOf self.old.bank wish }
-        ensures { OnOk result ((said : List ℕ) × answers.Wants self.old wish said self.new
+        ensures { OnOk result ((said : List Said) × answers.Wants self.old wish said self.new
             × (out.new.items ≡ out.old.items ++ said)) }
     {
         match self.grant(&wish) {
-            Reason::Allowed => self.tell_request(out, b"granted ", &wish),
-            Reason::OverClaim(r) => {
-                end_name(out, b"over claim ", self.names.resources[r].as_slice())
-            }
+            Reason::Allowed => say(out, Said::Granted(wish)),
+            Reason::OverClaim(r) => say(out, Said::OverClaim(r)),
             Reason::OverCash(_) | Reason::Rest(_) => self.queue(out, wish),
         }
     }
 
     /// Grants a wish if it is allowed; else it joins the queue.
-    pub(crate) fn say_want(&mut self, out: &mut Vec<u8>, text: &[u8]) -> Result<(), NoMemory>
-        ensures { OnOk result ((said : List ℕ) × answers.AnswersWant self.old (words_of text.now) said self.new
+    pub(crate) fn say_want(&mut self, out: &mut Vec<Said>, text: &[u8]) -> Result<(), NoMemory>
+        ensures { OnOk result ((said : List Said) × answers.AnswersWant self.old (words_of text.now) said self.new
             × (out.new.items ≡ out.old.items ++ said)) }
     {
         match self.asked_of(text) {
             Ok(wish) => self.want(out, wish),
-            Err(refusal) => put_refusal(out, &self.names, text, refusal),
+            Err(refusal) => say(out, Said::Refused(refusal)),
         }
     }
 
-    /// Takes the wish of a slot out of the queue, if it has one, by a command with this text after it.
-    fn drop_wish(&mut self, out: &mut Vec<u8>, text: &[u8], p: usize) -> Result<(), NoMemory>
-        ensures { OnOk result ((said : List ℕ)
-            × answers.DropsWish (queue.has_wish self.old.wishes p) self.old (words_of text.now) p said self.new
+    /// Takes the wish of a slot out of the queue, if it has one.
+    fn drop_wish(&mut self, out: &mut Vec<Said>, p: usize) -> Result<(), NoMemory>
+        ensures { OnOk result ((said : List Said)
+            × answers.DropsWish (queue.has_wish self.old.wishes p) self.old p said self.new
             × (out.new.items ≡ out.old.items ++ said)) }
     {
         if !has_wish(&self.wishes, p) {
-            return put_refusal(out, &self.names, text, Refusal::NoWish);
+            return say(out, Said::Refused(Refusal::NoWish));
         }
         let others = without(self.alloc, &self.wishes, p)?;
         self.wishes = others;
@@ -88,17 +86,17 @@ impl Desk {
     }
 
     /// Takes the wish of a job out of the queue.
-    pub(crate) fn say_drop(&mut self, out: &mut Vec<u8>, text: &[u8]) -> Result<(), NoMemory>
-        ensures { OnOk result ((said : List ℕ) × answers.AnswersDrop self.old (words_of text.now) said self.new
+    pub(crate) fn say_drop(&mut self, out: &mut Vec<Said>, text: &[u8]) -> Result<(), NoMemory>
+        ensures { OnOk result ((said : List Said) × answers.AnswersDrop self.old (words_of text.now) said self.new
             × (out.new.items ≡ out.old.items ++ said)) }
     {
         let name = first_word(text);
         if name.word.is_empty() || !first_word(name.rest).word.is_empty() {
-            return put_refusal(out, &self.names, b"", Refusal::Command);
+            return say(out, Said::Refused(Refusal::Command));
         }
         match self.job_of(name.word) {
-            Some(p) => self.drop_wish(out, text, p),
-            None => put_refusal(out, &self.names, text, Refusal::NoJob(0)),
+            Some(p) => self.drop_wish(out, p),
+            None => say(out, Said::Refused(Refusal::NoJob(0))),
         }
     }
 }

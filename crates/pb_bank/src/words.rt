@@ -5,6 +5,7 @@ ghost use Rattle.std.specs.Prelude.{true, false};
 ghost use Rattle.std.specs.Char.{is_ascii_digit};
 ghost use Rattle.std.specs.List.{list_all};
 ghost use Rattle.std.specs.Str.Parse.{digits_value};
+ghost use Rattle.pb_bank.specs.Answers as answers;
 ghost use Rattle.pb_bank.specs.Desks as desk;
 ghost use Rattle.pb_bank.specs.Words as spec;
 
@@ -111,6 +112,13 @@ pub fn first_word<'t>(text: &'t [u8]) -> Cut<'t>
 {
     let start = cut_at(text, blanks(text));
     word_at_once(start.rest)
+}
+
+/// Returns what is after the command of a line.
+pub fn after_command<'t>(line: &'t [u8]) -> &'t [u8]
+    ensures { spec.words_of result.now ≡ answers.line_words line.now }
+{
+    first_word(trimmed(line)).rest
 }
 
 /// Returns the first two words of a text.

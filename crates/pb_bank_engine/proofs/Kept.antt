@@ -5,6 +5,9 @@ use Rattle.std.proofs.lemmas.Bool.{cases_lt, lt-ltb, ne_eqb}
 use Rattle.std.proofs.lemmas.List.{take_all, take-append-le, take_more_set, length-take-le}
 use Rattle.pb_bank.specs.Answers.{AnswersLine, AnswersText, AnswersWords, first_of, rest_of}
 use Rattle.pb_bank.specs.Desks.{DeskValue, NoneIsAllowed}
+use Rattle.pb_bank.specs.Sayings.{Saying, sayings_of}
+use Rattle.pb_bank.specs.declared.said.Said.{Said}
+use Rattle.pb_bank.specs.declared.said.Said.TheVariants.{Ready}
 use Rattle.pb_bank.specs.Words.{before, cut_words, is_blank, is_skipped, kind_of, kind_within, trimmed, words_of}
 use Rattle.pb_bank.specs.declared.kind.Kind.TheVariants.{Skip, Other}
 use Rattle.pb_bank_engine.specs.Sessions.{kept, kept_with}
@@ -178,13 +181,19 @@ trim_again (x ∷ xs) =
     both (is_blank x) refl
 
 -- of a line that is too long it does not matter what is after the first word
-long_words : (s : Bool) (d : DeskValue) (ws ws' : List (List ℕ)) (said : List ℕ) (next : DeskValue)
+long_words : (s : Bool) (d : DeskValue) (ws ws' : List (List ℕ)) (said : List Saying) (next : DeskValue)
     → AnswersWords (cond s Skip Other) d ws said next → AnswersWords (cond s Skip Other) d ws' said next
 long_words true d ws ws' said next says = says
-long_words false d ws ws' said next says = says
+long_words false d ws ws' said next (all, is, told) = (
+  all,
+  is,
+  told
+      ∙ (ap (λ (l : List Said). sayings_of next.names ws (l ++ Ready ∷ [])) is.0
+      ∙ sym (ap (λ (l : List Said). sayings_of next.names ws' (l ++ Ready ∷ [])) is.0)),
+)
 
 -- what is kept has the same answer: a line of which not all is kept is too long
-pub kept_answers : (d : DeskValue) (line said : List ℕ) (next : DeskValue) → AnswersLine d (kept line) said next → AnswersLine d line said next
+pub kept_answers : (d : DeskValue) (line : List ℕ) (said : List Saying) (next : DeskValue) → AnswersLine d (kept line) said next → AnswersLine d line said next
 unfolding AnswersLine cut
 kept_answers d line said next (h, none) = (
   elim (cases_lt (length (trimmed line)) 4097) [

@@ -3,6 +3,7 @@ use Rattle.std.proofs.Common.{◌≡◌, ◌⊎◌, inl, inr, ℕ, ◌++◌, Lis
 use Rattle.std.proofs.Common.{append-nil, append_assoc, length-append, arith}
 use Rattle.std.proofs.lemmas.List.{nil_from_length}
 use Rattle.pb_bank.specs.Desks.{DeskValue}
+use Rattle.pb_bank.specs.Sayings.{Saying}
 use Rattle.pb_bank_engine.specs.Parts.{InTwo, SessionsGoOn, SessionsPart}
 use Rattle.pb_bank_engine.specs.Sessions.{Session, nothing, one_more}
 use Rattle.pb_bank_engine.proofs.LineParts.{sessions}
@@ -32,9 +33,9 @@ same_last (a ∷ xs) (b ∷ ys) x y is =
 
 -- ---- sessions
 
-in_two : (d next : DeskValue) (all : List (List ℕ)) (text : List ℕ) → Session d all text next → (lines later : List (List ℕ))
-    → all ≡ lines ++ later → InTwo d lines later text next
-in_two d next all text nothing lines later is =
+in_two : (d next : DeskValue) (all : List (List ℕ)) (said : List Saying) → Session d all said next → (lines later : List (List ℕ))
+    → all ≡ lines ++ later → InTwo d lines later said next
+in_two d next all said nothing lines later is =
     let n : 0 ≡ length (lines ++ later) = ap (λ (l : List (List ℕ)). length l) is in
     let m = length-append lines later in
     let no_lines : lines ≡ [] = nil_from_length lines (omega (arith, n, m)) in
@@ -74,7 +75,7 @@ in_two d end all whole (one_more before text mid line said next session answers)
             after =
                 subst (λ (ls : List (List ℕ)). Session two.mid ls (two.second ++ said) next) last
                 (one_more some.0 two.second mid line said next two.after answers);
-            whole = ap (λ (t : List ℕ). t ++ said) two.whole ∙ append_assoc two.first two.second said;
+            whole = ap (λ (t : List Saying). t ++ said) two.whole ∙ append_assoc two.first two.second said;
           })
     ]
 

@@ -4,6 +4,7 @@
 mod bank;
 pub mod laws;
 mod line;
+mod sayings;
 mod session;
 
 pub use bank::bank_engine;

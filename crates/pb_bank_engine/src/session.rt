@@ -2,13 +2,14 @@
 
 ghost use Rattle.std.specs.Prelude.{◌≡◌, ◌≢◌, ◌++◌, [], ℕ, List, Some, IfErr, IfSome, OnOk, OnErr};
 ghost use Rattle.pb_debug_commands.specs.Lines.{cut};
-ghost use Rattle.pb_bank.specs.Answers.{AnswersLine};
-ghost use Rattle.pb_bank_engine.specs.Sessions.{kept, Fed, FedSome, Session, SaysAll, SaysSome, SaysBefore, StopsAt, IsTold};
-ghost use Rattle.pb_bank_engine.specs.Sessions.{session_bytes, CountsBoth, CountsWrites};
+ghost use Rattle.pb_bank_engine.specs.Sessions.{kept, Fed, FedSome, SaysAll, SaysSome, SaysBefore, StopsAt, IsTold};
+ghost use Rattle.pb_bank_engine.specs.Sessions.{session_bytes, CountsBoth, CountsWrites, WritesLines};
 
 use crate::line::Line;
-use pb_bank::Desk;
+use crate::sayings::put_sayings;
+use pb_bank::{Desk, after_command};
 use pb_base::{Input, NoMemory, Output, write_all};
+use pb_voice::Form;
 use std::alloc::Global;
 
 const BLOCK: usize = 4_096;
@@ -26,15 +27,25 @@ pub enum Stop {
 fn answer_line(
     desk: &mut Desk,
     alloc: Global,
+    form: Form,
     line: &[u8],
     page: &mut Vec<u8>,
 ) -> Result<(), NoMemory>
-    ensures told { OnOk result (IsTold desk.old line.now (Some page.old.items) (Some page.new.items) desk.new) }
+    ensures told { OnOk result (IsTold form desk.old line.now (Some page.old.items) (Some page.new.items) desk.new) }
     ensures kept { OnErr result (page.new.items ≡ page.old.items) }
 {
     let mut said = Vec::new(alloc);
     desk.answer(&mut said, line)?;
-    page.extend_from_slice(&said)?;
+    let mut text = Vec::new(alloc);
+    put_sayings(
+        &mut text,
+        alloc,
+        form,
+        desk.names(),
+        after_command(line),
+        &said,
+    )?;
+    page.extend_from_slice(&text)?;
     Ok(())
 }
 
@@ -42,18 +53,19 @@ fn answer_line(
 fn feed_page(
     desk: &mut Desk,
     alloc: Global,
+    form: Form,
     line: &mut Line,
     bytes: &[u8],
     page: &mut Vec<u8>,
 ) -> Result<(), NoMemory>
     ensures fed { OnOk result ((part : List ℕ) → line.old ≡ kept part
-        → Fed desk.old part bytes.now (Some page.old.items) (Some page.new.items) line.new desk.new) }
+        → Fed form desk.old part bytes.now (Some page.old.items) (Some page.new.items) line.new desk.new) }
     ensures some { OnErr result ((part : List ℕ) → line.old ≡ kept part
-        → FedSome Stop.Memory desk.old part bytes.now (Some page.old.items) (Some page.new.items)) }
+        → FedSome form Stop.Memory desk.old part bytes.now (Some page.old.items) (Some page.new.items)) }
 {
     for i in 0..bytes.len() {
         if bytes[i] == b'\n' {
-            match answer_line(desk, alloc, line.as_slice(), page) {
+            match answer_line(desk, alloc, form, line.as_slice(), page) {
                 Ok(()) => line.clear(),
                 Err(fault) => return Err(fault),
             }
@@ -68,20 +80,21 @@ fn feed_page(
 fn feed<O: Output>(
     desk: &mut Desk,
     alloc: Global,
+    form: Form,
     line: &mut Line,
     bytes: &[u8],
     page: &mut Vec<u8>,
     output: &mut O,
 ) -> Result<(), Stop>
     ensures fed { OnOk result ((part : List ℕ) → line.old ≡ kept part
-        → Fed desk.old part bytes.now (O.written output.old) (O.written output.new) line.new desk.new) }
+        → Fed form desk.old part bytes.now (O.written output.old) (O.written output.new) line.new desk.new) }
     ensures some { IfErr result (λ e. (part : List ℕ) → line.old ≡ kept part
-        → FedSome e desk.old part bytes.now (O.written output.old) (O.written output.new)) }
+        → FedSome form e desk.old part bytes.now (O.written output.old) (O.written output.new)) }
     ensures counted { OnOk result (O.failures output.new ≡ O.failures output.old) }
     ensures fault { IfErr result (λ e. CountsWrites e (O.failures output.old) (O.failures output.new)) }
 {
     page.clear();
-    let fed = feed_page(desk, alloc, line, bytes, page);
+    let fed = feed_page(desk, alloc, form, line, bytes, page);
     let Ok(()) = write_all(output, page.as_slice()) else {
         return Err(Stop::Device);
     };
@@ -95,17 +108,18 @@ fn feed<O: Output>(
 fn tell_line<O: Output>(
     desk: &mut Desk,
     alloc: Global,
+    form: Form,
     line: &[u8],
     page: &mut Vec<u8>,
     output: &mut O,
 ) -> Result<(), Stop>
-    ensures told { OnOk result (IsTold desk.old line.now (O.written output.old) (O.written output.new) desk.new) }
-    ensures stopped { IfErr result (λ e. StopsAt e desk.old line.now (O.written output.old) (O.written output.new)) }
+    ensures told { OnOk result (IsTold form desk.old line.now (O.written output.old) (O.written output.new) desk.new) }
+    ensures stopped { IfErr result (λ e. StopsAt form e desk.old line.now (O.written output.old) (O.written output.new)) }
     ensures counted { OnOk result (O.failures output.new ≡ O.failures output.old) }
     ensures fault { IfErr result (λ e. CountsWrites e (O.failures output.old) (O.failures output.new)) }
 {
     page.clear();
-    let Ok(()) = answer_line(desk, alloc, line, page) else {
+    let Ok(()) = answer_line(desk, alloc, form, line, page) else {
         return Err(Stop::Memory);
     };
     match write_all(output, page) {
@@ -118,6 +132,7 @@ fn tell_line<O: Output>(
 fn read_lines<I: Input, O: Output>(
     desk: &mut Desk,
     alloc: Global,
+    form: Form,
     line: &mut Line,
     page: &mut Vec<u8>,
     input: &mut I,
@@ -125,11 +140,11 @@ fn read_lines<I: Input, O: Output>(
 ) -> Result<(), Stop>
     requires { line.old ≡ [] }
     ensures fed { OnOk result (IfSome (I.rest input.old) (λ bytes.
-        Fed desk.old [] (session_bytes bytes) (O.written output.old) (O.written output.new) line.new desk.new)) }
+        Fed form desk.old [] (session_bytes bytes) (O.written output.old) (O.written output.new) line.new desk.new)) }
     ensures some { IfErr result (λ e. IfSome (I.rest input.old) (λ bytes.
-        FedSome e desk.old [] (session_bytes bytes) (O.written output.old) (O.written output.new))) }
+        FedSome form e desk.old [] (session_bytes bytes) (O.written output.old) (O.written output.new))) }
     ensures answered { I.failures input.new ≢ I.failures input.old → IfSome (I.rest input.old) (λ bytes.
-        SaysBefore (λ read text. Session desk.old (cut [] read).lines text desk.new) bytes (I.rest input.new)
+        SaysBefore (λ read text. WritesLines form desk.old (cut [] read).lines text desk.new) bytes (I.rest input.new)
         (O.written output.old) (O.written output.new)) }
     ensures counted_reads { OnOk result (I.failures input.new ≡ I.failures input.old) }
     ensures counted_writes { OnOk result (O.failures output.new ≡ O.failures output.old) }
@@ -146,7 +161,7 @@ fn read_lines<I: Input, O: Output>(
         if count == 0 {
             return Ok(());
         }
-        match feed(desk, alloc, line, &block[..count], page, output) {
+        match feed(desk, alloc, form, line, &block[..count], page, output) {
             Ok(()) => left -= count,
             Err(stop) => return Err(stop),
         }
@@ -160,15 +175,16 @@ fn read_lines<I: Input, O: Output>(
 pub fn session<I: Input, O: Output>(
     desk: &mut Desk,
     alloc: Global,
+    form: Form,
     input: &mut I,
     output: &mut O,
 ) -> Result<(), Stop>
     ensures all { OnOk result (IfSome (I.rest input.old) (λ bytes.
-        SaysAll desk.old bytes (O.written output.old) (O.written output.new) desk.new)) }
+        SaysAll form desk.old bytes (O.written output.old) (O.written output.new) desk.new)) }
     ensures some { IfErr result (λ e. IfSome (I.rest input.old) (λ bytes.
-        SaysSome e desk.old bytes (O.written output.old) (O.written output.new))) }
+        SaysSome form e desk.old bytes (O.written output.old) (O.written output.new))) }
     ensures answered { I.failures input.new ≢ I.failures input.old → IfSome (I.rest input.old) (λ bytes.
-        SaysBefore (λ read text. Session desk.old (cut [] read).lines text desk.new) bytes (I.rest input.new)
+        SaysBefore (λ read text. WritesLines form desk.old (cut [] read).lines text desk.new) bytes (I.rest input.new)
         (O.written output.old) (O.written output.new)) }
     ensures counted_reads { OnOk result (I.failures input.new ≡ I.failures input.old) }
     ensures counted_writes { OnOk result (O.failures output.new ≡ O.failures output.old) }
@@ -177,7 +193,7 @@ pub fn session<I: Input, O: Output>(
 {
     let mut line = Line::new();
     let mut page = Vec::new(alloc);
-    if let Err(stop) = read_lines(desk, alloc, &mut line, &mut page, input, output) {
+    if let Err(stop) = read_lines(desk, alloc, form, &mut line, &mut page, input, output) {
         return Err(stop);
     }
     if line.as_slice().is_empty() {
@@ -185,5 +201,5 @@ pub fn session<I: Input, O: Output>(
         let _ = desk.waiting();
         return Ok(());
     }
-    tell_line(desk, alloc, line.as_slice(), &mut page, output)
+    tell_line(desk, alloc, form, line.as_slice(), &mut page, output)
 }

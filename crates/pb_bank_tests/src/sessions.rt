@@ -1,15 +1,16 @@
 //! Sessions of the command `bank`, and what is said in them.
 
-use pb_bank::Desk;
+use pb_bank::{Desk, after_command, put_line_of, put_object_of};
 use pb_bank_engine::bank_engine;
 use pb_base::{MemoryInput, MemoryOutput, NoMemory};
 use pb_command_io::Status;
+use pb_voice::Form;
 use std::alloc::Global;
 
 /// Commands, and what is said of them.
-struct Case {
-    commands: &'static [u8],
-    said: &'static [u8],
+pub struct Case {
+    pub commands: &'static [u8],
+    pub said: &'static [u8],
 }
 
 const CASES: [Case; 11] = [
@@ -68,17 +69,22 @@ const CASES: [Case; 11] = [
     },
 ];
 
-/// Returns what is said of commands, and the status.
-fn said_of(alloc: Global, commands: &[u8], room: usize) -> Option<(MemoryOutput, Status)> {
+/// Returns what is said of commands in a form, and the status.
+pub fn said_of(
+    alloc: Global,
+    form: Form,
+    commands: &[u8],
+    room: usize,
+) -> Option<(MemoryOutput, Status)> {
     let mut output = MemoryOutput::new(alloc, room).ok()?;
-    let status = bank_engine(alloc, &mut MemoryInput::new(commands), &mut output);
+    let status = bank_engine(alloc, form, &mut MemoryInput::new(commands), &mut output);
     Some((output, status))
 }
 
 #[test]
 fn sessions_are_answered(rt: HostRuntime) {
     for case in &CASES {
-        let Some((output, status)) = said_of(rt.alloc(), case.commands, 4_096) else {
+        let Some((output, status)) = said_of(rt.alloc(), Form::Lines, case.commands, 4_096) else {
             panic!(rt; "out of memory");
         };
         assert!(rt; status == Status::Done);
@@ -89,7 +95,7 @@ fn sessions_are_answered(rt: HostRuntime) {
 #[test]
 fn a_failed_write_leaves_a_first_part(rt: HostRuntime) {
     for case in &CASES {
-        let Some((output, status)) = said_of(rt.alloc(), case.commands, 10) else {
+        let Some((output, status)) = said_of(rt.alloc(), Form::Lines, case.commands, 10) else {
             panic!(rt; "out of memory");
         };
         assert!(rt; status == Status::Device || case.said.len() <= 10);
@@ -147,11 +153,32 @@ fn lines_may_be_long(rt: HostRuntime) -> Result<(), NoMemory> {
         ),
     ] {
         let commands = line_of(alloc, *first, *byte, *count, *last)?;
-        let Some((output, _)) = said_of(alloc, commands.as_slice(), 64) else {
+        let Some((output, _)) = said_of(alloc, Form::Lines, commands.as_slice(), 64) else {
             panic!(rt; "out of memory");
         };
         assert!(rt; output.as_slice() == *said);
     }
+    Ok(())
+}
+
+#[test]
+fn things_are_told(rt: HostRuntime) -> Result<(), NoMemory> {
+    let alloc = rt.alloc();
+    let mut desk = Desk::new(alloc)?;
+    let mut said = Vec::new(alloc);
+    desk.answer(&mut said, b" order p")?;
+    let mut line = Vec::new(alloc);
+    let mut object = Vec::new(alloc);
+    let words = after_command(b" order p");
+    for one in &said {
+        put_line_of(&mut line, desk.names(), words, one)?;
+        put_object_of(alloc, &mut object, desk.names(), words, one)?;
+    }
+    assert!(rt; line.as_slice() == b"refused B5 no such job: p\nready\n".as_slice());
+    assert!(rt;
+        object.as_slice()
+            == b"{\"kind\":\"refused\",\"code\":\"B5\",\"text\":\"no such job: p\"}\n{\"kind\":\"ready\"}\n".as_slice()
+    );
     Ok(())
 }
 

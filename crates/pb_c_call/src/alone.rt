@@ -2,13 +2,14 @@
 
 ghost use Rattle.std.specs.Prelude.{◌≡◌, ◌⊎◌, IfSome, None};
 ghost use Rattle.pb_command_io.specs.Answers.{Tells};
-ghost use Rattle.pb_command_io.specs.Inputs.{SaysOfInput};
+ghost use Rattle.pb_accept.specs.Claims.{SaysOfAny};
+ghost use Rattle.pb_accept.specs.Sayings.{line_of};
 ghost use Rattle.pb_engines.specs.Records.{SaysOfRecord};
 ghost use Rattle.pb_answer.specs.Calls.{CallWrites};
 ghost use Rattle.pb_options.specs.Lends.{lending_for};
 ghost use Rattle.pb_c_call.specs.Replies.{RefusesThreads};
+ghost use Rattle.pb_voice.specs.Voices.{Written};
 
-use crate::drawn::record_drawn_engine;
 use pb_accept::{write_checks, write_claims, write_emission, write_migration, write_replay};
 use pb_adapter_engine::adapter_engine;
 use pb_bank_engine::bank_engine;
@@ -16,8 +17,10 @@ use pb_base::{Input, Output};
 use pb_call::answer::refuse;
 use pb_command_io::Status;
 use pb_debug_tool::debug::debug;
-use pb_draw_engine::draw_engine;
+use pb_draw_engine::write_drawing;
+use pb_engines::write_drawn_record;
 use pb_explain::explain_engine;
+use pb_findings::write_reports;
 use pb_options::RecordOptions;
 use pb_search_engine::outcomes_engine;
 use pb_search_tool::plan::plan;
@@ -40,18 +43,32 @@ pub fn answer_alone<I: Input, O: Output>(
         ⊎ RefusesThreads words.now (O.written output.old) (O.written output.new) result }
 {
     match options(alloc, words) {
-        Ok(Options::Bank) => bank_engine(alloc, input, output),
+        Ok(Options::Bank) => bank_engine(alloc, Form::Lines, input, output),
         Ok(Options::Check(numbers)) => write_checks(alloc, Form::Lines, numbers, input, output),
         Ok(Options::Claims) => write_claims(alloc, Form::Lines, input, output),
         Ok(Options::Dap) => adapter_engine(alloc, input, output),
         Ok(Options::Debug(flags)) => debug(alloc, flags, input, output),
-        Ok(Options::Draw(options)) => draw_engine(alloc, options, input, output),
+        Ok(Options::Draw(options)) => write_drawing(alloc, Form::Lines, options, input, output),
         Ok(Options::Emit(numbers)) => write_emission(alloc, Form::Lines, numbers, input, output),
-        Ok(Options::Explain(code)) => explain_engine(alloc, code, output),
+        Ok(Options::Explain(code)) => explain_engine(alloc, Form::Lines, code, output),
+        Ok(Options::Findings(numbers)) => write_reports(alloc, numbers, input, output),
         Ok(Options::Lsp) => server_engine(alloc, input, output),
         Ok(Options::Migrate) => write_migration(alloc, Form::Lines, input, output),
-        Ok(Options::Outcomes(numbers)) => outcomes_engine(alloc, numbers, input, output),
-        Ok(Options::Plan(options, changes)) => plan(alloc, options, &changes, input, output),
+        Ok(Options::Outcomes(numbers)) => outcomes_engine(
+            alloc,
+            Form::Lines,
+            numbers,
+            input,
+            output,
+        ),
+        Ok(Options::Plan(options, changes)) => plan(
+            alloc,
+            Form::Lines,
+            options,
+            &changes,
+            input,
+            output,
+        ),
         Ok(Options::Replay(options)) => write_replay(alloc, Form::Lines, options, input, output),
         Ok(Options::Exec(numbers)) => {
             let _ = numbers;
@@ -62,7 +79,7 @@ pub fn answer_alone<I: Input, O: Output>(
             let _ = numbers;
             Status::Threads
         }
-        Ok(Options::States(options)) => states(alloc, options, input, output),
+        Ok(Options::States(options)) => states(alloc, Form::Lines, options, input, output),
         Err(fault) => refuse(alloc, Form::Lines, output, &fault),
     }
 }
@@ -74,14 +91,22 @@ fn record<I: Input, O: Output>(
     input: &mut I,
     output: &mut O,
 ) -> Status
-    ensures { IfSome (I.rest input.old) (λ bytes. Tells (SaysOfInput (SaysOfRecord (lending_for numbers.lend) numbers.run.steps numbers.seed) bytes)
+    ensures { IfSome (I.rest input.old) (λ bytes. Tells (Written line_of (SaysOfAny (SaysOfRecord (lending_for numbers.lend) numbers.run.steps numbers.seed)) bytes)
         (O.written output.old) (O.written output.new) result)
         ⊎ ((numbers.seed ≡ None) × (O.written output.new ≡ O.written output.old) × (result ≡ Status.Threads)) }
 {
     match numbers.seed {
         Some(seed) => {
             let lending = numbers.lend.lending();
-            record_drawn_engine(alloc, lending, numbers.run.steps, seed, input, output)
+            write_drawn_record(
+                alloc,
+                Form::Lines,
+                lending,
+                numbers.run.steps,
+                seed,
+                input,
+                output,
+            )
         }
         None => Status::Threads,
     }

@@ -6,8 +6,8 @@ ghost use Rattle.pb_accept.specs.Checks.{SaysOfChecks};
 ghost use Rattle.pb_accept.specs.Claims.{SaysOfAny, SaysOfClaims};
 ghost use Rattle.pb_accept.specs.Sayings.{line_of};
 ghost use Rattle.pb_c_call.specs.Replies.{IsGiven, IsNotRead, Replies, Tellings};
-ghost use Rattle.pb_plan_engine.specs.PlanLines.{SaysOfPlan};
-ghost use Rattle.pb_command_io.specs.Inputs.{SaysOfInput};
+ghost use Rattle.pb_plan_engine.specs.Plans.{SaysOfPlans};
+ghost use Rattle.pb_plan_engine.specs.Sayings as plan_sayings;
 ghost use Rattle.pb_voice.specs.Voices.{Written};
 
 use crate::alone::answer_alone;
@@ -18,7 +18,7 @@ use pb_base::{Lending, MemoryInput};
 use pb_capitals::Changes;
 use pb_command_io::Status;
 use pb_options::CheckOptions;
-use pb_plan_engine::plan_engine;
+use pb_plan_engine::write_plan;
 use pb_voice::Form;
 use std::alloc::Global;
 
@@ -92,13 +92,20 @@ pub extern "C" fn pb_claims(alloc: Global, text: &[u8], output: &mut [u8], neede
 /// banker, and gives the reply as `pb_call` does.
 #[unsafe(no_mangle)]
 pub extern "C" fn pb_plan(alloc: Global, texts: &[u8], output: &mut [u8], needed: &mut usize) -> u8
-    ensures given { IsGiven (Tellings (SaysOfInput (SaysOfPlan Lending.ByBanker [])) texts.now) output.new result needed.new }
+    ensures given { IsGiven (Tellings (Written plan_sayings.line_of (SaysOfPlans Lending.ByBanker [])) texts.now) output.new result needed.new }
     ensures no_device { result ≢ 6 }
 {
     let mut source = MemoryInput::new(texts);
     let mut reply = Kept::new(alloc);
     let none = Changes::none();
-    let status = plan_engine(alloc, Lending::ByBanker, &none, &mut source, &mut reply);
+    let status = write_plan(
+        alloc,
+        Form::Lines,
+        Lending::ByBanker,
+        &none,
+        &mut source,
+        &mut reply,
+    );
     let bytes = reply.as_slice();
     put_front(output, bytes);
     *needed = bytes.len();

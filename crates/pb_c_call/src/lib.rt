@@ -3,7 +3,6 @@
 #![tactic(auto)]
 
 mod alone;
-mod drawn;
 mod exports;
 mod reply;
 mod word;

@@ -11,6 +11,7 @@ use Rattle.pb_call.specs.Explained.{Answers, AnswersAsObjects, AnswersInJson, An
 use Rattle.pb_call.specs.Explained.IsWithout.{whole, after}
 use Rattle.pb_json_lines.specs.Dialects.{comes_live, dialect_of}
 use Rattle.pb_json_lines.specs.Live.{LiveSink, seen_by_writers}
+use Rattle.pb_voice.specs.declared.form.Form.{Form}
 use Rattle.pb_voice.specs.declared.form.Form.TheVariants.{Lines, Objects}
 use Rattle.pb_words.specs.declared.tool.Tool.{Tool}
 
@@ -29,9 +30,9 @@ no_words word [] few = whole [] (λ is. is)
 no_words word (name ∷ words) few = absurd (omega (arith, few))
 
 -- an answer that is not to be in JSON lines, and one that is, by its command itself or of its lines, as they come or at the end
-module _ (tool : Tool) (MaySay : Saying) (Leaves : AfterRead) (words : List (Bor Text)) (rest left : Option (List ℕ)) (reads_old reads_new : ℕ) (old new : LiveSink) (status : Status) where
+module _ (tool : Tool) (MaySay : Saying) (Leaves : Form → AfterRead) (words : List (Bor Text)) (rest left : Option (List ℕ)) (reads_old reads_new : ℕ) (old new : LiveSink) (status : Status) where
   pub as_it_is : (in_objects : InObjects) (json : Bool) → json ≡ false → CallWrites tool MaySay Lines words rest (seen_by_writers old) (seen_by_writers new) status
-      → CallTellsFaults tool Leaves words rest left (devices_of reads_old old) (devices_of reads_new new) status
+      → CallTellsFaults tool (Leaves Lines) words rest left (devices_of reads_old old) (devices_of reads_new new) status
       → Answers tool MaySay Leaves in_objects json words rest left reads_old reads_new old new status
   as_it_is in_objects false is writes faults = (writes, faults)
   as_it_is in_objects true is writes faults = absurd cc
@@ -43,7 +44,7 @@ module _ (tool : Tool) (MaySay : Saying) (Leaves : AfterRead) (words : List (Bor
   as_json in_objects false is answers = absurd cc
 
   pub by_itself : (itself : Bool) → itself ≡ true → CallWrites tool MaySay Objects words rest (seen_by_writers old) (seen_by_writers new) status
-      → CallTellsFaults tool Leaves words rest left (devices_of reads_old old) (devices_of reads_new new) status
+      → CallTellsFaults tool (Leaves Objects) words rest left (devices_of reads_old old) (devices_of reads_new new) status
       → AnswersAsObjects tool MaySay Leaves itself words rest left reads_old reads_new old new status
   by_itself true is writes faults = (writes, faults)
   by_itself false is writes faults = absurd cc

@@ -61,6 +61,7 @@ limit_message (option.Draw options) = large_picture
 limit_message (option.Emit numbers) = []
 limit_message (option.Exec numbers) = stopped_run
 limit_message (option.Explain code) = []
+limit_message (option.Findings numbers) = []
 limit_message option.Lsp = []
 limit_message option.Migrate = []
 limit_message (option.Outcomes numbers) = stopped_search
@@ -92,6 +93,7 @@ fault_message (option.Draw options) = []
 fault_message (option.Emit numbers) = []
 fault_message (option.Exec numbers) = faulted_code
 fault_message (option.Explain code) = []
+fault_message (option.Findings numbers) = []
 fault_message option.Lsp = []
 fault_message option.Migrate = []
 fault_message (option.Outcomes numbers) = []
@@ -156,16 +158,16 @@ devices_of reads s = record { reads = reads; writes = failures_of_writers s; wri
 
 -- an answer in JSON lines that come as the command goes on: the command writes to the output, which has begun to tell
 -- lines in these forms, and then what is left of them is told
-pub record AnswersLive (tool : Tool) (MaySay : Saying) (Leaves : AfterRead) (dialect : Dialect) (words : List (Bor Text))
+pub record AnswersLive (tool : Tool) (MaySay : Saying) (Leaves : Form → AfterRead) (dialect : Dialect) (words : List (Bor Text))
     (rest left : Option (List ℕ)) (reads_old reads_new : ℕ) (old new : LiveSink) (status : Status) : Type 0 where
   pub given : Status
   pub heard : LiveSink
   pub writes : CallWrites tool MaySay Lines words rest (seen_by_writers (begun dialect old)) (seen_by_writers heard) given
-  pub faults : CallTellsFaults tool Leaves words rest left (devices_of reads_old (begun dialect old)) (devices_of reads_new heard) given
+  pub faults : CallTellsFaults tool (Leaves Lines) words rest left (devices_of reads_old (begun dialect old)) (devices_of reads_new heard) given
   pub ended : IsEnded heard given new status
 
 -- an answer in JSON lines, by whether those of the command come as it goes on, or at its end
-abbrev pub AnswersInJson : Tool → Saying → AfterRead → (live : Bool) → (words : List (Bor Text)) → (rest left : Option (List ℕ))
+abbrev pub AnswersInJson : Tool → Saying → (Form → AfterRead) → (live : Bool) → (words : List (Bor Text)) → (rest left : Option (List ℕ))
     → (reads_old reads_new : ℕ) → (old new : LiveSink) → Status → Type 0
 AnswersInJson tool MaySay Leaves true words rest left reads_old reads_new old new status =
     AnswersLive tool MaySay Leaves (dialect_of (map (λ word. word.now) words) Done) words rest left reads_old reads_new old new status
@@ -174,14 +176,14 @@ AnswersInJson tool MaySay Leaves false words rest left reads_old reads_new old n
     × TellsFaults (devices_of reads_old old) (devices_of reads_new new) status
 
 -- the answer of a call whose command writes in this form
-abbrev pub AnswersInForm : Tool → Saying → AfterRead → Form → (words : List (Bor Text)) → (rest left : Option (List ℕ))
+abbrev pub AnswersInForm : Tool → Saying → (Form → AfterRead) → Form → (words : List (Bor Text)) → (rest left : Option (List ℕ))
     → (reads_old reads_new : ℕ) → (old new : LiveSink) → Status → Type 0
 AnswersInForm tool MaySay Leaves form words rest left reads_old reads_new old new status =
     CallWrites tool MaySay form words rest (seen_by_writers old) (seen_by_writers new) status
-    × CallTellsFaults tool Leaves words rest left (devices_of reads_old old) (devices_of reads_new new) status
+    × CallTellsFaults tool (Leaves form) words rest left (devices_of reads_old old) (devices_of reads_new new) status
 
 -- the answer of a call in JSON, by whether its command writes objects itself; if it does not, they are made of its lines
-abbrev pub AnswersAsObjects : Tool → Saying → AfterRead → (itself : Bool) → (words : List (Bor Text)) → (rest left : Option (List ℕ))
+abbrev pub AnswersAsObjects : Tool → Saying → (Form → AfterRead) → (itself : Bool) → (words : List (Bor Text)) → (rest left : Option (List ℕ))
     → (reads_old reads_new : ℕ) → (old new : LiveSink) → Status → Type 0
 AnswersAsObjects tool MaySay Leaves true words rest left reads_old reads_new old new status =
     AnswersInForm tool MaySay Leaves Objects words rest left reads_old reads_new old new status
@@ -193,7 +195,7 @@ abbrev pub InObjects : Type 0
 InObjects = List Text → Bool
 
 -- the answer of a call, in lines or in JSON
-abbrev pub Answers : Tool → Saying → AfterRead → InObjects → (json : Bool) → (words : List (Bor Text)) → (rest left : Option (List ℕ))
+abbrev pub Answers : Tool → Saying → (Form → AfterRead) → InObjects → (json : Bool) → (words : List (Bor Text)) → (rest left : Option (List ℕ))
     → (reads_old reads_new : ℕ) → (old new : LiveSink) → Status → Type 0
 Answers tool MaySay Leaves in_objects false words rest left reads_old reads_new old new status =
     AnswersInForm tool MaySay Leaves Lines words rest left reads_old reads_new old new status
@@ -202,7 +204,7 @@ Answers tool MaySay Leaves in_objects true words rest left reads_old reads_new o
 
 -- the answer of a call is on its output, in JSON lines if `--json` is the first word but for `--quiet`, and what a
 -- person is told of it on standard error; the words are read without these two
-abbrev pub AnswersAndExplains : Tool → Saying → AfterRead → InObjects → Telling → (words : List (Bor Text)) → (rest left kept : Option (List ℕ))
+abbrev pub AnswersAndExplains : Tool → Saying → (Form → AfterRead) → InObjects → Telling → (words : List (Bor Text)) → (rest left kept : Option (List ℕ))
     → (reads_old reads_new : ℕ) → (old new : LiveSink) → (error_old error_new : Devices) → Status → Type 0
 AnswersAndExplains tool MaySay Leaves in_objects TellsRefused words rest left kept reads_old reads_new old new error_old error_new status =
     (heard : List (Bor Text)) × (said : List (Bor Text)) × (json : Bool)

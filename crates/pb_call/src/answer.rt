@@ -28,7 +28,7 @@ pub fn answer<R: Threads + Wait + Sync, C: Commands, I: Input, O: Output>(
     output: &mut O,
 ) -> Status
     ensures text { CallWrites C.tool C.MaySay form words.now (I.rest input.old) (O.written output.old) (O.written output.new) result }
-    ensures faults { CallTellsFaults C.tool C.Leaves words.now (I.rest input.old) (I.rest input.new)
+    ensures faults { CallTellsFaults C.tool (C.Leaves form) words.now (I.rest input.old) (I.rest input.new)
         (record { reads = I.failures input.old; writes = O.failures output.old; written = O.written output.old })
         (record { reads = I.failures input.new; writes = O.failures output.new; written = O.written output.new })
         result }

@@ -30,9 +30,9 @@ pub trait Commands {
     /// Whether the command of some words writes its objects of JSON itself. If it does not, they are made of its lines.
     ghost in_objects: { List (List ℕ) → Bool };
 
-    /// What a command has written if a read of it fails, by the bytes that were to come before the command and after
-    /// it, and what was written before.
-    ghost Leaves: { AnyOptions → (rest left : MaybeBytes (List ℕ)) → (old new : MaybeBytes (List ℕ)) → Type 0 };
+    /// What a command has written in a form if a read of it fails, by the bytes that were to come before the command and
+    /// after it, and what was written before.
+    ghost Leaves: { AnyForm → AnyOptions → (rest left : MaybeBytes (List ℕ)) → (old new : MaybeBytes (List ℕ)) → Type 0 };
 
     /// What a person is told of bytes that a command refused.
     ghost TellsRefused: { AnyOptions → (bytes told : List ℕ) → Type 0 };
@@ -62,7 +62,7 @@ pub trait Commands {
             (record { reads = I.failures input.old; writes = O.failures output.old; written = O.written output.old })
             (record { reads = I.failures input.new; writes = O.failures output.new; written = O.written output.new })) }
         ensures read { IfSome result (λ _. I.failures input.new ≢ I.failures input.old →
-            Leaves options (I.rest input.old) (I.rest input.new) (O.written output.old) (O.written output.new)) }
+            Leaves form options (I.rest input.old) (I.rest input.new) (O.written output.old) (O.written output.new)) }
         ensures elsewhere { IfNone result (tool_for options ≢ tool) }
         ensures untouched { IfNone result ((I.failures input.new ≡ I.failures input.old)
             × (O.failures output.new ≡ O.failures output.old) × (O.written output.new ≡ O.written output.old)) };

@@ -51,6 +51,7 @@ fn fault_message(options: &Options) -> &[u8]
         | Options::Draw(_)
         | Options::Emit(_)
         | Options::Explain(_)
+        | Options::Findings(_)
         | Options::Lsp
         | Options::Migrate
         | Options::Outcomes(_)

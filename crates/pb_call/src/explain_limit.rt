@@ -50,6 +50,7 @@ fn limit_message(options: &Options) -> &[u8]
         | Options::Debug(_)
         | Options::Emit(_)
         | Options::Explain(_)
+        | Options::Findings(_)
         | Options::Lsp
         | Options::Migrate
         | Options::Plan(_, _)

@@ -142,6 +142,11 @@ dap_command = new_app (codes "dap")
 unfoldable pub lsp_command : App
 lsp_command = new_app (codes "lsp")
 
+-- `findings`: as `check`
+unfoldable pub findings_command : App
+findings_command =
+    with_rule (with_rule (new_app (codes "findings")) (number_rule (codes "heap") 1024 16777216)) (flag_rule (codes "warn"))
+
 -- a command with one subcommand more
 abbrev pub with_command : App → App → App
 with_command a sub = with_subcommand a sub.top
@@ -152,7 +157,7 @@ that_wants_command a = record a { top = record a.top { subcommand_required = tru
 
 -- the commands that look at texts
 unfoldable pub with_text_commands : App → App
-with_text_commands a = with_command (with_command (with_command a check_command) claims_command) plan_command
+with_text_commands a = with_command (with_command (with_command (with_command a check_command) claims_command) plan_command) findings_command
 
 -- the commands that make code of a text
 unfoldable pub with_code_commands : App → App

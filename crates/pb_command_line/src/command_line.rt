@@ -3,7 +3,7 @@ ghost use Rattle.std.specs.Prelude.{◌≡◌, IfOk, codes, false};
 ghost use Rattle.clap.specs.Words.{App, app_of, new_app, rule_of, with_rule};
 ghost use Rattle.clap.specs.declared.builder.command.Command.TheViews.{out-Command};
 ghost use Rattle.pb_command_line.specs.CommandLine.{IsCommand, check_command, debug_command, draw_command, emit_command};
-ghost use Rattle.pb_command_line.specs.CommandLine.{exec_command, explain_command, flag_rule, number_rule, number_rule_or};
+ghost use Rattle.pb_command_line.specs.CommandLine.{exec_command, explain_command, findings_command, flag_rule, number_rule, number_rule_or};
 ghost use Rattle.pb_command_line.specs.CommandLine.{outcomes_command, plan_command, record_command, replay_command, run_command, states_command};
 ghost use Rattle.pb_command_line.specs.CommandLine.{that_wants_command, word_rule_or, words_rule, command_line as whole, with_bank_commands, with_code_commands, with_command};
 ghost use Rattle.pb_command_line.specs.CommandLine.{with_object_commands, with_other_commands, with_pick_commands};
@@ -224,6 +224,18 @@ fn check_texts<'a>(alloc: Global) -> Result<Command<'a>, AllocError>
     with_flag(alloc, check, "warn", warn)
 }
 
+fn find_in_files<'a>(alloc: Global) -> Result<Command<'a>, AllocError>
+    ensures { IfOk result (IsCommand findings_command) }
+{
+    let about =
+        "Check files, each of which is two messages on standard input, its name and its bytes, and print what is found as JSON";
+    let findings = plain(alloc, "findings", about);
+    let heap = "Keep the syntax trees of each text in a heap of this many bytes";
+    let findings = with_given_number(alloc, findings, "heap", 1_024, 16_777_216, heap);
+    let warn = "Tell of each program what is probably a mistake in it";
+    with_flag(alloc, findings, "warn", warn)
+}
+
 fn debug_picks<'a>(alloc: Global) -> Result<Command<'a>, AllocError>
     ensures { IfOk result (IsCommand debug_command) }
 {
@@ -396,7 +408,8 @@ fn with_texts<'a>(
         "Print the claims of the program read from standard input",
     );
     let command = with_made(command, claims);
-    with_made(command, plan_of_texts(alloc))
+    let command = with_made(command, plan_of_texts(alloc));
+    with_made(command, find_in_files(alloc))
 }
 
 fn with_codes<'a>(

@@ -1,14 +1,12 @@
 -- What is said of an arm's next pick comes about when it is made.
-use Rattle.std.proofs.Common.{◌≡◌, ℕ, ◌<◌, ℤ, pos, List, [], ◌∷◌, ◌++◌, codes, length, set, get_or, Option, Some, None, option_and_then, refl, sym, ap, ◌∙◌}
+use Rattle.std.proofs.Common.{◌≡◌, ℤ, pos, List, [], ◌∷◌, ◌++◌, codes, set, get_or, Option, Some, None, option_and_then, refl, sym, ap, ◌∙◌}
 use Rattle.std.specs.Fmt.{signed_decimal}
-use Rattle.std.specs.Prelude.{slice_get, slice_index_or}
+use Rattle.std.specs.Prelude.{slice_index_or}
 use Rattle.std.proofs.lemmas.List.{get_or-set_same}
 use Rattle.pb_base.specs.Lines.{name_of}
 use Rattle.pb_base.specs.Steppers.{Effect, Prints, Silent}
-use Rattle.pb_code.specs.Code.{CodeProcess, Live, PrintTop, ProcessCode, Store, act, apply_step, step_process, thread}
-use Rattle.pb_code.specs.Whole.{ProcessLabels}
+use Rattle.pb_code.specs.Code.{CodeProcess, PrintTop, Store, act, apply_step}
 use Rattle.pb_debug_texts.specs.Does.{AssignmentsComeAbout, PrintsComeAbout, assigned_words, assigns_text, printed_words}
-use Rattle.pb_machine.specs.Turns.{IsAtInstr, with_thread}
 use Rattle.pb_machine.proofs.InstructionSteps.{stands_step}
 
 -- the integers after a step, and what it shows

@@ -1,9 +1,9 @@
 -- What an arm does by its next pick, in words.
 use Rattle.std.specs.Prelude.{◌≡◌, ℕ, zero, suc, ◌+◌, ◌<◌, ℤ, pos, Bool, true, false, not, ◌||◌, cond, List, [], ◌∷◌, ◌++◌, length, codes, Option, Some, None}
-use Rattle.std.specs.Prelude.{option_map, Result, Ok, Err, slice_get, slice_index_or}
+use Rattle.std.specs.Prelude.{Result, Ok, Err, slice_get, slice_index_or}
 use Rattle.std.specs.Fmt.{decimal, signed_decimal}
 use Rattle.pb_base.specs.Arithmetic.{apply, apply_unary, is_zero}
-use Rattle.pb_base.specs.Lines.{NameTable, each_below, line, name_of, pair_text, pick_text}
+use Rattle.pb_base.specs.Lines.{NameTable, each_below, line, name_of, pair_text}
 use Rattle.pb_base.specs.Steppers.{Bundle, Effect, Prints}
 use Rattle.pb_base.specs.declared.operators.BinaryOp.{BinaryOp}
 use Rattle.pb_base.specs.declared.operators.FaultKind.{FaultKind}
@@ -230,6 +230,25 @@ abbrev pub does_text : NameTable → (p : ℕ) → ProcessLabels → ProcessCode
 does_text names p labels code process a why = line (
     name_of names.processes p ++ codes "." ++ decimal a
     ++ does_in names p labels code process a why (thread process.threads a))
+
+-- ---- the same in words alone, for who shows the arm and its line beside them
+
+-- what an arm does by the instruction at its place, if there is one
+abbrev pub next_words_at : NameTable → (p : ℕ) → ProcessLabels → CodeProcess → (a : ℕ) → Why → Option Instr → (place : ℕ) → (stack : List ℤ)
+    → List ℕ
+next_words_at names p labels process a why None place stack = []
+next_words_at names p labels process a why (Some instr) place stack = does_words names p labels process a why instr place stack
+
+-- what an arm that stands so does: nothing, if it is not live
+abbrev pub next_words_in : NameTable → (p : ℕ) → ProcessLabels → ProcessCode → CodeProcess → (a : ℕ) → Why → Thread → List ℕ
+next_words_in names p labels code process a why Idle = []
+next_words_in names p labels code process a why (Live place stack) =
+    next_words_at names p labels process a why (slice_get code.instrs place) place stack
+next_words_in names p labels code process a why Ended = []
+
+-- `WORDS`: what arm a of process p does by its next pick
+abbrev pub next_words : NameTable → (p : ℕ) → ProcessLabels → ProcessCode → CodeProcess → (a : ℕ) → Why → List ℕ
+next_words names p labels code process a why = next_words_in names p labels code process a why (thread process.threads a)
 
 -- ---- what is said comes about
 

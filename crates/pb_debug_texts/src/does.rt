@@ -207,7 +207,7 @@ fn line_after(labels: &ProcessLabels, place: u16) -> Option<u32>
 }
 
 /// Appends what an arm does by an instruction at a place to a text.
-fn put_words(
+pub(crate) fn put_words(
     text: &mut Vec<u8>,
     of: Labelled,
     process: &Proc,
@@ -256,7 +256,7 @@ fn put_at_line(text: &mut Vec<u8>, line: Option<u32>) -> Result<(), NoMemory>
 }
 
 /// Returns the instruction at a place, if there is one.
-fn instr_at(code: &ProcessCode, place: u16) -> Option<Instr>
+pub(crate) fn instr_at(code: &ProcessCode, place: u16) -> Option<Instr>
     ensures { option_map (instr_view code.now.bundles.items) result ≡ slice_get (process_view code.now).instrs place }
 {
     code.instrs.get(usize::from(place)).copied()

@@ -6,6 +6,7 @@ mod does;
 mod fault;
 pub mod laws;
 mod listed;
+mod next;
 mod operators;
 mod source;
 mod text;
@@ -16,6 +17,7 @@ mod why;
 pub use circle::put_circle;
 pub use does::{Labelled, put_does};
 pub use fault::{put_fault, put_no_fault};
+pub use next::put_next_words;
 pub use source::put_source;
 pub use text::{
     put_at, put_event, put_help, put_loans, put_mark, put_never, put_no_event, put_not_reached,

@@ -1,5 +1,8 @@
 -- What the tool that debugs and draws says.
-use Rattle.std.specs.Prelude.{◌≡◌, ℕ, Bool, true, false, List, IfSome, Option}
+use Rattle.std.specs.Prelude.{◌≡◌, ℕ, Bool, true, false, List, [], ◌∷◌, IfSome, Option, codes}
+use Rattle.std.specs.Str.{bytes_eq}
+use Rattle.pb_accept.specs.Claims.{SaysOfAny}
+use Rattle.pb_accept.specs.Objects.{text_of}
 use Rattle.pb_adapter_engine.specs.Adapters.{AnswersMessages, SaysOfAdapter}
 use Rattle.pb_base.specs.declared.lending.Lending.{Lending}
 use Rattle.pb_command_io.specs.Inputs.{SaysOfInput}
@@ -12,6 +15,7 @@ use Rattle.pb_messages.specs.LiveInputs.{SaysOfLiveInput}
 use Rattle.pb_messages.specs.Said.{SaysToPerson}
 use Rattle.pb_messages.specs.declared.message.Reading.TheVariants.{Debugged, Replayed}
 use Rattle.pb_options.specs.Lends.{lending_for}
+use Rattle.pb_voice.specs.Voices.{Written}
 use Rattle.pb_voice.specs.declared.form.Form.{Form}
 use Rattle.pb_words.specs.declared.words.Options.{Options}
 use Rattle.pb_words.specs.declared.words.Options.TheVariants as option
@@ -21,11 +25,21 @@ abbrev pub says_of_commands : (live : Bool) → Lending → List ℕ → List �
 says_of_commands true lending = SaysOfLive lending
 says_of_commands false lending = SaysOfInput (SaysOfDebug lending)
 
--- what its commands may say of an input; they have lines alone
+-- this command tells data, and so writes objects as it writes lines
+abbrev pub is_data : (command : List ℕ) → Bool
+is_data command = bytes_eq command (codes "draw")
+
+-- whether the command of some words does; it is the word after the program's name
+abbrev pub in_objects : List (List ℕ) → Bool
+in_objects [] = false
+in_objects (name ∷ []) = false
+in_objects (name ∷ command ∷ words) = is_data command
+
+-- what its commands may say of an input in a form; the others have lines alone
 abbrev pub says : Form → Options → List ℕ → List ℕ → Status → Type 0
 says form option.Dap = SaysOfAdapter
 says form (option.Debug flags) = says_of_commands flags.live (lending_for flags.lend)
-says form (option.Draw options) = SaysOfInput (SaysOfDraw (lending_for options.lend) (size_of options))
+says form (option.Draw options) = Written (text_of form) (SaysOfAny (SaysOfDraw (lending_for options.lend) (size_of options)))
 says form _ = λ bytes text status. ⊥
 
 -- what `debug` has written when a read fails: nothing; or, if it reads the commands as they come, the answers to those

@@ -1,7 +1,7 @@
 //! What the tool does with its commands.
 
-ghost use Rattle.std.specs.Prelude.{IfOk, false};
-ghost use Rattle.pb_debug_tool.specs.Debug.{leaves, says, tells_debugged, tells_refused};
+ghost use Rattle.std.specs.Prelude.{◌≡◌, IfOk};
+ghost use Rattle.pb_debug_tool.specs.Debug.{in_objects, is_data, leaves, says, tells_debugged, tells_refused};
 ghost use Rattle.pb_options.specs.Lends.{lending_for};
 ghost use Rattle.pb_words.specs.declared.tool.Tool.TheVariants.{Debug};
 
@@ -10,7 +10,7 @@ use pb_adapter_engine::adapter_engine;
 use pb_base::{Input, NoMemory, Output};
 use pb_call::Commands;
 use pb_command_io::Status;
-use pb_draw_engine::draw_engine;
+use pb_draw_engine::write_drawing;
 use pb_messages::{Reading, live_message, message_of};
 use pb_options::DebugOptions;
 use pb_voice::Form;
@@ -28,21 +28,24 @@ impl Commands for DebugTool {
 
     ghost MaySay = { says };
 
-    ghost in_objects = { λ words. false };
+    ghost in_objects = { in_objects };
 
-    ghost Leaves = { leaves };
+    ghost Leaves = { λ form. leaves };
 
     ghost TellsRefused = { tells_refused };
 
-    fn has_objects(&self, _words: &[&str]) -> bool {
-        false
+    fn has_objects(&self, words: &[&str]) -> bool {
+        match words {
+            [_, command, ..] => tells_data(command),
+            _ => false,
+        }
     }
 
     fn answer<R: Threads + Wait + Sync, I: Input, O: Output>(
         &self,
         _rt: &R,
         alloc: Global,
-        _form: Form,
+        form: Form,
         options: Options,
         input: &mut I,
         output: &mut O,
@@ -50,7 +53,7 @@ impl Commands for DebugTool {
         match options {
             Options::Dap => Some(adapter_engine(alloc, input, output)),
             Options::Debug(flags) => Some(debug(alloc, flags, input, output)),
-            Options::Draw(options) => Some(draw_engine(alloc, options, input, output)),
+            Options::Draw(options) => Some(write_drawing(alloc, form, options, input, output)),
             _ => None,
         }
     }
@@ -71,6 +74,13 @@ impl Commands for DebugTool {
             _ => None,
         }
     }
+}
+
+/// Returns whether a command tells data, and so writes objects as it writes lines.
+fn tells_data(command: &str) -> bool
+    ensures { result ≡ is_data command.now }
+{
+    command == "draw"
 }
 
 /// Returns the message of what `debug` refused, by whether it reads the commands as they come.

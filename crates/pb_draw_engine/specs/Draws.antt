@@ -1,12 +1,14 @@
--- What `draw` says of an input, and with which status.
-use Rattle.std.specs.Prelude.{◌≡◌, ◌⊎◌, ◌<◌, ◌≤◌, ℕ, Bool, true, false, List, [], codes, length, map}
+-- What `draw` says of an input, as data, and with which status.
+use Rattle.std.specs.Prelude.{◌≡◌, ◌≢◌, ◌⊎◌, ◌<◌, ◌≤◌, ℕ, Bool, true, false, List, [], ◌∷◌, length, map}
 use Rattle.pb_base.specs.declared.lending.Lending.{Lending}
 use Rattle.pb_base.specs.Steppers.{State}
 use Rattle.pb_circles.specs.Circles.{IsCircle}
 use Rattle.pb_circles.specs.declared.link.Link.{Link}
 use Rattle.pb_code.specs.Code.{CodeProcess}
 use Rattle.pb_code.specs.Whole.{Code, ProcessLabels}
-use Rattle.pb_codegen.specs.Compiled.{IsCompiled}
+use Rattle.pb_codegen.specs.Compiled.{IsCompiled, IsRefused}
+use Rattle.pb_codegen.specs.declared.fault.CompileFault.{CompileFault}
+use Rattle.pb_codegen.specs.declared.fault.CompileFault.TheVariants as fault
 use Rattle.pb_draw.specs.Bars.{AreNested}
 use Rattle.pb_draw.specs.Drawings.{IsDrawing}
 use Rattle.pb_draw_picture.specs.Marks.{AreFromLeft}
@@ -18,15 +20,14 @@ use Rattle.pb_draw.specs.declared.drawing.Drawing.{Drawing}
 use Rattle.pb_draw_picture.specs.declared.picture.Picture.{Picture}
 use Rattle.pb_draw_picture.specs.declared.picture.Size.{Size}
 use Rattle.pb_draw_picture.specs.declared.sizes.TheConstants.{TOP}
-use Rattle.pb_base.specs.Lines.{line}
-use Rattle.pb_command_io.specs.Answers.{memory_line}
 use Rattle.pb_command_io.specs.Parts.{AreTwoParts}
-use Rattle.pb_accept.specs.Refusals.{RefusesWith}
-use Rattle.pb_accept.specs.ReplayLines.{AreReplayedBy, IsEnding, IsEndStatus, SaysOfNoPicksBy}
+use Rattle.pb_accept.specs.ReplayLines.{AreReplayedBy, IsEnding, IsEndStatus}
+use Rattle.pb_accept.specs.Replays.{SaysOfNoLines}
+use Rattle.pb_accept.specs.Sayings.{Saying, Limit, NoMemory, Refused, Text}
 use Rattle.pb_accept.specs.declared.ending.Ending.{Ending}
 use Rattle.pb_accept.specs.declared.ending.Ending.TheVariants.{Open, Over, Stuck}
 use Rattle.pb_command_io.specs.declared.status.Status.{Status}
-use Rattle.pb_command_io.specs.declared.status.Status.TheVariants.{Limit, Memory, Refused}
+use Rattle.pb_command_io.specs.declared.status.Status.TheVariants as status
 use Rattle.pb_history.specs.Entries.{Entry, picks_of}
 use Rattle.pb_options.specs.declared.options.DrawOptions.{DrawOptions}
 
@@ -62,46 +63,42 @@ is_stuck Open = false
 
 -- a text is the picture of a run that made these entries and led to this state, and the status is that of its end
 pub record IsDrawn (lending : Lending) (size : Size) (code : Code) (labels : List ProcessLabels) (entries : List Entry) (end : State CodeProcess)
-    (text : List ℕ) (status : Status) : Type 0 where
+    (text : List ℕ) (given : Status) : Type 0 where
   pub ending : Ending
   pub ends : IsEnding lending code end ending
   pub picture : IsPictured lending size code labels entries end (is_stuck ending) text
-  pub told : IsEndStatus end ending status
+  pub told : IsEndStatus end ending given
 
--- the line in place of a picture that is too large
-abbrev pub limit_text : List ℕ
-limit_text = line (codes "limit 8388608")
-
--- what is written of a picture with a status: the picture, with that status; or if it is longer than 8,388,608 bytes, a
--- line that says so
-pub data Fits (picture : List ℕ) (ended : Status) : List ℕ → Status → Type 0 where
-  whole : length picture ≤ 8388608 → Fits picture ended picture ended
-  too_large : 8388608 < length picture → Fits picture ended limit_text Limit
+-- what is said of a picture with a status: the picture, with that status; or if it is longer than 8,388,608 bytes, that
+-- this is the limit
+pub data Fits (picture : List ℕ) (ended : Status) : List Saying → Status → Type 0 where
+  whole : length picture ≤ 8388608 → Fits picture ended (Text picture ∷ []) ended
+  too_large : 8388608 < length picture → Fits picture ended (Limit 8388608 ∷ []) status.Limit
 
 -- what is said of a run that made these entries and led to this state: its picture, if that is not too large
 pub record IsShown (lending : Lending) (size : Size) (code : Code) (labels : List ProcessLabels) (entries : List Entry) (end : State CodeProcess)
-    (text : List ℕ) (status : Status) : Type 0 where
+    (said : List Saying) (given : Status) : Type 0 where
   pub picture : List ℕ
   pub ended : Status
   pub drawn : IsDrawn lending size code labels entries end picture ended
-  pub fits : Fits picture ended text status
+  pub fits : Fits picture ended said given
 
 -- what is said of the lines after an accepted text, by its code and its labels: their picks are refused under this
--- lending; or all are made, and the picture of them is written, or that it is too large
+-- lending; or all are made, and the picture of them is told, or that it is too large
 pub data SaysOfDrawnLines (lending : Lending) (size : Size) (code : Code) (labels : List ProcessLabels) (lines : List ℕ)
-    : List ℕ → Status → Type 0 where
-  not_made : (said : List ℕ) (status : Status) → SaysOfNoPicksBy lending code lines said status
-      → SaysOfDrawnLines lending size code labels lines said status
-  no_memory : SaysOfDrawnLines lending size code labels lines memory_line Memory
+    : List Saying → Status → Type 0 where
+  not_made : (said : List Saying) (given : Status) → SaysOfNoLines lending code lines said given
+      → SaysOfDrawnLines lending size code labels lines said given
+  no_memory : SaysOfDrawnLines lending size code labels lines (NoMemory ∷ []) status.Memory
   drawn : (entries : List Entry) (end : State CodeProcess) → AreReplayedBy lending code lines entries end
-      → (said : List ℕ) (status : Status) → IsShown lending size code labels entries end said status
-      → SaysOfDrawnLines lending size code labels lines said status
+      → (said : List Saying) (given : Status) → IsShown lending size code labels entries end said given
+      → SaysOfDrawnLines lending size code labels lines said given
 
 -- what is said of an input, which is a text and pick lines after it: its text is refused; or it is accepted
-pub data SaysOfDraw (lending : Lending) (size : Size) (bytes : List ℕ) : List ℕ → Status → Type 0 where
+pub data SaysOfDraw (lending : Lending) (size : Size) (bytes : List ℕ) : List Saying → Status → Type 0 where
   no_text : (text lines : List ℕ) → AreTwoParts bytes text lines
-      → (refusal : List ℕ) → RefusesWith text refusal → SaysOfDraw lending size bytes (line refusal) Refused
+      → (f : CompileFault) → f ≢ fault.Memory → IsRefused text f → SaysOfDraw lending size bytes (Refused f ∷ []) status.Refused
   with_code : (text lines : List ℕ) → AreTwoParts bytes text lines
       → (code : Code) (labels : List ProcessLabels) → IsCompiled text code labels
-      → (said : List ℕ) (status : Status) → SaysOfDrawnLines lending size code labels lines said status
-      → SaysOfDraw lending size bytes said status
+      → (said : List Saying) (given : Status) → SaysOfDrawnLines lending size code labels lines said given
+      → SaysOfDraw lending size bytes said given

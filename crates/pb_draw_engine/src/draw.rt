@@ -1,24 +1,27 @@
-//! The command `draw`, over any input and output.
+//! The command `draw`, over any input, teller and output.
 
-ghost use Rattle.std.specs.Prelude.{◌≡◌, ◌≤◌, IfOk, IfSome, length};
-ghost use Rattle.pb_draw_engine.specs.Draws.{Fits, IsDrawn, IsShown, IsSomeCircle, SaysOfDraw, SaysOfDrawnLines, is_stuck, size_of};
+ghost use Rattle.std.specs.Prelude.{◌≡◌, ◌≤◌, [], ◌∷◌, IfOk, OnErr, length};
+ghost use Rattle.pb_accept.specs.Claims.{SaysOfAny};
+ghost use Rattle.pb_accept.specs.Sayings.{NoMemory as OutOfMemory};
+ghost use Rattle.pb_draw_engine.specs.Draws.{Fits, IsDrawn, IsSomeCircle, SaysOfDraw, SaysOfDrawnLines, is_stuck, size_of};
 ghost use Rattle.pb_code.specs.View.{labels_view};
-ghost use Rattle.pb_command_io.specs.Answers.{Tells};
-ghost use Rattle.pb_command_io.specs.Faults.{TellsFaults, TellsWriteFaults};
-ghost use Rattle.pb_command_io.specs.Inputs.{SaysOfInput};
+ghost use Rattle.pb_command_io.specs.declared.status.Status.TheVariants as status;
 ghost use Rattle.pb_history.specs.Entries.{picks_of};
 ghost use Rattle.pb_history.specs.Positions.{AreEnabledBy};
 ghost use Rattle.pb_machine.specs.Views.{IsMachine, IsMachineBy, machine_view};
 ghost use Rattle.pb_options.specs.Lends.{lending_for};
+ghost use Rattle.pb_voice.specs.Held.{at};
+ghost use Rattle.pb_voice.specs.Tellings.{Answers, Ends, Speaks};
 
 use pb_accept::{
-    Ending, compile_text, end_status, ending_of, lines_refusal, make_lines_by, refuse, status_at,
+    Ending, Said, Teller, code_of_text, end_status, ending_of, make_lines_by, read_or_tell,
+    status_at, tell_fault, tell_last, tell_lines_fault,
 };
 use pb_base::limits::{MAX_INPUT, MAX_PICKS};
 use pb_base::{Input, Lending, NoMemory, Output};
 use pb_circles::{Link, find_circle};
 use pb_code::Labels;
-use pb_command_io::{Reply, Status, read_input, tell, two_parts};
+use pb_command_io::{Reply, Status, two_parts};
 use pb_draw::draw;
 use pb_draw_picture::{Size, lay_out, write_svg};
 use pb_history::Trace;
@@ -30,36 +33,32 @@ use std::alloc::Global;
 /// The most bytes of a picture.
 pub const MAX_PICTURE: usize = 8_388_608;
 
-/// What is written in place of a longer picture.
-const LIMIT_LINE: &[u8] = b"limit 8388608\n";
-
 /// Makes the picks that the pick lines after the text of the input say, from the start of the text, under
-/// whoever decides on requests, and writes a picture of that run as SVG. A line `%%` separates the text from the pick lines. If the text, a
-/// line or a pick is refused, only the refusal line is written, as by `replay`; and of a picture that would be longer than
-/// 8 MB only the line `limit 8388608`, with status `Limit`.
+/// whoever decides on requests, and tells a picture of that run as SVG. A line `%%` separates the text from the pick
+/// lines. If the text, a line or a pick is refused, only the refusal is told, as by `replay`; and of a picture that would
+/// be longer than 8 MB only that this is the limit, with status `Limit`.
 ///
 /// The status is `Deadlock` if some process has neither ended nor faulted and no pick is enabled, which the picture says
-/// too, and else `Fault` if a process faulted. After a read that failed nothing is written; after a write
-/// that failed, a prefix of the output.
-pub fn draw_engine<I: Input, O: Output>(
+/// too, and else `Fault` if a process faulted. After a read that failed nothing is told; after a write that failed, no
+/// more.
+pub fn draw_engine<I: Input, O: Output, T: Teller>(
     alloc: Global,
     options: DrawOptions,
     input: &mut I,
+    teller: &mut T,
     output: &mut O,
 ) -> Status
-    ensures text { IfSome (I.rest input.old) (λ bytes.
-        Tells (SaysOfInput (SaysOfDraw (lending_for options.lend) (size_of options)) bytes) (O.written output.old) (O.written output.new) result) }
-    ensures faults { TellsFaults
-        (record { reads = I.failures input.old; writes = O.failures output.old; written = O.written output.old })
-        (record { reads = I.failures input.new; writes = O.failures output.new; written = O.written output.new })
-        result }
+    ensures { Answers T.tells T.breaks (SaysOfAny (SaysOfDraw (lending_for options.lend) (size_of options))) (I.rest input.old)
+        (I.failures input.old) (I.failures input.new) (at O.written O.failures teller.old output.old)
+        (at O.written O.failures teller.new output.new) result }
 {
-    match read_input(alloc, input, output) {
+    match read_or_tell(alloc, input, teller, output) {
         Ok(bytes) => draw_bytes(
             alloc,
             options.lend.lending(),
             size_of(options),
-            bytes.as_slice(),
+            &bytes,
+            teller,
             output,
         ),
         Err(status) => status,
@@ -67,74 +66,93 @@ pub fn draw_engine<I: Input, O: Output>(
 }
 
 /// Draws the run of a whole input.
-fn draw_bytes<O: Output>(
+fn draw_bytes<O: Output, T: Teller>(
     alloc: Global,
     lending: Lending,
     size: Size,
     bytes: &[u8],
+    teller: &mut T,
     output: &mut O,
 ) -> Status
     requires { length bytes.now ≤ MAX_INPUT }
-    ensures text { Tells (SaysOfInput (SaysOfDraw lending size) bytes.now) (O.written output.old) (O.written output.new) result }
-    ensures faults { TellsWriteFaults (O.failures output.old) (O.failures output.new) result }
+    ensures { Speaks T.tells T.breaks (SaysOfAny (SaysOfDraw lending size) bytes.now) (at O.written O.failures teller.old output.old)
+        (at O.written O.failures teller.new output.new) result }
 {
     let (text, lines) = two_parts(bytes);
-    match compile_text(alloc, text) {
-        Ok(compiled) => draw_lines(
-            alloc,
-            lending,
-            size,
-            compiled.verified(),
-            compiled.labels(),
-            lines,
-            output,
-        ),
-        Err(refusal) => refuse(alloc, refusal, output),
+    match code_of_text(alloc, text) {
+        Ok(compiled) => {
+            let status = draw_lines(
+                alloc,
+                lending,
+                size,
+                compiled.verified(),
+                compiled.labels(),
+                lines,
+                teller,
+                output,
+            );
+            drop(compiled);
+            status
+        }
+        Err(fault) => tell_fault(teller, output, &fault),
     }
 }
 
-/// Draws the run that lines say, or writes why their picks are not made.
-fn draw_lines<O: Output>(
+/// Draws the run that lines say, or tells why their picks are not made.
+fn draw_lines<O: Output, T: Teller>(
     alloc: Global,
     lending: Lending,
     size: Size,
     verified: &Verified,
     labels: &Labels,
     lines: &[u8],
+    teller: &mut T,
     output: &mut O,
 ) -> Status
-    ensures text { Tells (SaysOfDrawnLines lending size verified.now.code (labels_view labels.now) lines.now) (O.written output.old) (O.written output.new) result }
-    ensures faults { TellsWriteFaults (O.failures output.old) (O.failures output.new) result }
+    ensures { Speaks T.tells T.breaks (SaysOfDrawnLines lending size verified.now.code (labels_view labels.now) lines.now)
+        (at O.written O.failures teller.old output.old) (at O.written O.failures teller.new output.new) result }
 {
     match make_lines_by(alloc, lending, verified, lines) {
         Ok((machine, trace)) => {
             let mut machine = machine;
-            let reply = shown(alloc, lending, size, verified, labels, &trace, &mut machine);
-            tell(alloc, reply, output)
+            let picture = drawn(alloc, lending, size, verified, labels, &trace, &mut machine);
+            tell_drawn(picture, teller, output)
         }
-        Err(fault) => tell(alloc, lines_refusal(alloc, fault), output),
+        Err(fault) => tell_lines_fault(teller, output, fault),
     }
 }
 
-/// Returns the picture of a replay, or that it is too large. If the machine could go on, a pick is made that is
-/// enabled.
-fn shown(
-    alloc: Global,
-    lending: Lending,
-    size: Size,
-    verified: &Verified,
-    labels: &Labels,
-    trace: &Trace,
-    machine: &mut Machine,
-) -> Result<Reply, NoMemory>
-    requires enabled { AreEnabledBy lending verified.now.code (picks_of trace.now.entries) }
-    requires few { length trace.now.entries ≤ MAX_PICKS }
-    requires machine { IsMachineBy lending verified.now machine.old }
-    ensures { IfOk result (λ r. IsShown lending size verified.now.code (labels_view labels.now) trace.now.entries (machine_view machine.old)
-        r.text.items r.status) }
+/// Tells a picture with its status, or out of memory.
+fn tell_drawn<O: Output, T: Teller>(
+    picture: Result<Reply, NoMemory>,
+    teller: &mut T,
+    output: &mut O,
+) -> Status
+    ensures picture { IfOk picture (λ r. Speaks T.tells T.breaks (Fits r.text.items r.status)
+        (at O.written O.failures teller.old output.old) (at O.written O.failures teller.new output.new) result) }
+    ensures memory { OnErr picture (Ends T.tells T.breaks (at O.written O.failures teller.old output.old) (OutOfMemory ∷ []) status.Memory
+        (at O.written O.failures teller.new output.new) result) }
 {
-    let reply = drawn(alloc, lending, size, verified, labels, trace, machine)?;
-    if_it_fits(alloc, reply)
+    match picture {
+        Ok(picture) => tell_if_it_fits(&picture, teller, output),
+        Err(_) => tell_last(teller, output, Said::NoMemory, Status::Memory),
+    }
+}
+
+/// Tells a picture, or of one that is too large that this is the limit.
+fn tell_if_it_fits<O: Output, T: Teller>(picture: &Reply, teller: &mut T, output: &mut O) -> Status
+    ensures { Speaks T.tells T.breaks (Fits picture.now.text.items picture.now.status) (at O.written O.failures teller.old output.old)
+        (at O.written O.failures teller.new output.new) result }
+{
+    if picture.text.len() > MAX_PICTURE {
+        return tell_last(
+            teller,
+            output,
+            Said::Limit(MAX_PICTURE as u32),
+            Status::Limit,
+        );
+    }
+    tell_last(teller, output, Said::Text(&picture.text), picture.status)
 }
 
 /// Returns the picture of a replay.
@@ -193,19 +211,6 @@ fn size_of(options: DrawOptions) -> Size
         width: options.width,
         scale: options.scale,
     }
-}
-
-/// Returns a picture, or in place of one that is too large the line that says so.
-fn if_it_fits(alloc: Global, picture: Reply) -> Result<Reply, NoMemory>
-    ensures { IfOk result (λ r. Fits picture.text.items picture.status r.text.items r.status) }
-{
-    if picture.text.len() <= MAX_PICTURE {
-        return Ok(picture);
-    }
-    Ok(Reply {
-        text: Vec::from_slice(alloc, LIMIT_LINE)?,
-        status: Status::Limit,
-    })
 }
 
 /// Returns whether a replay has ended in a deadlock.

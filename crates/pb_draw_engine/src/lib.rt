@@ -2,5 +2,7 @@
 #![tactic(auto)]
 
 mod draw;
+mod written;
 
 pub use draw::{MAX_PICTURE, draw_engine};
+pub use written::write_drawing;

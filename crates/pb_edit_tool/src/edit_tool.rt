@@ -7,6 +7,7 @@ ghost use Rattle.pb_words.specs.declared.tool.Tool.TheVariants.{Edit};
 use pb_base::{Input, NoMemory, Output};
 use pb_call::Commands;
 use pb_command_io::Status;
+use pb_findings::write_reports;
 use pb_server_engine::server_engine;
 use pb_voice::Form;
 use pb_words::Options;
@@ -14,7 +15,7 @@ use std::alloc::Global;
 use std::sync::Wait;
 use std::thread::Threads;
 
-/// The tool of the command `lsp`. It starts no threads, whatever its handle.
+/// The tool of the commands `findings` and `lsp`. It starts no threads, whatever its handle.
 #[derive(Clone, Copy, Debug)]
 pub struct EditTool;
 
@@ -25,7 +26,7 @@ impl Commands for EditTool {
 
     ghost in_objects = { λ words. false };
 
-    ghost Leaves = { leaves };
+    ghost Leaves = { λ form. leaves };
 
     ghost TellsRefused = { λ o bytes told. ⊥ };
 
@@ -43,6 +44,7 @@ impl Commands for EditTool {
         output: &mut O,
     ) -> Option<Status> {
         match options {
+            Options::Findings(numbers) => Some(write_reports(alloc, numbers, input, output)),
             Options::Lsp => Some(server_engine(alloc, input, output)),
             _ => None,
         }

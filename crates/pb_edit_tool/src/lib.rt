@@ -1,4 +1,4 @@
-//! The tool that answers `lsp`.
+//! The tool that answers `findings` and `lsp`.
 #![tactic(auto)]
 
 mod edit_tool;

@@ -4,7 +4,8 @@ use pb_base::{Lending, MemoryInput, MemoryOutput};
 use pb_capitals::changes_of;
 use pb_command_io::Status;
 use pb_options::{Lend, PlanOptions};
-use pb_plan_engine::plan_engine;
+use pb_plan_engine::write_plan;
+use pb_voice::Form;
 use pb_words::{Options, options};
 use std::alloc::Global;
 
@@ -30,7 +31,14 @@ fn is_planned(alloc: Global, changes: &[&str], wanted: &[u8], status: Status) ->
     let mut input = MemoryInput::new(TEXT);
     match MemoryOutput::new(alloc, 1_000) {
         Ok(mut output) => {
-            let ended = plan_engine(alloc, Lending::ByBanker, &changes, &mut input, &mut output);
+            let ended = write_plan(
+                alloc,
+                Form::Lines,
+                Lending::ByBanker,
+                &changes,
+                &mut input,
+                &mut output,
+            );
             ended == status && output.as_slice() == wanted
         }
         Err(_) => false,

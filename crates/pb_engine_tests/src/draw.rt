@@ -2,7 +2,7 @@
 
 use pb_base::{FaultyInput, MemoryInput, MemoryOutput};
 use pb_command_io::Status;
-use pb_draw_engine::draw_engine;
+use pb_draw_engine::write_drawing;
 use pb_engines::write_replay;
 use pb_options::{DrawOptions, Lend, ReplayOptions};
 use pb_voice::Form;
@@ -164,8 +164,9 @@ fn draws(alloc: Global, case: &Case) -> Option<bool> {
     picture.extend_from_slice(LOOKS).ok()?;
     picture.extend_from_slice(case.shapes).ok()?;
     let mut output = MemoryOutput::new(alloc, 16_384).ok()?;
-    let status = draw_engine(
+    let status = write_drawing(
         alloc,
+        Form::Lines,
         case.options,
         &mut MemoryInput::new(case.input),
         &mut output,
@@ -178,7 +179,7 @@ fn refuses(alloc: Global, refusal: &Refusal) -> Option<bool> {
     let mut drawn = MemoryOutput::new(alloc, 4_096).ok()?;
     let mut replayed = MemoryOutput::new(alloc, 4_096).ok()?;
     let mut input = MemoryInput::new(refusal.input);
-    let draw_status = draw_engine(alloc, BY_BANKER, &mut input, &mut drawn);
+    let draw_status = write_drawing(alloc, Form::Lines, BY_BANKER, &mut input, &mut drawn);
     let options = ReplayOptions { lend: Lend::Banker };
     let mut input = MemoryInput::new(refusal.input);
     let replay_status = write_replay(alloc, Form::Lines, options, &mut input, &mut replayed);
@@ -204,7 +205,13 @@ fn a_picture_is_as_large_as_is_asked(rt: HostRuntime) {
 /// Returns whether the picture of an input has these bytes in it.
 fn has(alloc: Global, input: &'static [u8], line: &[u8]) -> Option<bool> {
     let mut output = MemoryOutput::new(alloc, 65_536).ok()?;
-    let _ = draw_engine(alloc, BY_BANKER, &mut MemoryInput::new(input), &mut output);
+    let _ = write_drawing(
+        alloc,
+        Form::Lines,
+        BY_BANKER,
+        &mut MemoryInput::new(input),
+        &mut output,
+    );
     let picture = output.as_slice();
     for at in 0..picture.len() {
         if picture[at..].starts_with(line) {
@@ -263,8 +270,28 @@ const LARGE: &[u8] = b"process p begin while 1 do print 1 od end\n%%\np.0 250000
 /// Returns whether it is told that a picture is too large, and nothing else.
 fn is_too_large(alloc: Global) -> Option<bool> {
     let mut output = MemoryOutput::new(alloc, 64).ok()?;
-    let status = draw_engine(alloc, BY_BANKER, &mut MemoryInput::new(LARGE), &mut output);
+    let status = write_drawing(
+        alloc,
+        Form::Lines,
+        BY_BANKER,
+        &mut MemoryInput::new(LARGE),
+        &mut output,
+    );
     Some(status == Status::Limit && output.as_slice() == b"limit 8388608\n".as_slice())
+}
+
+/// Returns whether this is written of a picture that is too large, as an object.
+fn says_limit(alloc: Global) -> Option<bool> {
+    let mut input = MemoryInput::new(LARGE);
+    let mut output = MemoryOutput::new(alloc, 64).ok()?;
+    let status = write_drawing(alloc, Form::Objects, BY_BANKER, &mut input, &mut output);
+    let object = b"{\"kind\":\"limit\",\"limit\":8388608}\n";
+    Some(status == Status::Limit && output.as_slice() == object.as_slice())
+}
+
+#[test]
+fn the_limit_of_a_picture_is_an_object(rt: HostRuntime) {
+    assert!(rt; says_limit(rt.alloc()) == Some(true));
 }
 
 #[test]
@@ -295,7 +322,7 @@ fn refusals_are_those_of_replay(rt: HostRuntime) {
 fn says_nothing(alloc: Global) -> Option<bool> {
     let mut input = FaultyInput::new(b"process p begin print 1 end\n%%\np.0 3\n", 2, 8);
     let mut output = MemoryOutput::new(alloc, 64).ok()?;
-    let status = draw_engine(alloc, BY_BANKER, &mut input, &mut output);
+    let status = write_drawing(alloc, Form::Lines, BY_BANKER, &mut input, &mut output);
     Some(status == Status::Device && output.as_slice().is_empty())
 }
 

@@ -4,6 +4,7 @@ use pb_base::{MemoryInput, MemoryOutput};
 use pb_command_io::Status;
 use pb_options::{Lend, OutcomesOptions};
 use pb_search_engine::outcomes_engine;
+use pb_voice::Form;
 use std::alloc::Global;
 
 /// A text, whether only fair runs count, what is said of it, and the status.
@@ -84,7 +85,13 @@ fn options(fair: bool) -> OutcomesOptions {
 fn says(alloc: Global, case: &Case) -> Option<bool> {
     let mut input = MemoryInput::new(case.text);
     let mut output = MemoryOutput::new(alloc, 4_096).ok()?;
-    let status = outcomes_engine(alloc, options(case.fair), &mut input, &mut output);
+    let status = outcomes_engine(
+        alloc,
+        Form::Lines,
+        options(case.fair),
+        &mut input,
+        &mut output,
+    );
     Some(status == case.status && output.as_slice() == case.said)
 }
 

@@ -4,6 +4,7 @@ use pb_base::{FaultyInput, MemoryInput, MemoryOutput};
 use pb_command_io::Status;
 use pb_options::{Lend, OutcomesOptions};
 use pb_search_engine::outcomes_engine;
+use pb_voice::Form;
 use std::alloc::Global;
 
 /// An input, how its runs are compared, what is said, and the status.
@@ -204,7 +205,7 @@ fn options(case: &Case) -> Option<OutcomesOptions> {
 fn says(alloc: Global, case: &Case) -> Option<bool> {
     let mut input = MemoryInput::new(case.input);
     let mut output = MemoryOutput::new(alloc, 4_096).ok()?;
-    let status = outcomes_engine(alloc, options(case)?, &mut input, &mut output);
+    let status = outcomes_engine(alloc, Form::Lines, options(case)?, &mut input, &mut output);
     Some(status == case.status && output.as_slice() == case.said)
 }
 
@@ -241,7 +242,7 @@ const OTHERS: [Case; 2] = [
 fn ends_so(alloc: Global, case: &Case) -> Option<bool> {
     let mut input = MemoryInput::new(case.input);
     let mut output = MemoryOutput::new(alloc, 4_096).ok()?;
-    let status = outcomes_engine(alloc, options(case)?, &mut input, &mut output);
+    let status = outcomes_engine(alloc, Form::Lines, options(case)?, &mut input, &mut output);
     Some(status == case.status && output.as_slice().ends_with(case.said))
 }
 
@@ -272,7 +273,13 @@ fn refuses(alloc: Global, lines: &[u8]) -> Option<bool> {
     bytes.extend_from_slice(lines).ok()?;
     let mut input = MemoryInput::new(&bytes);
     let mut output = MemoryOutput::new(alloc, 4_096).ok()?;
-    let status = outcomes_engine(alloc, options(&CASES[0])?, &mut input, &mut output);
+    let status = outcomes_engine(
+        alloc,
+        Form::Lines,
+        options(&CASES[0])?,
+        &mut input,
+        &mut output,
+    );
     Some(status == Status::Refused && output.as_slice() == b"refused K1 at 0\n".as_slice())
 }
 
@@ -287,7 +294,13 @@ fn bad_lines_are_refused(rt: HostRuntime) {
 fn says_nothing(alloc: Global) -> Option<bool> {
     let mut input = FaultyInput::new(CASES[0].input, 2, 8);
     let mut output = MemoryOutput::new(alloc, 64).ok()?;
-    let status = outcomes_engine(alloc, options(&CASES[0])?, &mut input, &mut output);
+    let status = outcomes_engine(
+        alloc,
+        Form::Lines,
+        options(&CASES[0])?,
+        &mut input,
+        &mut output,
+    );
     Some(status == Status::Device && output.as_slice().is_empty())
 }
 

@@ -24,6 +24,8 @@ mod explore;
 #[cfg(test)]
 mod fair;
 #[cfg(test)]
+mod findings;
+#[cfg(test)]
 mod graph;
 #[cfg(test)]
 mod live;
@@ -31,6 +33,8 @@ mod live;
 mod messages;
 #[cfg(test)]
 mod one_run;
+#[cfg(test)]
+mod outcome_objects;
 #[cfg(test)]
 mod outcomes;
 #[cfg(test)]

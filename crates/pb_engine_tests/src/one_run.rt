@@ -4,6 +4,7 @@ use pb_base::{MemoryInput, MemoryOutput};
 use pb_command_io::Status;
 use pb_options::{Lend, OutcomesOptions};
 use pb_search_engine::outcomes_engine;
+use pb_voice::Form;
 use std::alloc::Global;
 
 /// A text, who decides on requests, whether one configuration is all that may be kept, which run is asked for, what
@@ -156,7 +157,13 @@ fn options_of(case: &Case) -> OutcomesOptions {
 fn says(alloc: Global, case: &Case) -> Option<bool> {
     let mut input = MemoryInput::new(case.text);
     let mut output = MemoryOutput::new(alloc, 4_096).ok()?;
-    let status = outcomes_engine(alloc, options_of(case), &mut input, &mut output);
+    let status = outcomes_engine(
+        alloc,
+        Form::Lines,
+        options_of(case),
+        &mut input,
+        &mut output,
+    );
     Some(status == case.status && output.as_slice() == case.said)
 }
 

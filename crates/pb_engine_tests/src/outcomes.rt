@@ -238,7 +238,7 @@ const DOCUMENT: Case = Case {
         run: Some(1),
         deadlock: None,
     },
-    said: b"{\"parbegin\":1,\"kind\":\"schedules\",\"text\":\"process p begin print 1 end\\n\",\"object\":\"PBO 2\\nresources 0\\nprocesses 1\\nprocess p\\nvars 0\\narms 1\\nclaims\\narm 0\\ncode 3\\n1 push 1\\n1 print\\n0 end\\n\",\"lend\":\"banker\",\"start\":[0,[],0,[0]],\"nodes\":[[[0,0,1,0,1,1,[1]]],[[0,0,2,0,2,1,[],\"p.0 print 1\"]],[[0,0,3,0,-2,\"p end\"]],[]],\"outcomes\":[3],\"deadlocks\":[],\"endless\":false}\n",
+    said: b"{\"parbegin\":1,\"kind\":\"schedules\",\"text\":\"process p begin print 1 end\\n\",\"object\":\"PBO 2\\nresources 0\\nprocesses 1\\nprocess p\\nvars 0\\narms 1\\nclaims\\narm 0\\ncode 3\\n1 push 1\\n1 print\\n0 end\\n\",\"lend\":\"banker\",\"start\":[0,[],0,[0],\"takes the number 1\"],\"nodes\":[[[0,0,1,0,1,1,[1],4,\"prints 1\"]],[[0,0,2,0,2,1,[],4,\"ends the process\",\"p.0 print 1\"]],[[0,0,3,0,-2,4,\"\",\"p end\"]],[]],\"outcomes\":[3],\"deadlocks\":[],\"endless\":false}\n",
     status: Status::Done,
 };
 
@@ -246,7 +246,7 @@ const DOCUMENT: Case = Case {
 fn says(alloc: Global, case: &Case) -> Option<bool> {
     let mut input = MemoryInput::new(case.text);
     let mut output = MemoryOutput::new(alloc, 4_096).ok()?;
-    let status = outcomes_engine(alloc, case.options, &mut input, &mut output);
+    let status = outcomes_engine(alloc, Form::Lines, case.options, &mut input, &mut output);
     Some(status == case.status && output.as_slice() == case.said)
 }
 
@@ -266,7 +266,7 @@ fn the_document_of_all_schedules_is_told(rt: HostRuntime) {
 fn says_nothing(alloc: Global) -> Option<bool> {
     let mut input = FaultyInput::new(LOST, 2, 8);
     let mut output = MemoryOutput::new(alloc, 64).ok()?;
-    let status = outcomes_engine(alloc, MANY, &mut input, &mut output);
+    let status = outcomes_engine(alloc, Form::Lines, MANY, &mut input, &mut output);
     Some(status == Status::Device && output.as_slice().is_empty())
 }
 

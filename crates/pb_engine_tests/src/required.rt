@@ -4,6 +4,7 @@ use pb_base::{MemoryInput, MemoryOutput};
 use pb_command_io::Status;
 use pb_options::{Lend, OutcomesOptions};
 use pb_search_engine::outcomes_engine;
+use pb_voice::Form;
 use std::alloc::Global;
 
 /// The lines after a text, how the answer begins, and the status.
@@ -142,7 +143,7 @@ fn says(alloc: Global, text: &[u8], case: &Case) -> Option<bool> {
     bytes.extend_from_slice(case.lines).ok()?;
     let mut input = MemoryInput::new(&bytes);
     let mut output = MemoryOutput::new(alloc, 4_096).ok()?;
-    let status = outcomes_engine(alloc, options(), &mut input, &mut output);
+    let status = outcomes_engine(alloc, Form::Lines, options(), &mut input, &mut output);
     Some(status == case.status && output.as_slice().starts_with(case.said))
 }
 

@@ -86,18 +86,78 @@ fn commands_that_tell_data_write_objects(rt: HostRuntime) {
             Status::Refused
         ) == Some(true)
     );
+    assert!(rt;
+        says_in(
+            &RunTool,
+            &rt,
+            Form::Objects,
+            "record",
+            refused,
+            Status::Refused
+        ) == Some(true)
+    );
+    assert!(rt;
+        says_in(
+            &DebugTool,
+            &rt,
+            Form::Objects,
+            "draw",
+            refused,
+            Status::Refused
+        ) == Some(true)
+    );
+    assert!(rt;
+        says_in(
+            &SearchTool,
+            &rt,
+            Form::Objects,
+            "states",
+            refused,
+            Status::Refused
+        ) == Some(true)
+    );
+    assert!(rt;
+        says_in(
+            &SearchTool,
+            &rt,
+            Form::Objects,
+            "plan",
+            refused,
+            Status::Refused
+        ) == Some(true)
+    );
+    assert!(rt;
+        says_in(
+            &SearchTool,
+            &rt,
+            Form::Objects,
+            "outcomes",
+            refused,
+            Status::Refused
+        ) == Some(true)
+    );
     assert!(rt; RunTool.has_objects(&["parbegin", "run"]));
+    assert!(rt; RunTool.has_objects(&["parbegin", "record"]));
+    assert!(rt; RunTool.has_objects(&["parbegin", "explain", "N3"]));
+    assert!(rt; DebugTool.has_objects(&["parbegin", "draw"]));
+    assert!(rt; SearchTool.has_objects(&["parbegin", "states"]));
     assert!(rt; RunTool.has_objects(&["parbegin", "check", "--heap=1"]));
+    assert!(rt; SearchTool.has_objects(&["parbegin", "plan"]));
+    assert!(rt; SearchTool.has_objects(&["parbegin", "outcomes", "--fair"]));
+    assert!(rt; BankTool.has_objects(&["parbegin", "bank"]));
 }
 
 #[test]
 fn other_commands_write_lines_alone(rt: HostRuntime) {
-    assert!(rt; !RunTool.has_objects(&["parbegin", "explain"]));
     assert!(rt; !RunTool.has_objects(&["run"]));
-    assert!(rt; !SearchTool.has_objects(&["parbegin", "outcomes"]));
-    assert!(rt; !BankTool.has_objects(&["parbegin", "bank"]));
-    assert!(rt; !DebugTool.has_objects(&["parbegin", "draw"]));
+    assert!(rt; !SearchTool.has_objects(&["outcomes"]));
+    assert!(rt; !SearchTool.has_objects(&["parbegin", "outcomes", "--run=1"]));
+    assert!(rt; !SearchTool.has_objects(&["parbegin", "outcomes", "--fair", "--expect"]));
+    assert!(rt; !BankTool.has_objects(&["bank"]));
+    assert!(rt; !DebugTool.has_objects(&["parbegin", "debug"]));
+    assert!(rt; !DebugTool.has_objects(&["draw"]));
     assert!(rt; !EditTool.has_objects(&["parbegin", "lsp"]));
+    assert!(rt; !EditTool.has_objects(&["parbegin", "findings"]));
 }
 
 #[test]

@@ -43,6 +43,13 @@ fn commands_have_their_defaults(rt: HostRuntime) {
         ),
         ("claims", Options::Claims),
         (
+            "findings",
+            Options::Findings(CheckOptions {
+                heap: None,
+                warn: false,
+            }),
+        ),
+        (
             "debug",
             Options::Debug(DebugOptions {
                 live: false,

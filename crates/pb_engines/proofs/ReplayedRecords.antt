@@ -1,6 +1,7 @@
 -- What was recorded can be replayed.
 use Rattle.std.proofs.Common.{◌≡◌, ◌≢◌, ◌↔◌, ℕ, zero, suc, ◌<◌, ◌≤◌, ◌⊎◌, List, [], ◌∷◌, length, length-append, take}
-use Rattle.std.proofs.Common.{Option, Some, None, refl, sym, ap, subst, ◌∙◌, inl, inr, arith}
+use Rattle.std.proofs.Common.{Option, Some, None, refl, sym, ap, subst, ◌∙◌, append-nil, inl, inr, arith}
+use Rattle.std.specs.List.{flat_map}
 use Rattle.std.specs.Prelude.{slice_get}
 use Rattle.pb_base.specs.declared.event.Event.{Event}
 use Rattle.pb_base.specs.declared.pick.Pick.{Pick}
@@ -33,10 +34,9 @@ use Rattle.pb_engines.specs.Records.{IsRecordedWith, SaysOfRecord, SaysOfRecordi
 use Rattle.pb_record.specs.Recorded.{IsRecorded}
 use Rattle.pb_engines.specs.Records.{no_threads, recorded_status, refused, too_long, written}
 use Rattle.pb_accept.specs.Causes.{lines_cause, picks_cause, stop_cause}
-use Rattle.pb_accept.specs.Refusals.{refused as by_line}
 use Rattle.pb_accept.specs.ReplayLines.{AreReplayedBy, IsEnding, IsEndStatus, IsLinesFaultBy, IsStatusAt, no_fault, some_fault}
 use Rattle.pb_accept.specs.Replays.{SaysOfEvents, SaysOfReplay, all_told, made_again, no_picks, no_text}
-use Rattle.pb_accept.specs.Sayings.{Saying}
+use Rattle.pb_accept.specs.Sayings.{Saying, Recorded, line_of}
 use Rattle.pb_accept.specs.declared.ending.Ending.{Ending}
 use Rattle.pb_accept.specs.declared.ending.Ending.TheVariants.{Over, Stuck, Open}
 use Rattle.pb_accept.specs.declared.replay.LinesFault.{LinesFault}
@@ -139,10 +139,10 @@ is_annotated text code labels compiled =
 
 module _ (lending : Lending) (steps : ℕ) (seed : Option ℕ) (bytes : List ℕ) where
   -- the code of a text, and what was written of it
-  abbrev pub Wrote : List ℕ → Status → Type 0
-  Wrote whole status =
+  abbrev pub Wrote : List Saying → Status → Type 0
+  Wrote said status =
       (code : Code) × (labels : List ProcessLabels) × IsCompiled bytes code labels × (ended : List ℕ) × (picks : List CountedPick)
-      × IsEnded bytes ended × IsRecordedWith lending code steps seed picks status × (whole ≡ with_picks ended code.names picks)
+      × IsEnded bytes ended × IsRecordedWith lending code steps seed picks status × (said ≡ Recorded ended code.names picks ∷ [])
 
   -- what says that a text is refused or that there are no threads says no run
   no_run : (status : Status) → (status ≡ Refused) ⊎ (status ≡ Threads) → IsOfRun status → ⊥
@@ -151,11 +151,11 @@ module _ (lending : Lending) (steps : ℕ) (seed : Option ℕ) (bytes : List ℕ
   no_run status (inr is) (inl done) = let both : Threads ≡ Done = sym is ∙ done in absurd cc
   no_run status (inr is) (inr stuck) = let both : Threads ≡ Deadlock = sym is ∙ stuck in absurd cc
 
-  pub wrote : (whole : List ℕ) (status : Status) → SaysOfRecord lending steps seed bytes whole status → IsOfRun status → Wrote whole status
-  wrote _ _ (refused _ _ (by_line refusal is)) of = absurd (no_run Refused (inl refl) of)
-  wrote whole status (accepted code labels compiled _ _ says) of = go whole status says of
+  pub wrote : (said : List Saying) (status : Status) → SaysOfRecord lending steps seed bytes said status → IsOfRun status → Wrote said status
+  wrote _ _ (refused f not is) of = absurd (no_run Refused (inl refl) of)
+  wrote said status (accepted code labels compiled _ _ says) of = go said status says of
     where
-      go : (text : List ℕ) (status : Status) → SaysOfRecording lending code steps seed bytes text status → IsOfRun status → Wrote text status
+      go : (told : List Saying) (status : Status) → SaysOfRecording lending code steps seed bytes told status → IsOfRun status → Wrote told status
       go _ _ (written ended picks status is recorded short) of = (code, labels, compiled, ended, picks, is, recorded, refl)
       go _ _ (too_long ended picks end is recorded long) of = absurd (no_run Refused (inl refl) of)
       go _ _ (no_threads none) of = absurd (no_run Threads (inr refl) of)
@@ -294,8 +294,10 @@ module _ (lending : Lending) (steps : ℕ) (seed : Option ℕ) (bytes : List ℕ
           told_alike other lines entries end said answered (one_of text other others same.0 is_other) same.1 are says
 
 pub records_can_be_replayed : RecordsCanBeReplayed
-records_can_be_replayed lending steps seed bytes whole status most says of =
-    let (code, labels, compiled, ended, picks, is, recorded, same) = wrote lending steps seed bytes whole status says of in record {
+records_can_be_replayed lending steps seed bytes whole status most (told, says, spelled) of =
+    let (code, labels, compiled, ended, picks, is, recorded, one) = wrote lending steps seed bytes told status says of in
+    let same : whole ≡ with_picks ended code.names picks =
+    spelled ∙ (ap (flat_map line_of) one ∙ append-nil (with_picks ended code.names picks)) in record {
       cut = λ text lines cut. holds lending steps seed bytes most code labels compiled ended picks status is recorded text lines
           (subst (λ (w : List ℕ). AreTwoParts w text lines) same cut);
       replayed = λ room said answered replay.

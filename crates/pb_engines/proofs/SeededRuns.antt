@@ -23,7 +23,8 @@ use Rattle.pb_record.specs.Draws.{struck}
 use Rattle.pb_accept.specs.ReplayLines.{IsEnding}
 use Rattle.pb_command_io.specs.declared.status.Status.{Status}
 use Rattle.pb_engines.specs.RecordLaws.{SeedsWriteOneRecord}
-use Rattle.pb_accept.specs.RunTexts.{IsEnded, with_picks}
+use Rattle.pb_accept.specs.RunTexts.{IsEnded}
+use Rattle.pb_accept.specs.Sayings.{Recorded}
 use Rattle.pb_engines.specs.Records.{IsRecordedWith, recorded_status}
 use Rattle.pb_record.specs.Recorded.{IsRecorded}
 use Rattle.pb_picks.proofs.CountedOnce.{counted_once}
@@ -269,6 +270,6 @@ seeds_write_one_record lending steps seed bytes one other its_status status says
     subst (λ (c : Code). IsRecordedWith lending c steps (Some seed) counted status) (sym codes.0) record_of in
     let text = ended_once bytes ended finished is ends in
     let list = recorded_once lending code steps seed picks counted recorded.end here.end recorded.recorded here.recorded in (
-      same ∙ (λ i. with_picks (text i) (codes.0 i).names (list i)) ∙ sym equal,
+      same ∙ (λ i. Recorded (text i) (codes.0 i).names (list i) ∷ []) ∙ sym equal,
       told_once lending code steps seed picks counted its_status status list recorded here,
     )

@@ -1,4 +1,5 @@
 pub mod Executions
+pub mod Made
 pub mod Outcomes
 pub mod RecordLaws
 pub mod Records

@@ -13,7 +13,8 @@ use Rattle.pb_accept.specs.RunTexts.{EndsLine, IsEnded}
 use Rattle.pb_engines.specs.Records.{SaysOfRecord}
 use Rattle.pb_record.specs.Recorded.{IsRecorded}
 use Rattle.pb_accept.specs.Replays.{SaysOfReplay}
-use Rattle.pb_accept.specs.Sayings.{Saying}
+use Rattle.pb_accept.specs.Sayings.{Saying, line_of}
+use Rattle.pb_voice.specs.Voices.{Written}
 use Rattle.pb_command_io.specs.declared.status.Status.{Status}
 use Rattle.pb_command_io.specs.declared.status.Status.TheVariants.{Deadlock, Done, Refused}
 
@@ -44,17 +45,18 @@ pub record CanBeReplayed (lending : Lending) (steps : ℕ) (seed : Option ℕ) (
       → (said : List Saying) (answered : Status) → SaysOfReplay lending whole said answered
       → ((answered ≡ Deadlock) ↔ (status ≡ Deadlock))
 
--- what `record` wrote can be replayed under the same lending
+-- what `record` wrote as lines can be replayed under the same lending
 abbrev pub RecordsCanBeReplayed : Type 0
 RecordsCanBeReplayed =
     (lending : Lending) (steps : ℕ) (seed : Option ℕ) (bytes whole : List ℕ) (status : Status) → steps ≤ MAX_PICKS
-    → SaysOfRecord lending steps seed bytes whole status → IsOfRun status
+    → Written line_of (SaysOfRecord lending steps seed) bytes whole status → IsOfRun status
     → CanBeReplayed lending steps seed bytes whole status
 
--- two records of one text with one seed under one lending are the same bytes, and have the same status
+-- two records of one text with one seed under one lending say the same, in each form in the same bytes, and have the same
+-- status
 abbrev pub SeedsWriteOneRecord : Type 0
 SeedsWriteOneRecord =
-    (lending : Lending) (steps seed : ℕ) (bytes one other : List ℕ) (its_status status : Status)
+    (lending : Lending) (steps seed : ℕ) (bytes : List ℕ) (one other : List Saying) (its_status status : Status)
     → SaysOfRecord lending steps (Some seed) bytes one its_status → IsOfRun its_status
     → SaysOfRecord lending steps (Some seed) bytes other status → IsOfRun status
     → (one ≡ other) × (its_status ≡ status)

@@ -1,23 +1,27 @@
-//! The command `record`, over any input and output.
-ghost use Rattle.std.specs.Prelude.{◌≡◌, ◌≢◌, ◌≤◌, IfErr, IfOk, IfSome, MatchOption, None, Some, codes, length};
-ghost use Rattle.pb_base.specs.Lines.{line};
+//! The command `record`, over any input, teller and output.
+ghost use Rattle.std.specs.Prelude.{◌≡◌, ◌≢◌, ◌≤◌, [], ◌∷◌, IfErr, IfOk, IfSome, MatchOption, None, Some, length};
+ghost use Rattle.pb_accept.specs.Claims.{SaysOfAny};
+ghost use Rattle.pb_accept.specs.Sayings.{NoMemory as OutOfMemory, Threads as NoThreads};
+ghost use Rattle.pb_base.specs.Lines.{names_view};
 ghost use Rattle.pb_base.specs.declared.lending.Lending.TheVariants.{ByBanker};
-ghost use Rattle.pb_command_io.specs.Answers.{Tells};
-ghost use Rattle.pb_command_io.specs.Faults.{TellsFaults, TellsWriteFaults};
-ghost use Rattle.pb_command_io.specs.Inputs.{SaysOfInput};
-ghost use Rattle.pb_engines.specs.Records.{IsRecordedWith, SaysOfRecord, SaysOfRecording, recorded_status};
+ghost use Rattle.pb_command_io.specs.declared.status.Status.TheVariants as status;
+ghost use Rattle.pb_engines.specs.Made.{CanBeTold, SaysOfMade};
+ghost use Rattle.pb_engines.specs.Records.{IsRecordedWith, SaysOfRecord, recorded_status};
 ghost use Rattle.pb_options.specs.Lends.{lending_for};
 ghost use Rattle.pb_record.specs.Recorded.{IsTooLong};
 ghost use Rattle.pb_verifier.specs.Verified.{IsVerified};
+ghost use Rattle.pb_voice.specs.Held.{at};
+ghost use Rattle.pb_voice.specs.Tellings.{Answers, Ends, Speaks};
 
-use pb_accept::run_text::{ended, too_long};
-use pb_accept::{Ending, compile_text, ending_of, refuse};
+use pb_accept::{
+    Ending, Said, Teller, code_of_text, ending_of, read_or_tell, tell_fault, tell_last,
+    tell_recorded,
+};
 use pb_base::limits::{MAX_INPUT, MAX_PICKS};
-use pb_base::{Input, Lending, NoMemory, Output};
-use pb_command_io::{Reply, Status, read_input, tell};
+use pb_base::{Input, Lending, Names, Output};
+use pb_command_io::Status;
 use pb_history::CountedPick;
 use pb_options::{RecordOptions, RunOptions};
-use pb_picks::write_picks;
 use pb_record::{draw_picks, report_picks};
 use pb_verifier::Verified;
 use pb_workers::RunFault;
@@ -32,87 +36,96 @@ pub struct Recorded {
     pub status: Status,
 }
 
-/// Runs the text that the input holds, and writes what `replay` reads: the text, a line `%%`, and the pick
-/// lines of the run. For a text that is refused it writes the refusal line; if the whole would be longer
-/// than an input may be, the line `refused output`.
+/// Runs the text that the input holds, and tells what `replay` reads: the text, and the picks of the run after it. For a
+/// text that is refused it tells the refusal; if the whole would be longer than an input may be, that the output is too
+/// long.
 ///
 /// Without a seed the picks are those that workers make, as in `run`; with one each is drawn from those that
 /// are enabled, under the banker or by the cash alone, and no thread is started. The status is `Deadlock` if the
-/// drawn run ends in one, which is what `replay` says of its picks. If a thread could not be started it writes the
-/// line `threads`. After a read that failed nothing is written; after a write that failed, a prefix of the output.
-pub fn record_engine<I: Input, O: Output, R: Threads + Wait + Sync>(
+/// drawn run ends in one, which is what `replay` says of its picks. If a thread could not be started it tells that.
+/// After a read that failed nothing is told; after a write that failed, no more.
+pub fn record_engine<I: Input, O: Output, T: Teller, R: Threads + Wait + Sync>(
     rt: &R,
     alloc: Global,
     options: RecordOptions,
     input: &mut I,
+    teller: &mut T,
     output: &mut O,
 ) -> Status
-    ensures text { IfSome (I.rest input.old) (λ bytes.
-        Tells (SaysOfInput (SaysOfRecord (lending_for options.lend) options.run.steps options.seed) bytes) (O.written output.old) (O.written output.new) result) }
-    ensures faults { TellsFaults
-        (record { reads = I.failures input.old; writes = O.failures output.old; written = O.written output.old })
-        (record { reads = I.failures input.new; writes = O.failures output.new; written = O.written output.new })
-        result }
+    ensures { Answers T.tells T.breaks (SaysOfAny (SaysOfRecord (lending_for options.lend) options.run.steps options.seed)) (I.rest input.old)
+        (I.failures input.old) (I.failures input.new) (at O.written O.failures teller.old output.old)
+        (at O.written O.failures teller.new output.new) result }
 {
-    match read_input(alloc, input, output) {
-        Ok(bytes) => record_text(rt, alloc, options, bytes.as_slice(), output),
+    match read_or_tell(alloc, input, teller, output) {
+        Ok(bytes) => record_text(rt, alloc, options, &bytes, teller, output),
         Err(status) => status,
     }
 }
 
-/// Runs a text, and writes it with its picks.
-fn record_text<O: Output, R: Threads + Wait + Sync>(
+/// Runs a text, and tells it with its picks.
+fn record_text<O: Output, T: Teller, R: Threads + Wait + Sync>(
     rt: &R,
     alloc: Global,
     options: RecordOptions,
     text: &[u8],
+    teller: &mut T,
     output: &mut O,
 ) -> Status
     requires { length text.now ≤ MAX_INPUT }
-    ensures text { Tells (SaysOfInput (SaysOfRecord (lending_for options.lend) options.run.steps options.seed) text.now)
-        (O.written output.old) (O.written output.new) result }
-    ensures faults { TellsWriteFaults (O.failures output.old) (O.failures output.new) result }
+    ensures { Speaks T.tells T.breaks (SaysOfAny (SaysOfRecord (lending_for options.lend) options.run.steps options.seed) text.now)
+        (at O.written O.failures teller.old output.old) (at O.written O.failures teller.new output.new) result }
 {
-    match compile_text(alloc, text) {
+    match code_of_text(alloc, text) {
         Ok(compiled) => {
-            let reply = recording(rt, alloc, options, text, compiled.verified());
+            let verified = compiled.verified();
+            let made = record_picks(rt, alloc, options, verified);
+            let status = tell_made(alloc, text, &verified.code().names, made, teller, output);
             drop(compiled);
-            tell(alloc, reply, output)
+            status
         }
-        Err(refusal) => refuse(alloc, refusal, output),
+        Err(fault) => tell_fault(teller, output, &fault),
     }
 }
 
-/// Returns the text and the picks of a run of its code, or the line that they are too long or that there is no
-/// thread.
-fn recording<R: Threads + Wait + Sync>(
-    rt: &R,
+/// Tells a text with the picks that were made of a run of its code, or why there are none.
+pub(crate) fn tell_made<O: Output, T: Teller>(
     alloc: Global,
-    options: RecordOptions,
     text: &[u8],
-    verified: &Verified,
-) -> Result<Reply, NoMemory>
-    ensures { IfOk result (λ r.
-        SaysOfRecording (lending_for options.lend) verified.now.code options.run.steps options.seed text.now r.text.items r.status) }
+    names: &Names,
+    made: Result<Option<Recorded>, RunFault>,
+    teller: &mut T,
+    output: &mut O,
+) -> Status
+    requires { CanBeTold (names_view names.now) made }
+    ensures { Speaks T.tells T.breaks (SaysOfMade text.now (names_view names.now) made)
+        (at O.written O.failures teller.old output.old) (at O.written O.failures teller.new output.new) result }
 {
-    let code = verified.code();
-    let mut whole = ended(alloc, text)?;
-    let recorded = match record_picks(rt, alloc, options, verified) {
-        Ok(recorded) => recorded,
-        Err(fault) => return no_run(alloc, fault),
-    };
-    let Some(recorded) = recorded else {
-        return too_long(alloc);
-    };
-    whole.extend_from_slice(b"%%\n")?;
-    write_picks(&mut whole, &code.names, &recorded.picks)?;
-    if whole.len() > MAX_INPUT {
-        return too_long(alloc);
+    match made {
+        Ok(Some(recorded)) => tell_recorded(
+            alloc,
+            text,
+            names,
+            &recorded.picks,
+            recorded.status,
+            teller,
+            output,
+        ),
+        Ok(None) => tell_last(teller, output, Said::LongOutput, Status::Refused),
+        Err(fault) => tell_no_run(fault, teller, output),
     }
-    Ok(Reply {
-        text: whole,
-        status: recorded.status,
-    })
+}
+
+/// Tells why there is no run: out of memory, or a thread could not be started.
+fn tell_no_run<O: Output, T: Teller>(fault: RunFault, teller: &mut T, output: &mut O) -> Status
+    ensures memory { fault ≡ RunFault.NoMemory → Ends T.tells T.breaks (at O.written O.failures teller.old output.old)
+        (OutOfMemory ∷ []) status.Memory (at O.written O.failures teller.new output.new) result }
+    ensures threads { fault ≢ RunFault.NoMemory → Ends T.tells T.breaks (at O.written O.failures teller.old output.old)
+        (NoThreads ∷ []) status.Threads (at O.written O.failures teller.new output.new) result }
+{
+    match fault {
+        RunFault::NoMemory => tell_last(teller, output, Said::NoMemory, Status::Memory),
+        _ => tell_last(teller, output, Said::Threads, Status::Threads),
+    }
 }
 
 /// Returns the picks of a run of the code, with their status: drawn ones if there is a seed, else those that workers
@@ -132,16 +145,13 @@ fn record_picks<R: Threads + Wait + Sync>(
     let Some(seed) = options.seed else {
         return reported(rt, alloc, options.run, verified);
     };
-    match drawn_run(
+    drawn_run(
         alloc,
         options.lend.lending(),
         options.run.steps,
         seed,
         verified,
-    ) {
-        Ok(recorded) => Ok(recorded),
-        Err(_) => Err(RunFault::NoMemory),
-    }
+    )
 }
 
 /// Returns the picks that workers report, with their status: under the banker there is no deadlock.
@@ -166,20 +176,24 @@ fn reported<R: Threads + Wait + Sync>(
 }
 
 /// Returns the picks of a run that a generator with this seed draws under a lending, with their status: `Deadlock`
-/// if they end in one, else `Done`. Nothing is returned if their lines would be too long for an input.
-pub fn drawn_run(
+/// if they end in one, else `Done`. Nothing is returned if their lines would be too long for an input. The only fault is
+/// out of memory.
+pub(crate) fn drawn_run(
     alloc: Global,
     lending: Lending,
     steps: u32,
     seed: u64,
     verified: &Verified,
-) -> Result<Option<Recorded>, NoMemory>
+) -> Result<Option<Recorded>, RunFault>
     requires verified { IsVerified verified.now }
     requires steps { steps ≤ MAX_PICKS }
-    ensures { IfOk result (λ recorded. MatchOption recorded (IsTooLong lending verified.now.code steps (Some seed))
+    ensures picks { IfOk result (λ recorded. MatchOption recorded (IsTooLong lending verified.now.code steps (Some seed))
         (λ r. IsRecordedWith lending verified.now.code steps (Some seed) r.picks.items r.status)) }
+    ensures fault { IfErr result (λ fault. fault ≡ RunFault.NoMemory) }
 {
-    let made = draw_picks(alloc, lending, steps, seed, verified)?;
+    let Ok(made) = draw_picks(alloc, lending, steps, seed, verified) else {
+        return Err(RunFault::NoMemory);
+    };
     let Some((machine, picks)) = made else {
         return Ok(None);
     };
@@ -198,19 +212,5 @@ fn status_of(ending: Ending) -> Status
     match ending {
         Ending::Stuck => Status::Deadlock,
         Ending::Over | Ending::Open => Status::Done,
-    }
-}
-
-/// Returns a fault if out of memory, or the line that a thread could not be started.
-fn no_run(alloc: Global, fault: RunFault) -> Result<Reply, NoMemory>
-    ensures { IfOk result (λ r.
-        (fault ≢ RunFault.NoMemory) × (r.text.items ≡ line (codes "threads")) × (r.status ≡ Status.Threads)) }
-{
-    match fault {
-        RunFault::NoMemory => Err(NoMemory),
-        _ => Ok(Reply {
-            text: Vec::from_slice(alloc, b"threads\n")?,
-            status: Status::Threads,
-        }),
     }
 }

@@ -15,11 +15,11 @@ use Rattle.pb_claims.specs.Inferred.{HaveSmallClaims}
 use Rattle.pb_codegen.proofs.TextOutcomes.{complete}
 use Rattle.pb_names.proofs.Holds.{zip_at}
 use Rattle.pb_names.specs.Meaning.{AreClaims}
-use Rattle.pb_names.specs.Program.{Name, Program}
+use Rattle.pb_names.specs.Program.{Program}
 use Rattle.pb_names.specs.Ready.{AreComplete, IsComplete}
 use Rattle.pb_names.specs.Resolves.{Resolves, ResolvesProcess, resource_names}
 use Rattle.pb_joint.specs.Joined.{AreJoined, Joins, none, one_more}
-use Rattle.pb_joint.specs.Texts.{AreReadAs, AreSoFar, AreRefused, GoTogether, HasFault, IsProgramText, names_from, names_in, names_of, of_words}
+use Rattle.pb_joint.specs.Texts.{AreReadAs, AreSoFar, AreRefused, FullName, GoTogether, HasFault, IsProgramText, names_from, names_in, names_of, number_among}
 use Rattle.pb_tree.specs.Measure.{processes_nodes}
 use Rattle.pb_tree.specs.Syntax.{ProcessSyntax, ProgramSyntax}
 
@@ -129,15 +129,15 @@ names_from_more several n (t ∷ trees) tree =
     (names_in several (n + length (t ∷ trees)) tree.processes))
 
 pub one_more_text : (several : Bool) (texts : List (List ℕ)) (trees : List ProgramSyntax) (before tree whole : ProgramSyntax)
-    (text : List ℕ) (program : Option Program) (next : Program) (names names' : List Name) (number : ℕ)
+    (text : List ℕ) (program : Option Program) (next : Program) (names names' : List FullName) (number : ℕ)
     → AreSoFar several texts trees before program names → IsProgramText text tree → Joins before tree whole → Resolves whole next
     → names' ≡ names ++ names_in several number tree.processes → number ≡ length trees + 1
     → AreSoFar several (texts ++ text ∷ []) (trees ++ tree ∷ []) whole (Some next) names'
 one_more_text several texts trees before tree whole text program next names names' number so_far is joins resolves called same =
     let e : number ≡ 1 + length trees = omega (arith, same) in
-    let a = ap (λ (l : List Name). length l) called in
+    let a = ap (λ (l : List FullName). length l) called in
     let b = length-append names (names_in several number tree.processes) in
-    let c = length-map tree.processes (λ (process : ProcessSyntax). process.name.text ++ of_words several number) in
+    let c = length-map {B = FullName} tree.processes (λ (process : ProcessSyntax). record { name = process.name.text; text = number_among several number }) in
     let f = ap (λ (l : List ProcessSyntax). length l) joins.processes in
     let h = length-append before.processes tree.processes in
     let many = so_far.many in
@@ -155,12 +155,12 @@ one_more_text several texts trees before tree whole text program next names name
 
 -- those before a fault go together
 pub go_together : (several : Bool) (texts : List (List ℕ)) (trees : List ProgramSyntax) (whole : ProgramSyntax) (program : Option Program)
-    (names : List Name) → AreSoFar several texts trees whole program names → GoTogether trees
+    (names : List FullName) → AreSoFar several texts trees whole program names → GoTogether trees
 go_together several texts trees whole None names so_far = inl so_far.numbered
 go_together several texts trees whole (Some program) names so_far = inr (whole, program, so_far.joined, so_far.numbered)
 
 pub read_as : (several : Bool) (texts : List (List ℕ)) (trees : List ProgramSyntax) (whole : ProgramSyntax) (program : Program)
-    (names : List Name) (claims : Table) → AreSoFar several texts trees whole (Some program) names
+    (names : List FullName) (claims : Table) → AreSoFar several texts trees whole (Some program) names
     → (HaveSmallClaims program → AreClaims program claims) → AreReadAs texts trees program claims
 read_as several texts trees whole program names claims so_far claimed = record {
   each = so_far.each;
@@ -176,7 +176,7 @@ read_as several texts trees whole program names claims so_far claimed = record {
 
 -- no text is read yet
 pub nothing_yet : {X Y : Type 0} (several : Bool) (whole : ProgramSyntax) (program : Option X) (f : X → Program) (items : List Y)
-    (g : Y → Name) → whole ≡ record { resources = []; processes = [] } → program ≡ None → items ≡ []
+    (g : Y → FullName) → whole ≡ record { resources = []; processes = [] } → program ≡ None → items ≡ []
     → AreSoFar several [] [] whole (option_map f program) (map g items)
 nothing_yet {X} {Y} several whole program f items g w p i =
     subst (λ (l : List Y). AreSoFar several [] [] whole (option_map f program) (map g l)) (sym i)
@@ -191,7 +191,7 @@ as_many all index trees each within = AllZip-long IsProgramText (take index all)
 
 -- if a text was read before, there is a program
 pub not_none : {X : Type 0} (several : Bool) (texts : List (List ℕ)) (trees : List ProgramSyntax) (whole : ProgramSyntax)
-    (program : Option X) (f : X → Program) (names : List Name) → AreSoFar several texts trees whole (option_map f program) names
+    (program : Option X) (f : X → Program) (names : List FullName) → AreSoFar several texts trees whole (option_map f program) names
     → program ≡ None → 1 ≤ length texts → ⊥
 not_none several texts trees whole None f names so_far same some =
     let long = AllZip-long IsProgramText texts trees so_far.each in
@@ -201,7 +201,7 @@ not_none several texts trees whole (Some p) f names so_far same some = absurd cc
 
 -- a fault of the next text is the first
 pub first_fault : (several : Bool) (all : List (List ℕ)) (index : ℕ) (trees : List ProgramSyntax) (whole : ProgramSyntax)
-    (program : Option Program) (names : List Name) (text : List ℕ) (fault : CompileFault)
+    (program : Option Program) (names : List FullName) (text : List ℕ) (fault : CompileFault)
     → AreSoFar several (take index all) trees whole program names → slice_get all index ≡ Some text → HasFault trees text fault
     → AreRefused all (record { index = index; fault = fault })
 first_fault several all index trees whole program names text fault so_far at found = inr (record {
@@ -215,7 +215,7 @@ first_fault several all index trees whole program names text fault so_far at fou
 
 -- one more text is read
 pub next_read : (several : Bool) (all : List (List ℕ)) (index : ℕ) (text : List ℕ) (trees : List ProgramSyntax) (whole : ProgramSyntax)
-    (program : Option Program) (names : List Name) → slice_get all index ≡ Some text
+    (program : Option Program) (names : List FullName) → slice_get all index ≡ Some text
     → AreSoFar several (take index all ++ text ∷ []) trees whole program names
     → AreSoFar several (take (index + 1) all) trees whole program names
 next_read several all index text trees whole program names at so_far =
@@ -223,14 +223,14 @@ next_read several all index text trees whole program names at so_far =
 
 -- a name for each process
 pub named_all : (several : Bool) (texts : List (List ℕ)) (trees : List ProgramSyntax) (whole : ProgramSyntax) (program : Program)
-    (names : List Name) → AreSoFar several texts trees whole (Some program) names → length names ≡ length program.processes
+    (names : List FullName) → AreSoFar several texts trees whole (Some program) names → length names ≡ length program.processes
 named_all several texts trees whole program names so_far =
     let many = so_far.many in
     let long = AllZip-long (ResolvesProcess (resource_names program)) whole.processes program.processes so_far.numbered.processes in
     omega (arith, many, long)
 
 -- names of as many trees as texts
-pub names_of_all : (texts : List (Bor (List ℕ))) (trees : List ProgramSyntax) (names : List Name) → length trees ≡ length texts
+pub names_of_all : (texts : List (Bor (List ℕ))) (trees : List ProgramSyntax) (names : List FullName) → length trees ≡ length texts
     → names ≡ names_from (nat_lt 1 (length texts)) 1 trees → names ≡ names_of trees
 names_of_all texts trees names many are =
     are ∙ ap (λ (n : ℕ). names_from (nat_lt 1 n) 1 trees) (sym many)

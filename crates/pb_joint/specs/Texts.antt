@@ -1,7 +1,6 @@
 -- Texts that are read as one program, and the first of them that cannot be.
-use Rattle.std.specs.Prelude.{◌≡◌, ◌⊎◌, ℕ, ◌+◌, nat_lt, Bool, cond, List, [], ◌∷◌, ◌++◌, Option, Some, codes, length, map, MatchOption}
+use Rattle.std.specs.Prelude.{◌≡◌, ◌⊎◌, ℕ, ◌+◌, nat_lt, Bool, cond, List, [], ◌∷◌, ◌++◌, Option, Some, None, length, map, MatchOption}
 use Rattle.std.specs.Prelude.{slice_get, take}
-use Rattle.std.specs.Fmt.{decimal}
 use Rattle.std.specs.List.{AllZip}
 use Rattle.pb_base.specs.Steppers.{Table}
 use Rattle.pb_tree.specs.Syntax.{ProcessSyntax, ProgramSyntax}
@@ -34,22 +33,28 @@ pub record AreReadAs (texts : List (List ℕ)) (trees : List ProgramSyntax) (pro
 abbrev pub are_several : {T : Type 0} → List T → Bool
 are_several texts = nat_lt 1 (length texts)
 
--- after the name of a process: the number of its text, if there are several
-abbrev pub of_words : (several : Bool) → (number : ℕ) → List ℕ
-of_words several number = cond several (codes " of text " ++ decimal number) []
+-- what a process is called: its name, and the number of its text, if there are several texts
+pub record FullName : Type 0 where
+  pub name : Name
+  pub text : Option ℕ
+
+-- the number of a text, if there are several
+abbrev pub number_among : (several : Bool) → (number : ℕ) → Option ℕ
+number_among several number = cond several (Some number) None
 
 -- the processes of a text of this number
-abbrev pub names_in : (several : Bool) → (number : ℕ) → List ProcessSyntax → List Name
-names_in several number processes = map (λ process. process.name.text ++ of_words several number) processes
+abbrev pub names_in : (several : Bool) → (number : ℕ) → List ProcessSyntax → List FullName
+names_in several number processes =
+    map (λ process. record { name = process.name.text; text = number_among several number }) processes
 
 -- the processes of texts, of which the first has this number
-abbrev pub names_from : (several : Bool) → (number : ℕ) → List ProgramSyntax → List Name
+abbrev pub names_from : (several : Bool) → (number : ℕ) → List ProgramSyntax → List FullName
 names_from several number [] = []
 names_from several number (tree ∷ trees) =
     names_in several number tree.processes ++ names_from several (number + 1) trees
 
 -- the processes of all texts
-abbrev pub names_of : List ProgramSyntax → List Name
+abbrev pub names_of : List ProgramSyntax → List FullName
 names_of trees = names_from (are_several trees) 1 trees
 
 -- ---- faults
@@ -84,7 +89,7 @@ AreRefused texts it = (it.fault ≡ Memory) ⊎ IsFirstFault texts it.index it.f
 -- these texts are programs by themselves, with these trees, which are joined; the program is that of the joined tree,
 -- if there is a text yet, and the names are those of its processes
 pub record AreSoFar (several : Bool) (texts : List (List ℕ)) (trees : List ProgramSyntax) (whole : ProgramSyntax)
-    (program : Option Program) (called : List Name) : Type 0 where
+    (program : Option Program) (called : List FullName) : Type 0 where
   pub each : AllZip IsProgramText texts trees
   pub joined : AreJoined trees whole
   pub numbered : MatchOption program (trees ≡ []) (Resolves whole)

@@ -4,4 +4,4 @@
 mod joining;
 mod texts;
 
-pub use texts::{Joint, TextFault, read_texts};
+pub use texts::{FullName, Joint, TextFault, read_texts};

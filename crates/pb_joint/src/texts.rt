@@ -3,12 +3,13 @@
 ghost use Rattle.std.specs.Prelude.{◌≡◌, ◌<◌, ◌≤◌, ◌++◌, IfErr, IfOk, List, OnOk, Some, length, map, slice_get};
 ghost use Rattle.pb_codegen.specs.Compiled.{IsBeforeClaims, IsRefused};
 ghost use Rattle.pb_names.specs.View.{resolved_view};
-ghost use Rattle.pb_joint.specs.Texts.{AreReadAs, AreRefused, IsProgramText, names_in, names_of, of_words};
+ghost use Rattle.pb_joint.specs.Texts as spec;
+ghost use Rattle.pb_joint.specs.Texts.{AreReadAs, AreRefused, IsProgramText, names_in, names_of};
+ghost use Rattle.pb_joint.specs.View.{full_name};
 ghost use Rattle.pb_tree.specs.Syntax.{ProgramSyntax};
 ghost use Rattle.pb_tree.specs.View.{process_view, program_view};
 
 use crate::joining::join;
-use pb_base::writing::put_number;
 use pb_base::{Claims, NoMemory};
 use pb_claims::infer;
 use pb_codegen::CompileFault;
@@ -19,13 +20,21 @@ use pb_resolver::resolve;
 use pb_tree::{Process, Program};
 use std::alloc::Global;
 
+/// What a process is called.
+#[derive(Drop)]
+pub struct FullName {
+    pub name: Vec<u8>,
+    /// The number of its text, from 1, if there are several texts.
+    pub text: Option<usize>,
+}
+
 /// The program of texts that run beside one another.
 #[derive(Drop)]
 pub struct Joint {
     pub program: Resolved<Global>,
     pub claims: Claims,
-    /// What each process is called: its name, and after it the number of its text if there are several.
-    pub names: Vec<Vec<u8>>,
+    /// What each process is called.
+    pub names: Vec<FullName>,
 }
 
 /// Why texts are not read: the fault of the first of them that is none by itself, or not together with those before it.
@@ -42,7 +51,7 @@ pub fn read_texts(alloc: Global, texts: &[&[u8]]) -> Result<Joint, TextFault>
     requires { 1 ≤ length texts.now }
     ensures read { IfOk result (λ joint. (trees : List ProgramSyntax)
         × AreReadAs (map (λ text. text.now) texts.now) trees (resolved_view joint.program) joint.claims
-        × (map (λ name. name.items) joint.names.items ≡ names_of trees)) }
+        × (map full_name joint.names.items ≡ names_of trees)) }
     ensures named { IfOk result (λ joint. length joint.names.items ≡ length joint.program.processes.items) }
     ensures refused { IfErr result (AreRefused (map (λ text. text.now) texts.now)) }
 {
@@ -78,13 +87,14 @@ struct Reading {
     /// Its program, if there is a text yet.
     program: Option<Resolved<Global>>,
     /// What its processes are called.
-    names: Vec<Vec<u8>>,
+    names: Vec<FullName>,
 }
 
 impl Reading {
     ghost use Rattle.std.specs.Prelude.{◌≡◌, ◌≤◌, ◌+◌, ◌++◌, ℕ, [], ◌∷◌, Bool, IfErr, IfOk, List, None, OnOk, length, map, option_map};
     ghost use Rattle.pb_names.specs.View.{resolved_view};
     ghost use Rattle.pb_joint.specs.Texts.{AreReadAs, AreSoFar, HasFault};
+    ghost use Rattle.pb_joint.specs.View.{full_name};
     ghost use Rattle.pb_tree.specs.Syntax.{ProgramSyntax};
     ghost use Rattle.pb_tree.specs.View.{program_view};
 
@@ -114,18 +124,18 @@ impl Reading {
     ) -> Result<(), CompileFault>
         requires { (texts : List (List ℕ)) × (trees : List ProgramSyntax)
             × AreSoFar several texts trees (program_view self.old.whole) (option_map resolved_view self.old.program)
-            (map (λ name. name.items) self.old.names.items)
+            (map full_name self.old.names.items)
             × (number ≡ length trees + 1) }
         ensures added { (texts : List (List ℕ)) (trees : List ProgramSyntax)
             → AreSoFar several texts trees (program_view self.old.whole) (option_map resolved_view self.old.program)
-            (map (λ name. name.items) self.old.names.items)
+            (map full_name self.old.names.items)
             → number ≡ length trees + 1
             → OnOk result ((tree : ProgramSyntax)
             × AreSoFar several (texts ++ text.now ∷ []) (trees ++ tree ∷ []) (program_view self.new.whole)
-            (option_map resolved_view self.new.program) (map (λ name. name.items) self.new.names.items)) }
+            (option_map resolved_view self.new.program) (map full_name self.new.names.items)) }
         ensures fault { (texts : List (List ℕ)) (trees : List ProgramSyntax)
             → AreSoFar several texts trees (program_view self.old.whole) (option_map resolved_view self.old.program)
-            (map (λ name. name.items) self.old.names.items)
+            (map full_name self.old.names.items)
             → IfErr result (HasFault trees text.now) }
     {
         let tree = read_text(alloc, text)?;
@@ -140,11 +150,11 @@ impl Reading {
     fn finish(self, alloc: Global) -> Result<Joint, NoMemory>
         requires { (texts : List (List ℕ)) × (trees : List ProgramSyntax) × (several : Bool)
             × AreSoFar several texts trees (program_view self.whole) (option_map resolved_view self.program)
-            (map (λ name. name.items) self.names.items)
+            (map full_name self.names.items)
             × (1 ≤ length texts) }
         ensures read { (texts : List (List ℕ)) (trees : List ProgramSyntax) (several : Bool)
             → AreSoFar several texts trees (program_view self.whole) (option_map resolved_view self.program)
-            (map (λ name. name.items) self.names.items)
+            (map full_name self.names.items)
             → IfOk result (λ joint. AreReadAs texts trees (resolved_view joint.program) joint.claims) }
         ensures names { IfOk result (λ joint. joint.names ≡ self.names) }
         ensures named { IfOk result (λ joint. length joint.names.items ≡ length joint.program.processes.items) }
@@ -180,40 +190,38 @@ fn read_text(alloc: Global, text: &[u8]) -> Result<Program<Global>, CompileFault
     Ok(tree)
 }
 
+/// Returns the number of a text, if there are several.
+fn number_among(several: bool, number: usize) -> Option<usize>
+    ensures { result ≡ spec.number_among several number }
+{
+    if several { Some(number) } else { None }
+}
+
 /// Returns what a process of the text of this number is called.
 fn process_name(
     alloc: Global,
     name: &[u8],
     several: bool,
     number: usize,
-) -> Result<Vec<u8>, NoMemory>
-    ensures { IfOk result (λ called. called.items ≡ name.now ++ of_words several number) }
+) -> Result<FullName, NoMemory>
+    ensures { IfOk result (λ called. full_name called ≡ record { name = name.now; text = spec.number_among several number }) }
 {
-    let mut called = Vec::from_slice(alloc, name)?;
-    put_number_of(&mut called, several, number)?;
-    Ok(called)
-}
-
-/// Appends the number of a text to the name of one of its processes, if there are several texts.
-fn put_number_of(called: &mut Vec<u8>, several: bool, number: usize) -> Result<(), NoMemory>
-    ensures { OnOk result (called.new.items ≡ called.old.items ++ of_words several number) }
-{
-    if several {
-        put_number(called, b" of text ", number)?;
-    }
-    Ok(())
+    Ok(FullName {
+        name: Vec::from_slice(alloc, name)?,
+        text: number_among(several, number),
+    })
 }
 
 /// Adds what the processes of the text of this number are called.
 fn put_names(
     alloc: Global,
-    names: &mut Vec<Vec<u8>>,
+    names: &mut Vec<FullName>,
     several: bool,
     number: usize,
     processes: &[Process<Global>],
 ) -> Result<(), NoMemory>
-    ensures { OnOk result (map (λ name. name.items) names.new.items
-        ≡ map (λ name. name.items) names.old.items ++ names_in several number (map process_view processes.now)) }
+    ensures { OnOk result (map full_name names.new.items
+        ≡ map full_name names.old.items ++ names_in several number (map process_view processes.now)) }
 {
     for process in processes {
         names.push(process_name(alloc, &process.name.text, several, number)?)?;

@@ -15,4 +15,12 @@ mod told;
 #[cfg(test)]
 mod told_engines;
 #[cfg(test)]
+mod told_outcomes;
+#[cfg(test)]
+mod told_pages;
+#[cfg(test)]
+mod told_plans;
+#[cfg(test)]
+mod told_records;
+#[cfg(test)]
 mod told_runs;

@@ -7,7 +7,7 @@ use Rattle.pb_base.specs.declared.lending.Lending.{Lending}
 use Rattle.pb_base.specs.declared.pick.Pick.{Pick}
 use Rattle.pb_base.specs.declared.step.Step.{Step}
 use Rattle.pb_base.specs.declared.step.Step.TheVariants.{Silent, Did, NotEnabled}
-use Rattle.pb_code.specs.Whole.{Code}
+use Rattle.pb_code.specs.Whole.{Code, ProcessLabels}
 use Rattle.pb_debug_positions.specs.Searches.{StepsAt}
 use Rattle.pb_history.specs.Positions.{state_after}
 use Rattle.pb_json.specs.Strings.{string_text}
@@ -42,13 +42,13 @@ HasNamesOf names (Did event) = HasNames names event
 HasNamesOf names NotEnabled = ⊤
 
 -- the row of pick i: the states are those just before and just after it, under this lending
-pub record IsRow (lending : Lending) (code : Code) (picks : List Pick) (i : ℕ) (row : List ℕ) : Type 0 where
+pub record IsRow (lending : Lending) (code : Code) (labels : List ProcessLabels) (picks : List Pick) (i : ℕ) (row : List ℕ) : Type 0 where
   pub pick : Pick
   pub there : slice_get picks i ≡ Some pick
   pub step : Step
   pub steps : StepsAt code picks i step
   pub before : List (List ℕ)
-  pub is_before : IsStateBy lending code (state_after code picks i) before
+  pub is_before : IsStateBy lending code labels (state_after code picks i) before
   pub after : List (List ℕ)
-  pub is_after : IsStateBy lending code (state_after code picks (i + 1)) after
+  pub is_after : IsStateBy lending code labels (state_after code picks (i + 1)) after
   pub written : row ≡ row_text code.names pick before after step

@@ -3,7 +3,7 @@ use Rattle.std.specs.Prelude.{◌≡◌, ◌-◌, ◌<◌, ℕ, ◌+◌, List, �
 use Rattle.std.specs.Fmt.{decimal}
 use Rattle.pb_base.specs.declared.lending.Lending.{Lending}
 use Rattle.pb_base.specs.declared.pick.Pick.{Pick}
-use Rattle.pb_code.specs.Whole.{Code}
+use Rattle.pb_code.specs.Whole.{Code, ProcessLabels}
 use Rattle.pb_history.specs.Positions.{state_after}
 use Rattle.pb_json.specs.Strings.{string_text}
 use Rattle.pb_json.specs.Values.{comma, list_text}
@@ -31,9 +31,9 @@ pub data IsEnd (picks : List Pick) (ending : List ℕ) (last : ℕ) : List ℕ �
   whole : last ≡ length picks → IsEnd picks ending last ending
 
 -- the rows of `count` picks from position `from` on, with commas between them
-abbrev pub AreRows : Lending → Code → List Pick → (from count : ℕ) → List ℕ → Type 0
-AreRows lending code picks from =
-    ArePartsBelow (λ k part. (row : List ℕ) × IsRow lending code picks (from + k) row × (part ≡ comma k ++ row))
+abbrev pub AreRows : Lending → Code → List ProcessLabels → List Pick → (from count : ℕ) → List ℕ → Type 0
+AreRows lending code labels picks from =
+    ArePartsBelow (λ k part. (row : List ℕ) × IsRow lending code labels picks (from + k) row × (part ≡ comma k ++ row))
 
 -- what a document begins with
 abbrev pub head_text : (source object : List ℕ) → Lending → (picks from : ℕ) → List ℕ
@@ -57,15 +57,15 @@ abbrev pub document_text : (source object : List ℕ) → Lending → (picks fro
 document_text source object lending picks from start rows end =
     head_text source object lending picks from ++ (start_text start ++ (rows ++ end_text end))
 
--- the document of the run that picks make under this lending, which has ended by this word: its text and its object;
--- who lends; how many picks there are; the state at the first position that is shown, and a row for each pick from
--- there on, at most so many; and what is after the last row
-pub record IsRunDocument (lending : Lending) (code : Code) (picks : List Pick) (source object : List ℕ) (from most : ℕ) (ending : List ℕ)
-    (document : List ℕ) : Type 0 where
+-- the document of the run that picks of code with these labels make under this lending, which has ended by this word:
+-- its text and its object; who lends; how many picks there are; the state at the first position that is shown, and a
+-- row for each pick from there on, at most so many; and what is after the last row
+pub record IsRunDocument (lending : Lending) (code : Code) (labels : List ProcessLabels) (picks : List Pick) (source object : List ℕ)
+    (from most : ℕ) (ending : List ℕ) (document : List ℕ) : Type 0 where
   pub start : List (List ℕ)
-  pub is_start : IsStateBy lending code (state_after code picks (first_of picks from)) start
+  pub is_start : IsStateBy lending code labels (state_after code picks (first_of picks from)) start
   pub rows : List ℕ
-  pub are_rows : AreRows lending code picks (first_of picks from) (rows_of picks from most) rows
+  pub are_rows : AreRows lending code labels picks (first_of picks from) (rows_of picks from most) rows
   pub end : List ℕ
   pub is_end : IsEnd picks ending (first_of picks from + rows_of picks from most) end
   pub written : document ≡ document_text source object lending (length picks) (first_of picks from) start rows end

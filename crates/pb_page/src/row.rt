@@ -3,6 +3,7 @@
 ghost use Rattle.std.specs.Prelude.{◌≡◌, ◌<◌, ◌≤◌, ◌+◌, ◌++◌, ℕ, List, length, slice_get, Some, IfOk, IfSome, OnOk};
 ghost use Rattle.pb_base.specs.Lines.{HasNames, names_view};
 ghost use Rattle.pb_base.specs.declared.lending.Lending.{Lending as LendingValue};
+ghost use Rattle.pb_code.specs.View.{labels_view};
 ghost use Rattle.pb_debug_positions.specs.Walks.{Walks, WalksBy};
 ghost use Rattle.pb_history.specs.Entries.{picks_of};
 ghost use Rattle.pb_history.specs.Positions.{state_after};
@@ -15,6 +16,7 @@ use crate::state::state_of;
 use pb_base::limits::MAX_PICKS;
 use pb_base::writing::{put, put_number};
 use pb_base::{Names, NoMemory, Pick, Step, event_line};
+use pb_code::Labels;
 use pb_debug_positions::Walker;
 use pb_history::Trace;
 use pb_json::put_string;
@@ -101,6 +103,7 @@ pub(crate) fn put_next_row(
     out: &mut Vec<u8>,
     alloc: Global,
     verified: &Verified,
+    labels: &Labels,
     trace: &Trace,
     walker: &mut Walker,
     state: &mut Vec<Vec<u8>>,
@@ -112,18 +115,18 @@ pub(crate) fn put_next_row(
         → WalksBy lending verified.now (picks_of trace.now.entries) walker.new) }
     ensures at { OnOk result (walker.new.at ≡ walker.old.at + 1) }
     ensures state { OnOk result ((lending : LendingValue) → WalksBy lending verified.now (picks_of trace.now.entries) walker.old
-        → IsStateBy lending verified.now.code
+        → IsStateBy lending verified.now.code (labels_view labels.now)
         (state_after verified.now.code (picks_of trace.now.entries) walker.new.at) (texts state.new.items)) }
     ensures row { OnOk result ((row : List ℕ) × (out.new.items ≡ out.old.items ++ row)
         × ((lending : LendingValue) → WalksBy lending verified.now (picks_of trace.now.entries) walker.old
-        → IsStateBy lending verified.now.code
+        → IsStateBy lending verified.now.code (labels_view labels.now)
         (state_after verified.now.code (picks_of trace.now.entries) walker.old.at) (texts state.old.items)
-        → IsRow lending verified.now.code (picks_of trace.now.entries) walker.old.at row)) }
+        → IsRow lending verified.now.code (labels_view labels.now) (picks_of trace.now.entries) walker.old.at row)) }
 {
     let code = verified.code();
     let pick = trace.pick(walker.at);
     let step = walker.advance(verified, trace);
-    let after = state_of(alloc, verified, &walker.machine)?;
+    let after = state_of(alloc, verified, labels, &walker.machine)?;
     put_row(out, alloc, &code.names, pick, state, &after, &step)?;
     *state = after;
     Ok(())

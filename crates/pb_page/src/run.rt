@@ -2,6 +2,7 @@
 
 ghost use Rattle.std.specs.Prelude.{◌≡◌, ◌<◌, ◌≤◌, ◌-◌, ◌+◌, ◌++◌, ℕ, List, length, IfOk, OnOk};
 ghost use Rattle.pb_base.specs.declared.lending.Lending.{Lending as LendingValue};
+ghost use Rattle.pb_code.specs.View.{labels_view};
 ghost use Rattle.pb_debug_positions.specs.Walks.{Walks, WalksBy};
 ghost use Rattle.pb_history.specs.Entries.{picks_of};
 ghost use Rattle.pb_history.specs.Positions.{AreEnabledBy, state_after};
@@ -18,6 +19,7 @@ use crate::state::state_of;
 use pb_base::limits::MAX_PICKS;
 use pb_base::writing::{put, put_number};
 use pb_base::{Lending, NoMemory};
+use pb_code::Labels;
 use pb_debug_positions::Walker;
 use pb_history::Trace;
 use pb_json::{put_comma, put_string};
@@ -121,6 +123,7 @@ fn put_rows(
     out: &mut Vec<u8>,
     alloc: Global,
     verified: &Verified,
+    labels: &Labels,
     trace: &Trace,
     walker: &mut Walker,
     state: &mut Vec<Vec<u8>>,
@@ -134,13 +137,13 @@ fn put_rows(
     ensures at { OnOk result (walker.new.at ≡ walker.old.at + rows) }
     ensures rows { OnOk result ((written : List ℕ) × (out.new.items ≡ out.old.items ++ written)
         × ((lending : LendingValue) → WalksBy lending verified.now (picks_of trace.now.entries) walker.old
-        → IsStateBy lending verified.now.code
+        → IsStateBy lending verified.now.code (labels_view labels.now)
         (state_after verified.now.code (picks_of trace.now.entries) walker.old.at) (texts state.old.items)
-        → AreRows lending verified.now.code (picks_of trace.now.entries) walker.old.at rows written)) }
+        → AreRows lending verified.now.code (labels_view labels.now) (picks_of trace.now.entries) walker.old.at rows written)) }
 {
     for k in 0..rows {
         put_comma(out, k as usize)?;
-        put_next_row(out, alloc, verified, trace, walker, state)?;
+        put_next_row(out, alloc, verified, labels, trace, walker, state)?;
     }
     Ok(())
 }
@@ -159,6 +162,7 @@ fn end_word<'a>(trace: &Trace, last: u32, ending: &'a [u8]) -> &'a [u8]
 pub fn run_document(
     alloc: Global,
     verified: &Verified,
+    labels: &Labels,
     lending: Lending,
     trace: &Trace,
     source: &[u8],
@@ -168,14 +172,14 @@ pub fn run_document(
 ) -> Result<Vec<u8>, NoMemory>
     requires enabled { AreEnabledBy lending verified.now.code (picks_of trace.now.entries) }
     requires few { length (picks_of trace.now.entries) ≤ MAX_PICKS }
-    ensures { IfOk result (λ document. IsRunDocument lending verified.now.code (picks_of trace.now.entries)
+    ensures { IfOk result (λ document. IsRunDocument lending verified.now.code (labels_view labels.now) (picks_of trace.now.entries)
         source.now object.now shown.from shown.rows ending.now document.items) }
 {
     let picks = trace.len();
     let from = shown.from.min(picks);
     let rows = shown.rows.min(picks - from);
     let mut walker = walker_at(alloc, verified, lending, trace, from)?;
-    let mut state = state_of(alloc, verified, &walker.machine)?;
+    let mut state = state_of(alloc, verified, labels, &walker.machine)?;
     let mut out = Vec::new(alloc);
     put_head(&mut out, source, object, lending, picks, from)?;
     put_start(&mut out, &state)?;
@@ -183,6 +187,7 @@ pub fn run_document(
         &mut out,
         alloc,
         verified,
+        labels,
         trace,
         &mut walker,
         &mut state,

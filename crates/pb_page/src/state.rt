@@ -5,17 +5,19 @@ ghost use Rattle.std.specs.Fmt.{decimal};
 ghost use Rattle.pb_banker.specs.Lenders.{lender_state, lending_by};
 ghost use Rattle.pb_base.specs.Banker.{processes, resources};
 ghost use Rattle.pb_base.specs.declared.lending.Lending.{Lending as LendingValue};
+ghost use Rattle.pb_code.specs.View.{labels_view};
 ghost use Rattle.pb_json.specs.Values.{comma, integer_text};
 ghost use Rattle.pb_machine.specs.Views.{IsMachine, IsMachineBy, machine_view, proc_view};
 ghost use Rattle.pb_page.specs.Parts.{ArePartsBelow, parts_below};
 ghost use Rattle.pb_page.specs.States as spec;
-ghost use Rattle.pb_page.specs.States.{AreWhysOf, IsOrderBy, IsStateBy};
+ghost use Rattle.pb_page.specs.States.{AreWhysOf, AreWordsOf, IsOrderBy, IsStateBy};
 ghost use Rattle.pb_page.specs.Texts.{texts};
 
 use crate::arms::{add, add_operands, add_places, add_whys};
 use pb_banker::Lender;
 use pb_base::writing::{put, put_digits};
 use pb_base::{Lending, NoMemory};
+use pb_code::Labels;
 use pb_json::{put_comma, put_integer};
 use pb_machine::{Machine, Proc};
 use pb_verifier::Verified;
@@ -53,22 +55,29 @@ fn add_all_operands(
     Ok(())
 }
 
-/// Adds why each arm of each process does not go on, or may.
+/// Adds why each arm of each process does not go on, or may, and to `words` what each does by its next pick.
 fn add_all_whys(
     alloc: Global,
     entries: &mut Vec<Vec<u8>>,
+    words: &mut Vec<Vec<u8>>,
     verified: &Verified,
+    labels: &Labels,
     machine: &Machine,
 ) -> Result<(), NoMemory>
     requires { IsMachineBy (lending_by machine.now.bank) verified.now machine.now }
-    ensures { OnOk result ((whys : List (List ℕ))
+    ensures whys { OnOk result ((whys : List (List ℕ))
         × (texts entries.new.items ≡ texts entries.old.items ++ whys)
         × ArePartsBelow (λ p part. AreWhysOf (lending_by machine.now.bank) verified.now.code (machine_view machine.now) p
         (spec.process_at (machine_view machine.now) p) part)
         (length (machine_view machine.now).processes) whys) }
+    ensures words { OnOk result ((said : List (List ℕ))
+        × (texts words.new.items ≡ texts words.old.items ++ said)
+        × ArePartsBelow (λ p part. AreWordsOf (lending_by machine.now.bank) verified.now.code (labels_view labels.now)
+        (machine_view machine.now) p (spec.process_at (machine_view machine.now) p) part)
+        (length (machine_view machine.now).processes) said) }
 {
     for p in 0..machine.processes() {
-        add_whys(alloc, entries, verified, machine, p)?;
+        add_whys(alloc, entries, words, verified, labels, machine, p)?;
     }
     Ok(())
 }
@@ -192,37 +201,50 @@ fn add_order(alloc: Global, entries: &mut Vec<Vec<u8>>, machine: &Machine) -> Re
     add(entries, text)
 }
 
+/// Adds further entries after those that are there.
+fn add_more(entries: &mut Vec<Vec<u8>>, more: Vec<Vec<u8>>) -> Result<(), NoMemory>
+    ensures { OnOk result (texts entries.new.items ≡ texts entries.old.items ++ texts more.items) }
+{
+    let mut more = more;
+    entries.append(&mut more)?;
+    Ok(())
+}
+
 /// Adds the entries of the state that a machine is in.
 fn add_all(
     alloc: Global,
     entries: &mut Vec<Vec<u8>>,
     verified: &Verified,
+    labels: &Labels,
     machine: &Machine,
 ) -> Result<(), NoMemory>
     requires machine { IsMachineBy (lending_by machine.now.bank) verified.now machine.now }
     requires none { entries.old.items ≡ [] }
-    ensures { OnOk result (IsStateBy (lending_by machine.now.bank) verified.now.code (machine_view machine.now)
-        (texts entries.new.items)) }
+    ensures { OnOk result (IsStateBy (lending_by machine.now.bank) verified.now.code (labels_view labels.now)
+        (machine_view machine.now) (texts entries.new.items)) }
 {
+    let mut words = Vec::new(alloc);
     add_all_places(alloc, entries, machine)?;
     add_all_operands(alloc, entries, machine)?;
-    add_all_whys(alloc, entries, verified, machine)?;
+    add_all_whys(alloc, entries, &mut words, verified, labels, machine)?;
     add_all_integers(alloc, entries, machine)?;
     add_all_loans(alloc, entries, machine.lender())?;
-    add_order(alloc, entries, machine)
+    add_order(alloc, entries, machine)?;
+    add_more(entries, words)
 }
 
-/// Returns the entries of the state that a machine is in.
+/// Returns the entries of the state that a machine is in, with the names of integers and the lines that the labels tell.
 pub fn state_of(
     alloc: Global,
     verified: &Verified,
+    labels: &Labels,
     machine: &Machine,
 ) -> Result<Vec<Vec<u8>>, NoMemory>
     requires { IsMachine verified.now machine.now }
     ensures { IfOk result (λ entries. (lending : LendingValue) → IsMachineBy lending verified.now machine.now
-        → IsStateBy lending verified.now.code (machine_view machine.now) (texts entries.items)) }
+        → IsStateBy lending verified.now.code (labels_view labels.now) (machine_view machine.now) (texts entries.items)) }
 {
     let mut entries = Vec::new(alloc);
-    add_all(alloc, &mut entries, verified, machine)?;
+    add_all(alloc, &mut entries, verified, labels, machine)?;
     Ok(entries)
 }

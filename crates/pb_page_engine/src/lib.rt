@@ -4,6 +4,8 @@
 mod object;
 mod schedules;
 mod states;
+mod written;
 
 pub use schedules::tell_schedules;
 pub use states::states_engine;
+pub use written::write_states;

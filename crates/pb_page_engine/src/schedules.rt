@@ -2,6 +2,7 @@
 
 ghost use Rattle.std.specs.Prelude.{◌≡◌, ◌≤◌, IfOk, length};
 ghost use Rattle.pb_code.specs.Limits.{AreLabels};
+ghost use Rattle.pb_code.specs.View.{labels_view};
 ghost use Rattle.pb_command_io.specs.Answers.{Tells};
 ghost use Rattle.pb_command_io.specs.Faults.{TellsWriteFaults};
 ghost use Rattle.pb_command_io.specs.Inputs.{SaysOfInput};
@@ -12,6 +13,7 @@ use crate::object::object_of;
 use pb_accept::{compile_text, refuse};
 use pb_base::limits::MAX_INPUT;
 use pb_base::{Lending, NoMemory, Output};
+use pb_code::Labels;
 use pb_codegen::Compiled;
 use pb_command_io::{Reply, Status, tell};
 use pb_page_graph::{excess_document, schedules_document};
@@ -59,7 +61,15 @@ fn reply(
 {
     let verified = compiled.verified();
     let object = object_of(alloc, verified, compiled.labels())?;
-    schedules(alloc, lending, states, source, &object, verified)
+    schedules(
+        alloc,
+        lending,
+        states,
+        source,
+        &object,
+        verified,
+        compiled.labels(),
+    )
 }
 
 /// Returns the document of all schedules of a code, or the one that says that there are too many.
@@ -70,10 +80,11 @@ fn schedules(
     source: &[u8],
     object: &[u8],
     verified: &Verified,
+    labels: &Labels,
 ) -> Result<Reply, NoMemory>
-    ensures { IfOk result (λ r. AreSchedules lending states source.now object.now verified.now.code r.text.items r.status) }
+    ensures { IfOk result (λ r. AreSchedules lending states source.now object.now verified.now.code (labels_view labels.now) r.text.items r.status) }
 {
-    match schedules_document(alloc, verified, lending, states, source, object) {
+    match schedules_document(alloc, verified, labels, lending, states, source, object) {
         Ok(text) => Ok(Reply {
             text,
             status: Status::Done,

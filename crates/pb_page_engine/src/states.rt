@@ -1,25 +1,28 @@
-//! The command `states`, over any input and output.
+//! The command `states`, over any input, teller and output.
 
-ghost use Rattle.std.specs.Prelude.{◌≤◌, IfOk, IfSome, length};
+ghost use Rattle.std.specs.Prelude.{◌≤◌, [], ◌∷◌, IfOk, OnErr, length};
+ghost use Rattle.pb_accept.specs.Claims.{SaysOfAny};
+ghost use Rattle.pb_accept.specs.Sayings.{NoMemory as OutOfMemory, Text};
 ghost use Rattle.pb_code.specs.Limits.{AreLabels};
 ghost use Rattle.pb_code.specs.View.{labels_view};
+ghost use Rattle.pb_command_io.specs.declared.status.Status.TheVariants as status;
 ghost use Rattle.pb_page_engine.specs.States.{IsDocument, SaysOfStates, SaysOfStatesLines};
-ghost use Rattle.pb_command_io.specs.Answers.{Tells};
-ghost use Rattle.pb_command_io.specs.Faults.{TellsFaults, TellsWriteFaults};
-ghost use Rattle.pb_command_io.specs.Inputs.{SaysOfInput};
 ghost use Rattle.pb_history.specs.Entries.{picks_of};
 ghost use Rattle.pb_history.specs.Positions.{AreEnabledBy};
 ghost use Rattle.pb_machine.specs.Views.{IsMachineBy, machine_view};
+ghost use Rattle.pb_voice.specs.Held.{at};
+ghost use Rattle.pb_voice.specs.Tellings.{Answers, Ends, Speaks};
 
 use crate::object::object_of;
-use pb_accept::load::{load, load_refusal};
+use pb_accept::load::{load, tell_load_fault};
 use pb_accept::{
-    compile_text, end_status, ending_of, lines_refusal, make_lines_by, refuse, status_at,
+    Said, Teller, code_of_text, end_status, ending_of, make_lines_by, read_or_tell, status_at,
+    tell_fault, tell_last, tell_lines_fault,
 };
 use pb_base::limits::{MAX_INPUT, MAX_PICKS};
 use pb_base::{Input, Lending, NoMemory, Output};
 use pb_code::Labels;
-use pb_command_io::{Reply, Status, read_input, tell, two_parts};
+use pb_command_io::{Reply, Status, two_parts};
 use pb_history::Trace;
 use pb_machine::Machine;
 use pb_page::{Shown, run_document};
@@ -28,9 +31,9 @@ use pb_verifier::Verified;
 use std::alloc::Global;
 
 /// Makes the picks that the pick lines after the text or the object of the input say, from its start, under whoever
-/// decides on requests, and writes a document of that run: a line of JSON with the text, its object, the state at the
+/// decides on requests, and tells a document of that run: a line of JSON with the text, its object, the state at the
 /// first position that is shown, and a row for each pick from there on. A line `%%` separates the text from the pick
-/// lines. If the text, a line or a pick is refused, only the refusal line is written, as by `replay`.
+/// lines. If the text, a line or a pick is refused, only the refusal is told, as by `replay`.
 ///
 /// The first part is an object if it begins with `PBO `. Then the document has an empty text, which no program has,
 /// and the object in the second format, in whichever it was given.
@@ -40,67 +43,73 @@ use std::alloc::Global;
 /// `deadlock` or `open`.
 ///
 /// The status is `Deadlock` if some process has neither ended nor faulted and no pick is enabled, and else `Fault` if
-/// a process faulted. After a read that failed nothing is written; after a write that failed, a prefix of the output.
-pub fn states_engine<I: Input, O: Output>(
+/// a process faulted. After a read that failed nothing is told; after a write that failed, no more.
+pub fn states_engine<I: Input, O: Output, T: Teller>(
     alloc: Global,
     lending: Lending,
     shown: Shown,
     input: &mut I,
+    teller: &mut T,
     output: &mut O,
 ) -> Status
-    ensures text { IfSome (I.rest input.old) (λ bytes.
-        Tells (SaysOfInput (SaysOfStates lending shown) bytes) (O.written output.old) (O.written output.new) result) }
-    ensures faults { TellsFaults
-        (record { reads = I.failures input.old; writes = O.failures output.old; written = O.written output.old })
-        (record { reads = I.failures input.new; writes = O.failures output.new; written = O.written output.new })
-        result }
+    ensures { Answers T.tells T.breaks (SaysOfAny (SaysOfStates lending shown)) (I.rest input.old) (I.failures input.old) (I.failures input.new)
+        (at O.written O.failures teller.old output.old) (at O.written O.failures teller.new output.new) result }
 {
-    match read_input(alloc, input, output) {
-        Ok(bytes) => states_bytes(alloc, lending, shown, bytes.as_slice(), output),
+    match read_or_tell(alloc, input, teller, output) {
+        Ok(bytes) => states_bytes(alloc, lending, shown, &bytes, teller, output),
         Err(status) => status,
     }
 }
 
-/// Writes the document of a whole input.
-fn states_bytes<O: Output>(
+/// Tells the document of a whole input.
+fn states_bytes<O: Output, T: Teller>(
     alloc: Global,
     lending: Lending,
     shown: Shown,
     bytes: &[u8],
+    teller: &mut T,
     output: &mut O,
 ) -> Status
     requires { length bytes.now ≤ MAX_INPUT }
-    ensures text { Tells (SaysOfInput (SaysOfStates lending shown) bytes.now) (O.written output.old) (O.written output.new) result }
-    ensures faults { TellsWriteFaults (O.failures output.old) (O.failures output.new) result }
+    ensures { Speaks T.tells T.breaks (SaysOfAny (SaysOfStates lending shown) bytes.now) (at O.written O.failures teller.old output.old)
+        (at O.written O.failures teller.new output.new) result }
 {
     let (source, lines) = two_parts(bytes);
     if is_object(source) {
         return match load(alloc, source) {
             Ok((verified, labels)) => {
-                states_lines(
-                    alloc, lending, shown, b"", &verified, &labels, lines, output,
-                )
+                let status = states_lines(
+                    alloc, lending, shown, b"", &verified, &labels, lines, teller, output,
+                );
+                drop(verified);
+                drop(labels);
+                status
             }
-            Err(fault) => tell(alloc, load_refusal(alloc, fault), output),
+            Err(fault) => tell_load_fault(teller, output, fault),
         };
     }
-    match compile_text(alloc, source) {
-        Ok(compiled) => states_lines(
-            alloc,
-            lending,
-            shown,
-            source,
-            compiled.verified(),
-            compiled.labels(),
-            lines,
-            output,
-        ),
-        Err(refusal) => refuse(alloc, refusal, output),
+    match code_of_text(alloc, source) {
+        Ok(compiled) => {
+            let status = states_lines(
+                alloc,
+                lending,
+                shown,
+                source,
+                compiled.verified(),
+                compiled.labels(),
+                lines,
+                teller,
+                output,
+            );
+            drop(compiled);
+            status
+        }
+        Err(fault) => tell_fault(teller, output, &fault),
     }
 }
 
-/// Writes the document of the run that lines say, or why their picks are not made.
-fn states_lines<O: Output>(
+/// Tells the document of the run that lines say, or why their picks are not made.
+fn states_lines<O: Output, T: Teller>(
     alloc: Global,
     lending: Lending,
     shown: Shown,
@@ -108,17 +117,17 @@ fn states_lines<O: Output>(
     verified: &Verified,
     labels: &Labels,
     lines: &[u8],
+    teller: &mut T,
     output: &mut O,
 ) -> Status
     requires { AreLabels verified.now.code (labels_view labels.now) }
-    ensures text { Tells (SaysOfStatesLines lending shown text.now verified.now.code (labels_view labels.now) lines.now)
-        (O.written output.old) (O.written output.new) result }
-    ensures faults { TellsWriteFaults (O.failures output.old) (O.failures output.new) result }
+    ensures { Speaks T.tells T.breaks (SaysOfStatesLines lending shown text.now verified.now.code (labels_view labels.now) lines.now)
+        (at O.written O.failures teller.old output.old) (at O.written O.failures teller.new output.new) result }
 {
     match make_lines_by(alloc, lending, verified, lines) {
         Ok((machine, trace)) => {
             let mut machine = machine;
-            let reply = document(
+            let made = document(
                 alloc,
                 lending,
                 shown,
@@ -128,9 +137,26 @@ fn states_lines<O: Output>(
                 &trace,
                 &mut machine,
             );
-            tell(alloc, reply, output)
+            tell_document(made, teller, output)
         }
-        Err(fault) => tell(alloc, lines_refusal(alloc, fault), output),
+        Err(fault) => tell_lines_fault(teller, output, fault),
+    }
+}
+
+/// Tells a document with its status, or out of memory.
+fn tell_document<O: Output, T: Teller>(
+    made: Result<Reply, NoMemory>,
+    teller: &mut T,
+    output: &mut O,
+) -> Status
+    ensures document { IfOk made (λ r. Ends T.tells T.breaks (at O.written O.failures teller.old output.old) (Text r.text.items ∷ []) r.status
+        (at O.written O.failures teller.new output.new) result) }
+    ensures memory { OnErr made (Ends T.tells T.breaks (at O.written O.failures teller.old output.old) (OutOfMemory ∷ []) status.Memory
+        (at O.written O.failures teller.new output.new) result) }
+{
+    match made {
+        Ok(reply) => tell_last(teller, output, Said::Text(&reply.text), reply.status),
+        Err(_) => tell_last(teller, output, Said::NoMemory, Status::Memory),
     }
 }
 
@@ -158,6 +184,7 @@ fn document(
     let said = run_document(
         alloc,
         verified,
+        labels,
         lending,
         trace,
         text,

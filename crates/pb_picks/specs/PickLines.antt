@@ -1,13 +1,12 @@
--- Pick lines: each says a pick and how often it is made, as `P.a COUNT`.
+-- Pick lines as they are read: each says a pick and how often it is made, as `P.a COUNT`.
 use Rattle.std.specs.Prelude.{◌≡◌, ◌≢◌, ℕ, ◌+◌, ◌<◌, ◌≤◌, ◌⊎◌, Bool, false, not, ◌&&◌, ◌||◌, ◌==◌, List, [], ◌∷◌}
 use Rattle.std.specs.Prelude.{◌++◌, length, All, Some, slice_get, ⊤}
-use Rattle.std.specs.Fmt.{decimal}
 use Rattle.pb_base.specs.declared.limits.TheConstants.{MAX_PICKS}
-use Rattle.pb_base.specs.Lines.{name_of}
 use Rattle.pb_code.specs.Code.{ProcessCode}
 use Rattle.pb_code.specs.Whole.{Code}
 use Rattle.pb_history.specs.Replays.{spread}
 use Rattle.pb_history.specs.declared.counted.CountedPick.{CountedPick}
+pub use Rattle.pb_picks.specs.PickTexts.{arm_and_count, pick_line, pick_lines}
 use Rattle.pb_picks.specs.declared.fault.PickFault.{PickFault}
 use Rattle.pb_picks.specs.declared.fault.PickFault.TheVariants.{NotPicks, TooMany, NoMemory}
 
@@ -19,19 +18,6 @@ Lacks mark bytes = All (λ b. b ≢ mark) bytes
 abbrev pub is_plain : List ℕ → Bool
 is_plain [] = false
 is_plain (b ∷ bytes) = not (b == 43) && (not (b == 48) || (length bytes == 0))
-
--- the arm and the count, in decimal with one space between them
-abbrev pub arm_and_count : ℕ → ℕ → List ℕ
-arm_and_count arm count = decimal arm ++ (32 ∷ decimal count)
-
--- the line of a counted pick, without its line feed
-abbrev pub pick_line : List (List ℕ) → CountedPick → List ℕ
-pick_line names c = name_of names c.pick.process ++ (46 ∷ arm_and_count c.pick.arm c.count)
-
--- the lines of counted picks in their order, each with its line feed
-abbrev pub pick_lines : List (List ℕ) → List CountedPick → List ℕ
-pick_lines names [] = []
-pick_lines names (c ∷ picks) = pick_line names c ++ (10 ∷ pick_lines names picks)
 
 -- the line is the name of a process, a point, one of its arms, a space, and a count from 1 to 10,000,000
 pub record SpellsPick (code : Code) (line : List ℕ) (c : CountedPick) : Type 0 where

@@ -10,7 +10,7 @@ use Rattle.pb_capitals.specs.declared.change.Change.{Change}
 use Rattle.pb_names.specs.Program.{Name, Program, Resource}
 use Rattle.pb_names.specs.Resolves.{AreDistinct, ResolvesProcess, ResolvesResource}
 use Rattle.pb_plan_engine.specs.Changed.{changed_resource, with_changes}
-use Rattle.pb_plan_engine.specs.PlanLines.{IsOfTree}
+use Rattle.pb_plan_engine.specs.Plans.{IsOfTree}
 use Rattle.pb_tree.specs.Syntax.{ResourceSyntax}
 
 -- a capital that a change gives is small

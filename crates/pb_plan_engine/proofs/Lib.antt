@@ -4,3 +4,4 @@ pub mod LineLemmas
 pub mod OrderLemmas
 pub mod PartLemmas
 pub mod PlanLemmas
+pub mod TextLemmas

@@ -20,7 +20,7 @@ use Rattle.pb_plan.specs.Needs.{IsBottleneck}
 use Rattle.pb_plan.specs.Nests.{AskBelow, IsOrder}
 use Rattle.pb_plan.specs.Orders.{EachHold, EachHoldAmong, EachHoldOf, IsFollowed}
 use Rattle.pb_plan.specs.Scarce.{IsFollowedAmong}
-use Rattle.pb_plan_engine.specs.PlanLines.{HasNoOrder, HasNoOrderAmong, IsOrderAmong, IsOrderIfAny, IsOrderOf, scarce_of}
+use Rattle.pb_plan_engine.specs.Plans.{HasNoOrder, HasNoOrderAmong, IsOrderAmong, IsOrderIfAny, IsOrderOf, scarce_of}
 
 module _ (integers resources : List Name) where
   abbrev Below : (around asked : Bundle) → Type 0

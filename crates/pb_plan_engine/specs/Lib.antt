@@ -1,2 +1,5 @@
 pub mod Changed
-pub mod PlanLines
+pub mod Objects
+pub mod Plans
+pub mod Sayings
+pub mod View

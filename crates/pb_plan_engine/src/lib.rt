@@ -4,10 +4,17 @@
 
 mod changing;
 mod lines;
+mod objects;
 mod plan;
-mod refusal;
+mod rows;
+mod said;
+mod teller;
 mod texts;
+mod written;
 
 pub use changing::undeclared;
 pub use plan::plan_engine;
+pub use said::{Claim, Need, Nested, Refusal, Said};
+pub use teller::Teller;
 pub use texts::texts_of;
+pub use written::write_plan;

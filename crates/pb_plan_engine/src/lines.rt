@@ -1,227 +1,277 @@
-//! The lines of a plan.
+//! What a plan says, as lines.
 
-ghost use Rattle.std.specs.Prelude.{◌≡◌, ◌<◌, ◌≤◌, ◌++◌, ℕ, All, OnOk, IfSome, [], codes, length, map, option_map, slice_index_or};
+ghost use Rattle.std.specs.Prelude.{◌≡◌, OnOk, OnErr, map};
 ghost use Rattle.std.specs.List.{flat_map};
-ghost use Rattle.pb_base.specs.Banker.{row_of};
-ghost use Rattle.pb_base.specs.Tables.{width_of};
-ghost use Rattle.pb_names.specs.View.{block_view};
-ghost use Rattle.pb_plan.specs.Circles.{IsBelow};
-ghost use Rattle.pb_plan_engine.specs.PlanLines.{circle_lines, claim_line, edge_line, hold_text, last_line, lines_text, numbers_text, order_line, plan_lines_of};
-ghost use Rattle.pb_plan_engine.specs.PlanLines.{resource_line, resource_name, resources_lines};
+ghost use Rattle.pb_joint.specs.View.{full_name};
+ghost use Rattle.pb_plan_engine.specs.Sayings.{called_text, claimed_words, line_of, line_text, lines_text, name_text, nest_words, some_lines_text};
+ghost use Rattle.pb_plan_engine.specs.Sayings as saying;
+ghost use Rattle.pb_plan_engine.specs.View.{said_view};
+ghost use Rattle.pb_plan_engine.specs.declared.said.Said.TheVariants as given;
+ghost use Rattle.pb_voice.specs.Held.{at};
+ghost use Rattle.pb_voice.specs.Voices.{Adds, Breaks};
 
-use pb_base::writing::{put, put_name, put_number};
-use pb_base::{Capital, Claims, NoMemory};
-use pb_names::{Process, Resource};
-use pb_plan::{Edge, Part, claim_parts, free_capital, least_capital};
-use std::alloc::{Allocator, Global};
+use crate::said::{Claim, Need, Nested, Refusal, Said};
+use itoa::Buffer;
+use pb_base::{DeviceFault, Output};
+use pb_joint::FullName;
+use pb_plan::Part;
+use pb_voice::Voice;
 
-/// Returns the name of a resource.
-fn name_of<A: Allocator>(resources: &[Resource<A>], r: usize) -> &[u8]
-    requires { r < length resources.now }
-    ensures { result.now ≡ resource_name (map (λ r. r.name.items) resources.now) r }
+/// Says the number of a text before its refusal, if there are several.
+fn say_number<O: Output>(
+    voice: &mut Voice,
+    output: &mut O,
+    text: Option<u128>,
+) -> Result<(), DeviceFault>
+    ensures ok { OnOk result (Adds (at O.written O.failures voice.old output.old) (saying.text_words text) (at O.written O.failures voice.new output.new)) }
+    ensures err { OnErr result (Breaks (at O.written O.failures voice.old output.old) (saying.text_words text) (at O.written O.failures voice.new output.new)) }
 {
-    &resources[r].name
+    let Some(number) = text else {
+        return voice.say(output, b"");
+    };
+    let mut digits = Buffer::new();
+    voice.say_all(output, &[b"text ", digits.format(number).as_bytes(), b" "])
 }
 
-/// Appends the source line of each part to a text, after a blank.
-fn put_numbers(text: &mut Vec<u8>, parts: &[Part]) -> Result<(), NoMemory>
-    ensures { OnOk result (text.new.items ≡ text.old.items ++ numbers_text parts.now) }
+/// Tells the line of the refusal of a text.
+fn tell_refusal<O: Output>(
+    voice: &mut Voice,
+    output: &mut O,
+    refusal: &Refusal,
+) -> Result<(), DeviceFault>
+    ensures ok { OnOk result (Adds (at O.written O.failures voice.old output.old) (line_of (saying.Refused refusal.now.text refusal.now.fault))
+        (at O.written O.failures voice.new output.new)) }
+    ensures err { OnErr result (Breaks (at O.written O.failures voice.old output.old) (line_of (saying.Refused refusal.now.text refusal.now.fault))
+        (at O.written O.failures voice.new output.new)) }
 {
-    for part in parts {
-        put_number(text, b" ", part.line)?;
+    say_number(voice, output, refusal.text)?;
+    pb_accept::tell_line(voice, output, pb_accept::Said::Refused(&refusal.fault))
+}
+
+/// Says the number of a text after the name of a process of it, if there are several.
+fn say_of_text<O: Output>(
+    voice: &mut Voice,
+    output: &mut O,
+    text: Option<usize>,
+) -> Result<(), DeviceFault>
+    ensures ok { OnOk result (Adds (at O.written O.failures voice.old output.old) (saying.of_words text) (at O.written O.failures voice.new output.new)) }
+    ensures err { OnErr result (Breaks (at O.written O.failures voice.old output.old) (saying.of_words text) (at O.written O.failures voice.new output.new)) }
+{
+    let Some(number) = text else {
+        return voice.say(output, b"");
+    };
+    let mut digits = Buffer::new();
+    voice.say_all(output, &[b" of text ", digits.format(number).as_bytes()])
+}
+
+/// Says what a process is called.
+fn say_called<O: Output>(
+    voice: &mut Voice,
+    output: &mut O,
+    called: &FullName,
+) -> Result<(), DeviceFault>
+    ensures ok { OnOk result (Adds (at O.written O.failures voice.old output.old) (called_text (full_name called.now)) (at O.written O.failures voice.new output.new)) }
+    ensures err { OnErr result (Breaks (at O.written O.failures voice.old output.old) (called_text (full_name called.now)) (at O.written O.failures voice.new output.new)) }
+{
+    voice.say(output, &called.name)?;
+    say_of_text(voice, output, called.text)
+}
+
+/// Says the source line of each part.
+fn say_numbers<O: Output>(
+    voice: &mut Voice,
+    output: &mut O,
+    parts: &[Part],
+) -> Result<(), DeviceFault>
+    ensures ok { OnOk result (Adds (at O.written O.failures voice.old output.old) (flat_map line_text parts.now) (at O.written O.failures voice.new output.new)) }
+    ensures err { OnErr result (Breaks (at O.written O.failures voice.old output.old) (flat_map line_text parts.now) (at O.written O.failures voice.new output.new)) }
+{
+    for i in 0..parts.len() {
+        let mut digits = Buffer::new();
+        voice.say_all(output, &[b" ", digits.format(parts[i].line).as_bytes()])?;
     }
     Ok(())
 }
 
-/// Appends the word `lines` and the line of each part to a text; nothing if there is no part.
-fn put_lines(text: &mut Vec<u8>, parts: &[Part]) -> Result<(), NoMemory>
-    ensures { OnOk result (text.new.items ≡ text.old.items ++ lines_text parts.now) }
+/// Says the word `lines` and the source line of each part.
+fn say_some_lines<O: Output>(
+    voice: &mut Voice,
+    output: &mut O,
+    parts: &[Part],
+) -> Result<(), DeviceFault>
+    ensures ok { OnOk result (Adds (at O.written O.failures voice.old output.old) (some_lines_text parts.now) (at O.written O.failures voice.new output.new)) }
+    ensures err { OnErr result (Breaks (at O.written O.failures voice.old output.old) (some_lines_text parts.now) (at O.written O.failures voice.new output.new)) }
+{
+    voice.say(output, b" lines")?;
+    say_numbers(voice, output, parts)
+}
+
+/// Says the word `lines` and the source line of each part; nothing if there is no part.
+fn say_lines<O: Output>(
+    voice: &mut Voice,
+    output: &mut O,
+    parts: &[Part],
+) -> Result<(), DeviceFault>
+    ensures ok { OnOk result (Adds (at O.written O.failures voice.old output.old) (lines_text parts.now) (at O.written O.failures voice.new output.new)) }
+    ensures err { OnErr result (Breaks (at O.written O.failures voice.old output.old) (lines_text parts.now) (at O.written O.failures voice.new output.new)) }
 {
     if parts.len() == 0 {
-        return Ok(());
+        voice.say(output, b"")
+    } else {
+        say_some_lines(voice, output, parts)
     }
-    put(text, b" lines")?;
-    put_numbers(text, parts)
 }
 
-/// Appends the line of a claim to a text.
-fn put_claim(
-    text: &mut Vec<u8>,
-    process: &[u8],
+/// Says a claim on a resource, without the lines that it comes from.
+fn say_claim<O: Output>(
+    voice: &mut Voice,
+    output: &mut O,
     amount: u64,
     resource: &[u8],
-    parts: &[Part],
-) -> Result<(), NoMemory>
-    ensures { OnOk result (text.new.items
-        ≡ text.old.items ++ claim_line process.now amount resource.now parts.now) }
+) -> Result<(), DeviceFault>
+    ensures ok { OnOk result (Adds (at O.written O.failures voice.old output.old) (claimed_words amount resource.now) (at O.written O.failures voice.new output.new)) }
+    ensures err { OnErr result (Breaks (at O.written O.failures voice.old output.old) (claimed_words amount resource.now) (at O.written O.failures voice.new output.new)) }
 {
-    put(text, process)?;
-    put_number(text, b" claim ", amount)?;
-    put_name(text, b" ", resource)?;
-    put_lines(text, parts)?;
-    put(text, b"\n")
+    let mut digits = Buffer::new();
+    voice.say_all(
+        output,
+        &[b" claim ", digits.format(amount).as_bytes(), b" ", resource],
+    )
 }
 
-/// Appends the lines of process p, which is called so, to a text.
-pub(crate) fn put_process<A: Allocator>(
-    alloc: Global,
-    text: &mut Vec<u8>,
-    called: &[u8],
-    process: &Process<A>,
-    claims: &Claims,
-    p: usize,
-    resources: &[Resource<A>],
-) -> Result<(), NoMemory>
-    requires process { p < length claims.now }
-    requires width { (q : ℕ) → q < length claims.now → length (row_of claims.now q) ≡ length resources.now }
-    ensures { OnOk result (text.new.items ≡ text.old.items
-        ++ plan_lines_of (map (λ r. r.name.items) resources.now) called.now
-        (block_view process.now.body.items) (row_of claims.now p)) }
+/// Tells the line of a claim.
+fn tell_claim<O: Output>(
+    voice: &mut Voice,
+    output: &mut O,
+    claim: &Claim,
+) -> Result<(), DeviceFault>
+    ensures ok { OnOk result (Adds (at O.written O.failures voice.old output.old) (line_of (said_view (given.Claim claim.now)))
+        (at O.written O.failures voice.new output.new)) }
+    ensures err { OnErr result (Breaks (at O.written O.failures voice.old output.old) (line_of (said_view (given.Claim claim.now)))
+        (at O.written O.failures voice.new output.new)) }
 {
-    for r in 0..resources.len() {
-        let parts = claim_parts(alloc, process, r)?;
-        let amount = claims.get(p, r);
-        put_claim(text, called, amount, name_of(resources, r), &parts)?;
+    say_called(voice, output, &claim.process)?;
+    say_claim(voice, output, claim.amount, &claim.resource)?;
+    say_lines(voice, output, &claim.parts)?;
+    voice.say(output, b"\n")
+}
+
+/// Tells the line of a resource.
+fn tell_need<O: Output>(voice: &mut Voice, output: &mut O, need: &Need) -> Result<(), DeviceFault>
+    ensures ok { OnOk result (Adds (at O.written O.failures voice.old output.old) (line_of (said_view (given.Resource need.now)))
+        (at O.written O.failures voice.new output.new)) }
+    ensures err { OnErr result (Breaks (at O.written O.failures voice.old output.old) (line_of (said_view (given.Resource need.now)))
+        (at O.written O.failures voice.new output.new)) }
+{
+    let mut capital = Buffer::new();
+    let mut least = Buffer::new();
+    let mut free = Buffer::new();
+    voice.say_all(
+        output,
+        &[
+            &need.name,
+            b" capital ",
+            capital.format(need.capital).as_bytes(),
+            b" least ",
+            least.format(need.least).as_bytes(),
+            b" free ",
+            free.format(need.free).as_bytes(),
+            b"\n",
+        ],
+    )
+}
+
+/// Says the names of resources, each after a blank.
+fn say_names<O: Output>(
+    voice: &mut Voice,
+    output: &mut O,
+    names: &[Vec<u8>],
+) -> Result<(), DeviceFault>
+    ensures ok { OnOk result (Adds (at O.written O.failures voice.old output.old) (flat_map (λ name. name_text name.items) names.now)
+        (at O.written O.failures voice.new output.new)) }
+    ensures err { OnErr result (Breaks (at O.written O.failures voice.old output.old) (flat_map (λ name. name_text name.items) names.now)
+        (at O.written O.failures voice.new output.new)) }
+{
+    for i in 0..names.len() {
+        voice.say_all(output, &[b" ", &names[i]])?;
     }
     Ok(())
 }
 
-/// Appends the line of a resource to a text.
-fn put_resource(
-    text: &mut Vec<u8>,
-    resource: &[u8],
-    capital: u32,
-    least: u64,
-    free: u128,
-) -> Result<(), NoMemory>
-    ensures { OnOk result (text.new.items ≡ text.old.items ++ resource_line resource.now capital least free) }
+/// Tells the line of an order.
+fn tell_order<O: Output>(
+    voice: &mut Voice,
+    output: &mut O,
+    names: &[Vec<u8>],
+) -> Result<(), DeviceFault>
+    ensures ok { OnOk result (Adds (at O.written O.failures voice.old output.old) (line_of (saying.Order (map (λ name. name.items) names.now)))
+        (at O.written O.failures voice.new output.new)) }
+    ensures err { OnErr result (Breaks (at O.written O.failures voice.old output.old) (line_of (saying.Order (map (λ name. name.items) names.now)))
+        (at O.written O.failures voice.new output.new)) }
 {
-    put(text, resource)?;
-    put_number(text, b" capital ", capital)?;
-    put_number(text, b" least ", least)?;
-    put_number(text, b" free ", free)?;
-    put(text, b"\n")
+    voice.say(output, b"order")?;
+    say_names(voice, output, names)?;
+    voice.say(output, b"\n")
 }
 
-/// Appends the lines of the resources to a text.
-pub(crate) fn put_resources<A: Allocator>(
-    text: &mut Vec<u8>,
-    resources: &[Resource<A>],
-    capital: &Capital,
-    claims: &Claims,
-) -> Result<(), NoMemory>
-    requires capital { length capital.now ≡ length resources.now }
-    requires width { width_of claims.now ≡ length resources.now }
-    ensures { OnOk result (text.new.items ≡ text.old.items
-        ++ resources_lines (map (λ r. r.name.items) resources.now) capital.now claims.now) }
+/// Says the resource and the line of each of two holds, and the end of a line.
+fn say_holds<O: Output>(voice: &mut Voice, output: &mut O, nest: &Nested) -> Result<(), DeviceFault>
+    ensures ok { OnOk result (Adds (at O.written O.failures voice.old output.old)
+        (nest_words nest.now.outer.items nest.now.outer_line nest.now.inner.items nest.now.inner_line) (at O.written O.failures voice.new output.new)) }
+    ensures err { OnErr result (Breaks (at O.written O.failures voice.old output.old)
+        (nest_words nest.now.outer.items nest.now.outer_line nest.now.inner.items nest.now.inner_line) (at O.written O.failures voice.new output.new)) }
 {
-    for r in 0..resources.len() {
-        let least = least_capital(claims, r);
-        let free = free_capital(claims, r);
-        put_resource(text, name_of(resources, r), capital.get(r), least, free)?;
+    let mut outer_line = Buffer::new();
+    let mut inner_line = Buffer::new();
+    voice.say_all(
+        output,
+        &[
+            b" holds ",
+            &nest.outer,
+            b" line ",
+            outer_line.format(nest.outer_line).as_bytes(),
+            b" around ",
+            &nest.inner,
+            b" line ",
+            inner_line.format(nest.inner_line).as_bytes(),
+            b"\n",
+        ],
+    )
+}
+
+/// Tells the line of a hold inside another one.
+fn tell_nest<O: Output>(voice: &mut Voice, output: &mut O, nest: &Nested) -> Result<(), DeviceFault>
+    ensures ok { OnOk result (Adds (at O.written O.failures voice.old output.old) (line_of (said_view (given.Nest nest.now)))
+        (at O.written O.failures voice.new output.new)) }
+    ensures err { OnErr result (Breaks (at O.written O.failures voice.old output.old) (line_of (said_view (given.Nest nest.now)))
+        (at O.written O.failures voice.new output.new)) }
+{
+    say_called(voice, output, &nest.process)?;
+    say_holds(voice, output, nest)
+}
+
+/// Tells a thing by its line.
+pub(crate) fn tell_line<O: Output>(
+    voice: &mut Voice,
+    output: &mut O,
+    said: &Said,
+) -> Result<(), DeviceFault>
+    ensures ok { OnOk result (Adds (at O.written O.failures voice.old output.old) (line_of (said_view said.now))
+        (at O.written O.failures voice.new output.new)) }
+    ensures err { OnErr result (Breaks (at O.written O.failures voice.old output.old) (line_of (said_view said.now))
+        (at O.written O.failures voice.new output.new)) }
+{
+    match said {
+        Said::Refused(refusal) => tell_refusal(voice, output, refusal),
+        Said::Unknown(name) => voice.say_all(output, &[b"refused N3 ", name, b"\n"]),
+        Said::Claim(claim) => tell_claim(voice, output, claim),
+        Said::Resource(need) => tell_need(voice, output, need),
+        Said::Bottleneck(name) => voice.say_all(output, &[b"bottleneck ", name, b"\n"]),
+        Said::Order(names) => tell_order(voice, output, names),
+        Said::Nest(nest) => tell_nest(voice, output, nest),
+        Said::NoRequestWaits => voice.say(output, b"no request waits\n"),
+        Said::NoOrder => voice.say(output, b"no order\n"),
+        Said::TooLong => voice.say(output, b"refused input\n"),
+        Said::NoMemory => voice.say(output, b"memory\n"),
     }
-    Ok(())
-}
-
-/// Appends the last line to a text.
-pub(crate) fn put_last<A: Allocator>(
-    text: &mut Vec<u8>,
-    resources: &[Resource<A>],
-    found: Option<usize>,
-) -> Result<(), NoMemory>
-    requires { IfSome found (λ r. r < length resources.now) }
-    ensures { OnOk result (text.new.items ≡ text.old.items
-        ++ last_line (map (λ r. r.name.items) resources.now) found) }
-{
-    let Some(r) = found else {
-        return put(text, b"no request waits\n");
-    };
-    put_name(text, b"bottleneck ", name_of(resources, r))?;
-    put(text, b"\n")
-}
-
-/// Appends the names of the resources of an order to a text, each after a blank.
-fn put_names<A: Allocator>(
-    text: &mut Vec<u8>,
-    resources: &[Resource<A>],
-    order: &[usize],
-) -> Result<(), NoMemory>
-    requires { All (λ r. r < length resources.now) order.now }
-    ensures { OnOk result (text.new.items ≡ text.old.items
-        ++ flat_map (λ r. codes " " ++ resource_name (map (λ r. r.name.items) resources.now) r) order.now) }
-{
-    for r in order {
-        put_name(text, b" ", name_of(resources, *r))?;
-    }
-    Ok(())
-}
-
-/// Appends the line of an order of the resources to a text, or that there is none.
-pub(crate) fn put_order<A: Allocator>(
-    text: &mut Vec<u8>,
-    resources: &[Resource<A>],
-    found: &Option<Vec<usize>>,
-) -> Result<(), NoMemory>
-    requires { IfSome found.now (λ order. All (λ r. r < length resources.now) order.items) }
-    ensures { OnOk result (text.new.items ≡ text.old.items
-        ++ order_line (map (λ r. r.name.items) resources.now) (option_map (λ order. order.items) found.now)) }
-{
-    let Some(order) = found else {
-        return put(text, b"no order\n");
-    };
-    put(text, b"order")?;
-    put_names(text, resources, order)?;
-    put(text, b"\n")
-}
-
-/// Returns what a process is called.
-pub(crate) fn process_name(processes: &[Vec<u8>], p: usize) -> &[u8]
-    requires { p < length processes.now }
-    ensures { result.now ≡ slice_index_or (map (λ name. name.items) processes.now) p [] }
-{
-    &processes[p]
-}
-
-/// Appends the name of a resource and the line of a hold that asks for it to a text, after a word.
-fn put_hold(text: &mut Vec<u8>, word: &[u8], resource: &[u8], line: u32) -> Result<(), NoMemory>
-    ensures { OnOk result (text.new.items ≡ text.old.items ++ hold_text word.now resource.now line) }
-{
-    put_name(text, word, resource)?;
-    put_number(text, b" line ", line)
-}
-
-/// Appends the line of a hold inside another one to a text.
-fn put_edge<A: Allocator>(
-    text: &mut Vec<u8>,
-    processes: &[Vec<u8>],
-    resources: &[Resource<A>],
-    edge: &Edge,
-) -> Result<(), NoMemory>
-    requires { IsBelow (length processes.now) (length resources.now) edge.now }
-    ensures { OnOk result (text.new.items ≡ text.old.items
-        ++ edge_line (map (λ name. name.items) processes.now) (map (λ r. r.name.items) resources.now) edge.now) }
-{
-    let outer = name_of(resources, edge.nest.outer);
-    let inner = name_of(resources, edge.nest.inner);
-    put(text, process_name(processes, edge.process))?;
-    put_hold(text, b" holds ", outer, edge.nest.outer_line)?;
-    put_hold(text, b" around ", inner, edge.nest.inner_line)?;
-    put(text, b"\n")
-}
-
-/// Appends the lines of a circle of nested holds to a text.
-pub(crate) fn put_circle<A: Allocator>(
-    text: &mut Vec<u8>,
-    processes: &[Vec<u8>],
-    resources: &[Resource<A>],
-    circle: &[Edge],
-) -> Result<(), NoMemory>
-    requires { All (IsBelow (length processes.now) (length resources.now)) circle.now }
-    ensures { OnOk result (text.new.items ≡ text.old.items
-        ++ circle_lines (map (λ name. name.items) processes.now) (map (λ r. r.name.items) resources.now) circle.now) }
-{
-    for edge in circle {
-        put_edge(text, processes, resources, edge)?;
-    }
-    Ok(())
 }

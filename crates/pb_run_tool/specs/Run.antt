@@ -9,7 +9,6 @@ use Rattle.pb_accept.specs.Objects.{text_of}
 use Rattle.pb_accept.specs.Replays.{SaysOfReplay}
 use Rattle.pb_code.specs.declared.format.Format.{Format}
 use Rattle.pb_code.specs.declared.format.Format.TheVariants.{One, Two}
-use Rattle.pb_command_io.specs.Inputs.{SaysOfInput}
 use Rattle.pb_command_io.specs.declared.status.Status.{Status}
 use Rattle.pb_engines.specs.Executions.{SaysOfExecution}
 use Rattle.pb_engines.specs.Records.{SaysOfRecord}
@@ -28,8 +27,8 @@ use Rattle.pb_words.specs.declared.words.Options.TheVariants as option
 abbrev pub is_data : (command : List ℕ) → Bool
 is_data command =
     bytes_eq command (codes "check") || bytes_eq command (codes "claims") || bytes_eq command (codes "emit")
-    || bytes_eq command (codes "exec") || bytes_eq command (codes "migrate") || bytes_eq command (codes "replay")
-    || bytes_eq command (codes "run")
+    || bytes_eq command (codes "exec") || bytes_eq command (codes "explain") || bytes_eq command (codes "migrate")
+    || bytes_eq command (codes "record") || bytes_eq command (codes "replay") || bytes_eq command (codes "run")
 
 -- whether the command of some words does; it is the word after the program's name
 abbrev pub in_objects : List (List ℕ) → Bool
@@ -37,15 +36,16 @@ in_objects [] = false
 in_objects (name ∷ []) = false
 in_objects (name ∷ command ∷ words) = is_data command
 
--- what its commands may say of an input in a form; the others have lines alone
+-- what its commands may say of an input in a form
 abbrev pub says : Form → Options → List ℕ → List ℕ → Status → Type 0
 says form (option.Check numbers) = Written (text_of form) (SaysOfAny (SaysOfChecks numbers.warn))
 says form option.Claims = Written (text_of form) (SaysOfAny SaysOfClaims)
 says form (option.Emit numbers) = Written (text_of form) (SaysOfAny (SaysOfEmission numbers.object))
 says form (option.Exec numbers) = Written (text_of form) (SaysOfAny (SaysOfExecution numbers.steps))
-says form (option.Explain code) = λ bytes. SaysOfExplain code
+says form (option.Explain code) = λ bytes. SaysOfExplain form code
 says form option.Migrate = Written (text_of form) (SaysOfAny SaysOfMigration)
-says form (option.Record numbers) = SaysOfInput (SaysOfRecord (lending_for numbers.lend) numbers.run.steps numbers.seed)
+says form (option.Record numbers) =
+    Written (text_of form) (SaysOfAny (SaysOfRecord (lending_for numbers.lend) numbers.run.steps numbers.seed))
 says form (option.Replay options) = Written (text_of form) (SaysOfAny (SaysOfReplay (lending_for options.lend)))
 says form (option.Run numbers) = Written (text_of form) (SaysOfAny (SaysOfTextRun numbers.steps))
 says form _ = λ bytes text status. ⊥

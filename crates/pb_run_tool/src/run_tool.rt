@@ -9,7 +9,7 @@ use pb_call::Commands;
 use pb_code::Format;
 use pb_command_io::Status;
 use pb_engines::{
-    record_engine, write_checks, write_claims, write_emission, write_execution, write_migration,
+    write_checks, write_claims, write_emission, write_execution, write_migration, write_record,
     write_replay, write_run,
 };
 use pb_explain::explain_engine;
@@ -32,7 +32,7 @@ impl Commands for RunTool {
 
     ghost in_objects = { in_objects };
 
-    ghost Leaves = { leaves };
+    ghost Leaves = { λ form. leaves };
 
     ghost TellsRefused = { tells_refused };
 
@@ -59,9 +59,9 @@ impl Commands for RunTool {
             Options::Exec(numbers) => Some(write_execution(
                 rt, alloc, form, numbers, input, output,
             )),
-            Options::Explain(code) => Some(explain_engine(alloc, code, output)),
+            Options::Explain(code) => Some(explain_engine(alloc, form, code, output)),
             Options::Migrate => Some(write_migration(alloc, form, input, output)),
-            Options::Record(numbers) => Some(record_engine(rt, alloc, numbers, input, output)),
+            Options::Record(numbers) => Some(write_record(rt, alloc, form, numbers, input, output)),
             Options::Replay(options) => Some(write_replay(alloc, form, options, input, output)),
             Options::Run(numbers) => Some(write_run(rt, alloc, form, numbers, input, output)),
             _ => None,
@@ -109,7 +109,9 @@ fn tells_data(command: &str) -> bool
         || command == "claims"
         || command == "emit"
         || command == "exec"
+        || command == "explain"
         || command == "migrate"
+        || command == "record"
         || command == "replay"
         || command == "run"
 }

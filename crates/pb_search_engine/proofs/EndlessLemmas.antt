@@ -1,15 +1,14 @@
 -- Picks that lead into a circle and go round it can be shown, and what is said of them.
-use Rattle.std.proofs.Common.{◌≡◌, ◌⊎◌, ⊎_elim, ℕ, List, ◌++◌, length, sym, ap, ◌∙◌, subst}
+use Rattle.std.proofs.Common.{◌≡◌, ⊎_elim, ℕ, List, ◌++◌, sym, ap, ◌∙◌, subst}
 use Rattle.std.proofs.lemmas.List.{append_assoc}
 use Rattle.std.specs.Prelude.{Bool, codes}
-use Rattle.pb_base.specs.Lines.{HasProcess, NameTable}
+use Rattle.pb_base.specs.Lines.{HasProcess}
 use Rattle.pb_base.specs.declared.lending.Lending.{Lending}
-use Rattle.pb_base.specs.declared.limits.TheConstants.{MAX_PICKS}
 use Rattle.pb_base.specs.declared.pick.Pick.{Pick}
 use Rattle.pb_code.specs.Whole.{Code}
 use Rattle.pb_command_io.specs.declared.status.Status.{Status}
 use Rattle.pb_command_io.specs.declared.status.Status.TheVariants.{Done, Limit}
-use Rattle.pb_search_engine.specs.SaysEndless.{SaysOfCircle, TellsCircle, circle_lines, endless, endless_line, ends, ends_line, long, many, more_line}
+use Rattle.pb_search_engine.specs.SaysEndless.{SaysOfCircle, TellsCircle, endless, ends, ends_line, long, many, more_line}
 use Rattle.pb_search_engine.specs.Showing.{HaveProcesses}
 use Rattle.pb_search_engine.specs.SourceOutcomes.{without_prints}
 use Rattle.pb_search_engine.proofs.CountLemmas.{all_right}

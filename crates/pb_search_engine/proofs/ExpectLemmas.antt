@@ -17,9 +17,6 @@ use Rattle.pb_command_io.specs.Parts.{AreTwoParts}
 use Rattle.pb_command_io.specs.declared.status.Status.{Status}
 use Rattle.pb_command_io.specs.declared.status.Status.TheVariants.{Done, Limit, Refused, Unexpected}
 use Rattle.pb_options.specs.declared.options.Lend.{Lend}
-use Rattle.pb_options.specs.Lends.{lending_for}
-use Rattle.pb_options.specs.declared.options.OutcomesOptions.{OutcomesOptions}
-use Rattle.pb_page_engine.specs.Schedules.{SaysOfSchedules}
 use Rattle.pb_search.specs.Deadlocks.{AreFoundAt, AreSomeDeadlocks, FoundDeadlock, deadlock_view}
 use Rattle.pb_search.specs.Outcomes.{AreSomeOutcomes, Found, found_view}
 use Rattle.pb_search.specs.Told.{IsTold, Tells as SearchTells}
@@ -36,7 +33,6 @@ use Rattle.pb_search_engine.specs.Expected.{AreWanted, IsFirstOther, IsWanted, p
 use Rattle.pb_search_engine.specs.Requirements.{AreMet, IsBadAsked, IsFirstUnmet, SpellsAsked, requirement_text}
 use Rattle.pb_search_engine.specs.SaysExpected.{IsPlain, IsPlainBy, SaysOfAsked, SaysOfEndless, SaysOfExpected, SaysOfLines, SaysOfRuns, TellsDeadlock, TellsOutcome, asked, met, no_prints, no_text, other_line, unmet}
 use Rattle.pb_search_engine.specs.SaysExpected.{as_expected, deadlock, endless, long, many, outcome}
-use Rattle.pb_search_engine.specs.SaysOfAll.{SaysForEver, SaysOfSearches, SaysOrDocument, SaysWhether}
 use Rattle.pb_search_engine.specs.Showing.{HaveProcesses}
 use Rattle.pb_search_engine.specs.declared.print_lines.PrintFault.TheVariants.{NotPrint}
 use Rattle.pb_search_engine.specs.declared.requirements.Requirement.{Requirement}
@@ -261,32 +257,3 @@ text_refused fair lend any_order states bytes text lines old new given short few
     go _ _ (not_read input.no_memory) = not_read input.no_memory
     go _ _ (not_read nothing) = not_read nothing
     go said status (read within is) = read short (no_text text lines cut said status is)
-
--- what is said by whether it is asked what is expected
-pub tells_whether : (options : OutcomesOptions) (b : Bool) → options.expect ≡ b → (bytes : List ℕ) (old new : Option (List ℕ)) (given : Status)
-    → Tells (SaysOfInput (SaysWhether b options) bytes) old new given
-    → Tells (SaysOfInput (SaysWhether options.expect options) bytes) old new given
-tells_whether options b is bytes old new given said =
-    subst (λ (b : Bool). Tells (SaysOfInput (SaysWhether b options) bytes) old new given) (sym is) said
-
--- and by whether a run that never ends is asked for
-pub tells_for_ever : (options : OutcomesOptions) (b : Bool) → options.endless ≡ b → (bytes : List ℕ) (old new : Option (List ℕ))
-    (given : Status) → Tells (SaysOfInput (SaysForEver b options) bytes) old new given
-    → Tells (SaysOfInput (SaysForEver options.endless options) bytes) old new given
-tells_for_ever options b is bytes old new given said =
-    subst (λ (b : Bool). Tells (SaysOfInput (SaysForEver b options) bytes) old new given) (sym is) said
-
--- and by whether the document of all schedules is asked for
-pub tells_or_document : (options : OutcomesOptions) (b : Bool) → options.graph ≡ b → (bytes : List ℕ) (old new : Option (List ℕ))
-    (given : Status) → Tells (SaysOfInput (SaysOrDocument b options) bytes) old new given
-    → Tells (SaysOfInput (SaysOfSearches options) bytes) old new given
-tells_or_document options b is bytes old new given said =
-    subst (λ (b : Bool). Tells (SaysOfInput (SaysOrDocument b options) bytes) old new given) (sym is) said
-
-pub tells_document : (options : OutcomesOptions) → options.graph ≡ true → (lending : Lending) → lending ≡ lending_for options.lend
-    → (bytes : List ℕ) (old new : Option (List ℕ)) (given : Status)
-    → Tells (SaysOfInput (SaysOfSchedules lending options.states) bytes) old new given
-    → Tells (SaysOfInput (SaysOfSearches options) bytes) old new given
-tells_document options is lending by bytes old new given said =
-    tells_or_document options true is bytes old new given
-    (subst (λ (l : Lending). Tells (SaysOfInput (SaysOfSchedules l options.states) bytes) old new given) by said)

@@ -1,19 +1,24 @@
 -- What is said of fair runs, and that there is none that never ends if every run ends.
-use Rattle.std.proofs.Common.{◌≡◌, ℕ, zero, suc, List, [], ◌∷◌, ◌++◌, length, refl, sym, ap, subst, arith, length-append}
+use Rattle.std.proofs.Common.{◌≡◌, ◌≢◌, ◌∙◌, ℕ, zero, suc, List, [], ◌∷◌, ◌++◌, length, map, refl, sym, ap, subst, arith, length-append}
+use Rattle.std.proofs.lemmas.List.{map-append}
 use Rattle.std.specs.Prelude.{Bool, true, false, not}
 use Rattle.pb_base.specs.declared.pick.Pick.{Pick}
-use Rattle.pb_code.specs.Whole.{Code, ProcessLabels}
+use Rattle.pb_code.specs.Whole.{Code}
 use Rattle.pb_command_io.specs.declared.status.Status.{Status}
+use Rattle.pb_command_io.specs.declared.status.Status.TheVariants.{Device}
 use Rattle.pb_search.specs.Deadlocks.{FoundDeadlock}
 use Rattle.pb_search.specs.Outcomes.{Found, IsBounded}
 use Rattle.pb_search.specs.Told.{IsTold}
 use Rattle.pb_search.specs.declared.found.Extent.{Extent}
 use Rattle.pb_search.specs.declared.found.Extent.TheVariants.{All}
 use Rattle.pb_search.specs.declared.found.Until.{Until}
-use Rattle.pb_search_engine.specs.FairLines.{fair_line, status_with}
+use Rattle.pb_search_engine.specs.FairLines.{status_with}
+use Rattle.pb_search_engine.specs.Items.{Item, fair_item, given_item_view}
+use Rattle.pb_search_engine.specs.declared.item.Item.{Item as GivenItem}
 use Rattle.pb_search_engine.specs.SaysOutcomes.{SaysFairly, SaysOfSearch}
 use Rattle.pb_search_fair.specs.CodeRuns.{HasFairRun, TellsFairRuns}
 use Rattle.pb_search_fair.specs.declared.runs.FairRuns.{FairRuns}
+use Rattle.pb_search_fair.specs.declared.runs.FairRuns.TheVariants.{AllEnd, SomeDoNotEnd, TooMany}
 use Rattle.pb_search_stages.proofs.ClosedSets.{comes_on}
 use Rattle.pb_search_stages.proofs.Traces.{plain_step, traced_step}
 use Rattle.pb_search_stages.specs.Reaching.{CodeLeads, Configuration}
@@ -72,17 +77,29 @@ bounded_told mode code until states found stuck extent is told =
 
 -- ---- what is said
 
-pub says_plainly : (fair : Bool) (mode : Mode) (until : Until) (code : Code) (labels : List ProcessLabels) (states : ℕ)
-    (text : List ℕ) (status : Status) → not fair ≡ true → SaysOfSearch mode until code labels states text status
-    → SaysFairly fair mode until code labels states text status
-says_plainly true mode until code labels states text status is says = absurd (cc)
-says_plainly false mode until code labels states text status is says = says
+pub says_plainly : (fair : Bool) (mode : Mode) (until : Until) (code : Code) (states : ℕ) (items : List Item) (status : Status)
+    → not fair ≡ true → SaysOfSearch mode until code states items status → SaysFairly fair mode until code states items status
+says_plainly true mode until code states items status is says = absurd (cc)
+says_plainly false mode until code states items status is says = says
 
-pub says_fairly : (fair : Bool) (mode : Mode) (until : Until) (code : Code) (labels : List ProcessLabels) (states : ℕ)
-    (before : List ℕ) (was : Status) (told : FairRuns) (text : List ℕ) (status : Status) → not fair ≡ false
-    → SaysOfSearch mode until code labels states before was → TellsFairRuns (quiet mode) code states told
-    → text ≡ before ++ fair_line states told → status ≡ status_with was told
-    → SaysFairly fair mode until code labels states text status
-says_fairly true mode until code labels states before was told text status is says tells same_text same_status =
-    (before, was, told, says, tells, same_text, same_status)
-says_fairly false mode until code labels states before was told text status is says tells same_text same_status = absurd (cc)
+pub says_fairly : (fair : Bool) (mode : Mode) (until : Until) (code : Code) (states : ℕ)
+    (before : List Item) (was : Status) (told : FairRuns) (items : List Item) (status : Status) → not fair ≡ false
+    → SaysOfSearch mode until code states before was → TellsFairRuns (quiet mode) code states told
+    → items ≡ before ++ fair_item states told ∷ [] → status ≡ status_with was told
+    → SaysFairly fair mode until code states items status
+says_fairly true mode until code states before was told items status is says tells same_items same_status =
+    (before, was, told, says, tells, same_items, same_status)
+says_fairly false mode until code states before was told items status is says tells same_items same_status = absurd (cc)
+
+-- one item more, whose view is known
+pub item_behind : (before items : List GivenItem) (item : GivenItem) (is : Item) → items ≡ before ++ item ∷ [] → given_item_view item ≡ is
+    → map given_item_view items ≡ map given_item_view before ++ is ∷ []
+item_behind before items item is added same =
+    ap (map given_item_view) added
+    ∙ (map-append given_item_view before (item ∷ []) ∙ ap (λ (i : Item). map given_item_view before ++ i ∷ []) same)
+
+-- the status is not that of a device
+pub status_kept : (was : Status) (told : FairRuns) → was ≢ Device → status_with was told ≢ Device
+status_kept was AllEnd other = other
+status_kept was SomeDoNotEnd other = other
+status_kept was TooMany other = λ e. cc

@@ -1,12 +1,15 @@
 pub mod CountLemmas
 pub mod EndlessLemmas
+pub mod EntryLemmas
 pub mod ExpectLemmas
 pub mod ExpectedLaw
 pub mod ExpectedSource
 pub mod FairLemmas
+pub mod ItemLemmas
 pub mod LineLemmas
 pub mod OneRunLemmas
 pub mod OutcomeLemmas
+pub mod PartLemmas
 pub mod PrintedOutcomes
 pub mod PrintLemmas
 pub mod RequirementLemmas
@@ -16,4 +19,5 @@ pub mod Skips
 pub mod SourceOutcomeLemmas
 pub mod SourceRequirementLemmas
 pub mod SourceRunLemmas
+pub mod TellLemmas
 pub mod WantedLemmas

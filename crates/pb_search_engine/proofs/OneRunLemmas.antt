@@ -1,5 +1,5 @@
 -- A run to one outcome or one deadlock: its picks can be shown, and what is said then.
-use Rattle.std.proofs.Common.{◌≡◌, ◌++◌, ℕ, false, List, Option, Some, None, length, map}
+use Rattle.std.proofs.Common.{◌≡◌, ◌++◌, ℕ, List, Option, Some, None, length, map}
 use Rattle.std.proofs.Common.{refl, sym, ap, subst, ◌∙◌, ◌-◌}
 use Rattle.std.specs.Prelude.{All, slice_get}
 use Rattle.std.specs.Option.{option_map}
@@ -10,11 +10,8 @@ use Rattle.pb_base.specs.Lines.{NameTable}
 use Rattle.pb_base.specs.declared.pick.Pick.{Pick}
 use Rattle.pb_accept.specs.RunTexts.{SaysOfRunText}
 use Rattle.pb_code.specs.Whole.{Code}
-use Rattle.pb_command_io.specs.Answers.{Tells}
-use Rattle.pb_command_io.specs.Inputs.{SaysOfInput}
 use Rattle.pb_command_io.specs.declared.status.Status.{Status}
 use Rattle.pb_history.specs.declared.counted.CountedPick.{CountedPick}
-use Rattle.pb_options.specs.declared.options.OutcomesOptions.{OutcomesOptions}
 use Rattle.pb_search.specs.Deadlocks.{FoundDeadlock, deadlock_view}
 use Rattle.pb_search.specs.Outcomes.{Found, found_view}
 use Rattle.pb_search.specs.Told.{Tells as SearchTells}
@@ -24,7 +21,6 @@ use Rattle.pb_search.specs.declared.found.Outcomes.{Outcomes}
 use Rattle.pb_search.specs.declared.found.Until.{Until}
 use Rattle.pb_search_stages.specs.declared.print.Mode.{Mode}
 use Rattle.pb_search_engine.specs.OutcomeLines.{AreCounted, last_line}
-use Rattle.pb_search_engine.specs.SaysOfAll.{SaysForEver, SaysWhich, target_of}
 use Rattle.pb_search_engine.specs.SaysOfOne.{SaysOfOneRun, none, none_line, none_status, picks_to, there}
 use Rattle.pb_search_engine.specs.declared.one_run.Target.{Target}
 use Rattle.pb_search_engine.specs.declared.one_run.Target.TheVariants.{Deadlock, Outcome}
@@ -86,10 +82,3 @@ module _ (target : Target) (mode : Mode) (until : Until) (v seen : VerifiedCode)
       (ap (λ n. none_line target ++ last_line states n (length Deadlocks-here) told.extent) count
       ∙ (ap (λ n. none_line target ++ last_line states (length told.found.items) n told.extent) many ∙ sym said.0))
       (none Found-here Deadlocks-here told.extent tells_here is))
-
--- what is said by which one is asked for
-pub tells_which : (options : OutcomesOptions) (o : Option Target) → target_of options.run options.deadlock ≡ o → (bytes : List ℕ)
-    (old new : Option (List ℕ)) (given : Status) → Tells (SaysOfInput (SaysWhich o options) bytes) old new given
-    → Tells (SaysOfInput (SaysForEver false options) bytes) old new given
-tells_which options o is bytes old new given said =
-    subst (λ (o : Option Target). Tells (SaysOfInput (SaysWhich o options) bytes) old new given) (sym is) said

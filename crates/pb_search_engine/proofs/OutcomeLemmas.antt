@@ -27,8 +27,7 @@ use Rattle.pb_search.proofs.ToldLists.{some_of}
 use Rattle.pb_base.specs.declared.limits.TheConstants.{MAX_PICKS}
 use Rattle.pb_search_stages.specs.Traces.{trace_outcome}
 use Rattle.pb_search.specs.declared.found.Found.{Found as GivenFound}
-use Rattle.pb_search_engine.specs.DeadlockLines.{AreDeadlockLines}
-use Rattle.pb_search_engine.specs.OutcomeLines.{AreOutcomeLines, last_line}
+use Rattle.pb_search_engine.specs.Items.{AreDeadlockItems, AreOutcomeItems, Item, closing_item}
 use Rattle.pb_search_engine.specs.SaysOutcomes.{SaysOfSearch, status_of, told}
 use Rattle.pb_search_engine.specs.Showing.{HaveProcesses}
 use Rattle.pb_search.specs.Deadlocks.{AreFoundAt, AreSomeDeadlocks, FoundDeadlock, IsFoundAt}
@@ -129,28 +128,20 @@ module _ (mode : Mode) (v seen : VerifiedCode) (same : seen ≡ v) (code : Code)
       subst (λ (n : NameTable). All (λ d. HaveProcesses n d.picks.items) deadlocks) (ap (λ (c : Code). c.names) (sym of))
       (deadlocks_shown mode seen.code verified.faultless deadlocks are)
 
-  pub says_told : (until : Until) (result : Outcomes) (states : ℕ) (lines more text : List ℕ) (status : Status)
-      → Tells mode seen.code until states result
-      → AreOutcomeLines code.names shown (map found_view result.found.items) lines
-      → AreDeadlockLines code.names shown (map deadlock_view result.deadlocks.items) more
-      → text ≡ (lines ++ more) ++ last_line states (length result.found.items) (length result.deadlocks.items) result.extent
-      → status ≡ status_of result.extent (length result.deadlocks.items) → SaysOfSearch mode until v.code labels states text status
-  says_told until result states lines more text status tells are stuck_are is same_status =
-      let count : length (map found_view result.found.items) ≡ length result.found.items = length-map result.found.items found_view in
-      let many : length (map deadlock_view result.deadlocks.items) ≡ length result.deadlocks.items =
-      length-map result.deadlocks.items deadlock_view in
-      let outcomes : AreOutcomeLines v.code.names labels (map found_view result.found.items) lines =
-      subst (λ (n : NameTable). AreOutcomeLines n labels (map found_view result.found.items) lines) same_names
-      (subst (λ (l : List ProcessLabels). AreOutcomeLines code.names l (map found_view result.found.items) lines) same_labels are) in
-      let stuck : AreDeadlockLines v.code.names labels (map deadlock_view result.deadlocks.items) more =
-      subst (λ (n : NameTable). AreDeadlockLines n labels (map deadlock_view result.deadlocks.items) more) same_names
-      (subst (λ (l : List ProcessLabels). AreDeadlockLines code.names l (map deadlock_view result.deadlocks.items) more) same_labels stuck_are) in
-      subst (λ (s : Status). SaysOfSearch mode until v.code labels states text s)
-      (ap (status_of result.extent) many ∙ sym same_status)
-      (subst (λ (t : List ℕ). SaysOfSearch mode until v.code labels states t
-      (status_of result.extent (length (map deadlock_view result.deadlocks.items))))
-      (ap (λ n. (lines ++ more) ++ last_line states n (length (map deadlock_view result.deadlocks.items)) result.extent) count
-      ∙ (ap (λ n. (lines ++ more) ++ last_line states (length result.found.items) n result.extent) many ∙ sym is))
-      (told (map found_view result.found.items) (map deadlock_view result.deadlocks.items) result.extent
-      (subst (λ (x : VerifiedCode). Tells mode x.code until states result) same tells)
-      lines outcomes more stuck))
+pub says_told : (mode : Mode) (v seen : VerifiedCode) (same : seen ≡ v) (until : Until) (result : Outcomes) (states : ℕ)
+    (outcomes stuck items : List Item) (status : Status) → Tells mode seen.code until states result
+    → AreOutcomeItems (map found_view result.found.items) outcomes → AreDeadlockItems (map deadlock_view result.deadlocks.items) stuck
+    → items ≡ (outcomes ++ stuck) ++ closing_item states (length result.found.items) (length result.deadlocks.items) result.extent ∷ []
+    → status ≡ status_of result.extent (length result.deadlocks.items) → SaysOfSearch mode until v.code states items status
+says_told mode v seen same until result states outcomes stuck items status tells are stuck_are is same_status =
+    let count : length (map found_view result.found.items) ≡ length result.found.items = length-map result.found.items found_view in
+    let many : length (map deadlock_view result.deadlocks.items) ≡ length result.deadlocks.items =
+    length-map result.deadlocks.items deadlock_view in
+    subst (λ (s : Status). SaysOfSearch mode until v.code states items s)
+    (ap (status_of result.extent) many ∙ sym same_status)
+    (subst (λ (l : List Item). SaysOfSearch mode until v.code states l
+    (status_of result.extent (length (map deadlock_view result.deadlocks.items))))
+    (ap (λ n. (outcomes ++ stuck) ++ closing_item states n (length (map deadlock_view result.deadlocks.items)) result.extent ∷ []) count
+    ∙ (ap (λ n. (outcomes ++ stuck) ++ closing_item states (length result.found.items) n result.extent ∷ []) many ∙ sym is))
+    (told (map found_view result.found.items) (map deadlock_view result.deadlocks.items) result.extent
+    (subst (λ (x : VerifiedCode). Tells mode x.code until states result) same tells) outcomes are stuck stuck_are))

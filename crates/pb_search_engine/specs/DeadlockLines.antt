@@ -1,5 +1,5 @@
 -- The lines of deadlocks.
-use Rattle.std.specs.Prelude.{ℕ, zero, suc, ◌+◌, List, [], ◌∷◌, ◌++◌, length, codes, slice_index_or}
+use Rattle.std.specs.Prelude.{ℕ, zero, suc, List, [], ◌++◌, length, codes, slice_index_or}
 use Rattle.std.specs.Fmt.{decimal}
 use Rattle.std.specs.List.{flat_map}
 use Rattle.pb_base.specs.Lines.{NameTable, name_of, pair_text, pairs_text, line, each_below}
@@ -10,7 +10,7 @@ use Rattle.pb_search.specs.declared.found.StuckState.TheVariants.{Ended, Faulted
 use Rattle.pb_search.specs.Deadlocks.{FoundDeadlock, StuckProcess}
 use Rattle.pb_history.specs.declared.counted.CountedPick.{CountedPick}
 use Rattle.pb_picks.specs.PickLines.{pick_lines}
-use Rattle.pb_search_engine.specs.OutcomeLines.{AreCounted, integer_lines, integer_names, printed_lines}
+use Rattle.pb_search_engine.specs.OutcomeLines.{integer_lines, integer_names, printed_lines}
 
 -- where a process is in a deadlock
 abbrev pub state_text : StuckState → List ℕ
@@ -56,11 +56,3 @@ abbrev pub deadlock_lines : NameTable → List ProcessLabels → ℕ → FoundDe
 deadlock_lines names labels number d picks =
     line (codes "deadlock " ++ decimal number) ++ all_stuck_lines names labels d.processes
     ++ printed_lines names d.prints ++ line (codes "reached by") ++ pick_lines names.processes picks
-
--- the lines of deadlocks, numbered from 1, each with the picks by which it was found
-pub data AreDeadlockLines (names : NameTable) (labels : List ProcessLabels) : List FoundDeadlock → List ℕ → Type 0 where
-  none : AreDeadlockLines names labels [] []
-  one_more : (found : List FoundDeadlock) (lines : List ℕ) (d : FoundDeadlock) (picks : List CountedPick)
-      → AreDeadlockLines names labels found lines → AreCounted d.picks picks
-      → AreDeadlockLines names labels (found ++ d ∷ [])
-      (lines ++ deadlock_lines names labels (length found + 1) d picks)

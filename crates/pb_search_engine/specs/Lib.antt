@@ -2,9 +2,14 @@ pub mod DeadlockLines
 pub mod Expected
 pub mod ExpectedLaws
 pub mod FairLines
+pub mod ItemLines
+pub mod ItemObjects
+pub mod Items
 pub mod OutcomeLines
+pub mod Parts
 pub mod PrintLines
 pub mod Requirements
+pub mod Sayings
 pub mod SaysEndless
 pub mod SaysExpected
 pub mod SaysOfAll

@@ -1,5 +1,5 @@
 -- The lines of outcomes.
-use Rattle.std.specs.Prelude.{◌≡◌, ℕ, zero, suc, ◌+◌, ℤ, pos, Bool, true, false, List, [], ◌∷◌, ◌++◌, length, codes}
+use Rattle.std.specs.Prelude.{◌≡◌, ℕ, zero, suc, ℤ, pos, Bool, true, false, List, [], ◌++◌, length, codes}
 use Rattle.std.specs.Prelude.{slice_index_or}
 use Rattle.std.specs.Fmt.{decimal, signed_decimal}
 use Rattle.std.specs.List.{flat_map}
@@ -10,7 +10,6 @@ use Rattle.pb_search_stages.specs.Reaching.{ProcessOutcome}
 use Rattle.pb_search_stages.specs.Traces.{Outcome}
 use Rattle.pb_search_stages.specs.declared.print.Print.{Print}
 use Rattle.pb_base.specs.declared.limits.TheConstants.{MAX_PICKS}
-use Rattle.pb_search.specs.Outcomes.{Found}
 use Rattle.pb_search.specs.declared.found.Extent.{Extent}
 use Rattle.pb_search.specs.declared.found.Extent.TheVariants as extent
 use Rattle.pb_history.specs.Replays.{spread}
@@ -85,14 +84,6 @@ outcome_lines names labels number outcome picks =
 pub record AreCounted (picks : List Pick) (counted : List CountedPick) : Type 0 where
   pub same : spread counted ≡ picks
   pub apart : AreApart counted
-
--- the lines of outcomes, numbered from 1, each with the picks by which it was found
-pub data AreOutcomeLines (names : NameTable) (labels : List ProcessLabels) : List Found → List ℕ → Type 0 where
-  none : AreOutcomeLines names labels [] []
-  one_more : (found : List Found) (lines : List ℕ) (f : Found) (picks : List CountedPick)
-      → AreOutcomeLines names labels found lines → AreCounted f.picks picks
-      → AreOutcomeLines names labels (found ++ f ∷ [])
-      (lines ++ outcome_lines names labels (length found + 1) f.outcome picks)
 
 -- the end of a word, if it is said of this number
 abbrev pub plural : ℕ → List ℕ

@@ -1,10 +1,12 @@
--- What `outcomes` says of an input, and with which status.
-use Rattle.std.specs.Prelude.{◌≡◌, ℕ, zero, suc, Bool, true, false, List, ◌++◌, length}
+-- What `outcomes` says of an input, as data, and with which status.
+use Rattle.std.specs.Prelude.{◌≡◌, ◌≢◌, ℕ, zero, suc, Bool, true, false, List, [], ◌∷◌, ◌++◌, length, map}
 use Rattle.pb_code.specs.Whole.{Code, ProcessLabels}
-use Rattle.pb_codegen.specs.Compiled.{IsCompiled}
-use Rattle.pb_accept.specs.Refusals.{SaysOfRefusedText}
+use Rattle.pb_codegen.specs.Compiled.{IsCompiled, IsRefused}
+use Rattle.pb_codegen.specs.declared.fault.CompileFault.{CompileFault}
+use Rattle.pb_codegen.specs.declared.fault.CompileFault.TheVariants as fault
+use Rattle.pb_accept.specs.Sayings.{NoMemory, Refused as RefusedText}
 use Rattle.pb_command_io.specs.declared.status.Status.{Status}
-use Rattle.pb_command_io.specs.declared.status.Status.TheVariants.{Deadlock, Done, Limit}
+use Rattle.pb_command_io.specs.declared.status.Status.TheVariants.{Deadlock, Done, Limit, Memory, Refused}
 use Rattle.pb_search.specs.Deadlocks.{FoundDeadlock}
 use Rattle.pb_search.specs.Outcomes.{Found}
 use Rattle.pb_search.specs.Told.{IsTold}
@@ -15,9 +17,10 @@ use Rattle.pb_search.specs.declared.found.Until.TheVariants.{AllIsFound, FirstDe
 use Rattle.pb_search_stages.specs.declared.print.Mode.{Mode}
 use Rattle.pb_options.specs.Lends.{lending_for}
 use Rattle.pb_options.specs.declared.options.Lend.{Lend}
-use Rattle.pb_search_engine.specs.DeadlockLines.{AreDeadlockLines}
-use Rattle.pb_search_engine.specs.FairLines.{fair_line, status_with}
-use Rattle.pb_search_engine.specs.OutcomeLines.{AreOutcomeLines, last_line}
+use Rattle.pb_options.specs.declared.options.OutcomesOptions.{OutcomesOptions}
+use Rattle.pb_search_engine.specs.FairLines.{status_with}
+use Rattle.pb_search_engine.specs.Items.{AreDeadlockItems, AreOutcomeItems, Item, fair_item, closing_item}
+use Rattle.pb_search_engine.specs.Sayings.{Finds, Plain, Saying}
 use Rattle.pb_search_fair.specs.CodeRuns.{TellsFairRuns}
 use Rattle.pb_search_fair.specs.declared.runs.FairRuns.{FairRuns}
 
@@ -38,31 +41,35 @@ status_of extent.TooMany deadlocks = Limit
 status_of extent.TooLong deadlocks = Limit
 status_of extent.AtDeadlock deadlocks = Deadlock
 
--- what is said of code in this mode: outcomes, then deadlocks, each one of the code and no two the same,
+-- what is found of code in this mode: outcomes, then deadlocks, each one of the code and no two the same,
 -- and whether these are all, which at most this number of configurations tell, or why there may be others
-pub data SaysOfSearch (mode : Mode) (until : Until) (code : Code) (labels : List ProcessLabels) (states : ℕ)
-    : List ℕ → Status → Type 0 where
+pub data SaysOfSearch (mode : Mode) (until : Until) (code : Code) (states : ℕ) : List Item → Status → Type 0 where
   told : (found : List Found) (deadlocks : List FoundDeadlock) (extent : Extent)
       → IsTold mode code until states found deadlocks extent
-      → (lines : List ℕ) → AreOutcomeLines code.names labels found lines
-      → (stuck : List ℕ) → AreDeadlockLines code.names labels deadlocks stuck
-      → SaysOfSearch mode until code labels states
-      ((lines ++ stuck) ++ last_line states (length found) (length deadlocks) extent) (status_of extent (length deadlocks))
+      → (outcomes : List Item) → AreOutcomeItems found outcomes
+      → (stuck : List Item) → AreDeadlockItems deadlocks stuck
+      → SaysOfSearch mode until code states
+      ((outcomes ++ stuck) ++ closing_item states (length found) (length deadlocks) extent ∷ []) (status_of extent (length deadlocks))
 
 -- the same, and then, if that is asked, what is told of fair runs, whatever they print
-abbrev pub SaysFairly : (fair : Bool) → Mode → Until → Code → List ProcessLabels → (states : ℕ) → List ℕ → Status → Type 0
-SaysFairly false mode until code labels states text status = SaysOfSearch mode until code labels states text status
-SaysFairly true mode until code labels states text status =
-    (before : List ℕ) × (was : Status) × (told : FairRuns) × SaysOfSearch mode until code labels states before was
+abbrev pub SaysFairly : (fair : Bool) → Mode → Until → Code → (states : ℕ) → List Item → Status → Type 0
+SaysFairly false mode until code states items status = SaysOfSearch mode until code states items status
+SaysFairly true mode until code states items status =
+    (before : List Item) × (was : Status) × (told : FairRuns) × SaysOfSearch mode until code states before was
     × TellsFairRuns (record { lending = mode.lending; prints = false }) code states told
-    × (text ≡ before ++ fair_line states told) × (status ≡ status_with was told)
+    × (items ≡ before ++ fair_item states told ∷ []) × (status ≡ status_with was told)
 
--- what is said of a text: it is refused; or it is accepted, and the outcomes and deadlocks of its code are
--- told, and its fair runs if that is asked
-pub data SaysOfOutcomes (lend : Lend) (first_deadlock prints fair : Bool) (states : ℕ) (bytes : List ℕ) : List ℕ → Status → Type 0 where
-  refused : (text : List ℕ) (status : Status) → SaysOfRefusedText bytes text status
-      → SaysOfOutcomes lend first_deadlock prints fair states bytes text status
+-- what is said of code with these names: its outcomes and deadlocks, and its fair runs if that is asked; or out of memory
+pub data SaysOfOutcomesOf (options : OutcomesOptions) (code : Code) (labels : List ProcessLabels) : List Saying → Status → Type 0 where
+  found : (items : List Item) (status : Status)
+      → SaysFairly options.fair (mode_for options.lend options.prints) (until_for options.first_deadlock) code options.states items status
+      → SaysOfOutcomesOf options code labels (map (Finds code.names labels) items) status
+  no_memory : SaysOfOutcomesOf options code labels (Plain NoMemory ∷ []) Memory
+
+-- what is said of a text: it is refused; or it is accepted, and this is said of its code
+pub data SaysOfOutcomes (options : OutcomesOptions) (bytes : List ℕ) : List Saying → Status → Type 0 where
+  refused : (f : CompileFault) → f ≢ fault.Memory → IsRefused bytes f
+      → SaysOfOutcomes options bytes (Plain (RefusedText f) ∷ []) Refused
   accepted : (code : Code) (labels : List ProcessLabels) → IsCompiled bytes code labels
-      → (text : List ℕ) (status : Status)
-      → SaysFairly fair (mode_for lend prints) (until_for first_deadlock) code labels states text status
-      → SaysOfOutcomes lend first_deadlock prints fair states bytes text status
+      → (said : List Saying) (status : Status) → SaysOfOutcomesOf options code labels said status
+      → SaysOfOutcomes options bytes said status

@@ -1,16 +1,13 @@
 //! The lines of deadlocks.
 
-ghost use Rattle.std.specs.Prelude.{◌≡◌, ◌≤◌, ◌++◌, All, IfOk, OnOk, length, map};
+ghost use Rattle.std.specs.Prelude.{◌≡◌, ◌++◌, All, OnOk, map};
 ghost use Rattle.std.specs.List.{flat_map};
-ghost use Rattle.pb_base.specs.declared.limits.TheConstants.{MAX_PICKS};
 ghost use Rattle.pb_base.specs.Lines.{HasProcess, names_view, pair_text, pairs_text, line};
 ghost use Rattle.pb_code.specs.View.{labels_view, process_labels_view};
-ghost use Rattle.pb_search_engine.specs.DeadlockLines.{AreDeadlockLines, all_stuck_lines, ask_line, deadlock_lines};
+ghost use Rattle.pb_search_engine.specs.DeadlockLines.{all_stuck_lines, ask_line, deadlock_lines};
 ghost use Rattle.pb_search_engine.specs.DeadlockLines.{hold_line, hold_lines, state_text, stuck_lines};
-ghost use Rattle.pb_search_engine.specs.Showing.{HaveProcesses};
 ghost use Rattle.pb_search.specs.Deadlocks.{deadlock_view, stuck_view};
 
-use crate::counts::count_picks;
 use crate::lines::{put_head, put_integers};
 use crate::names::{integers_at, name_at};
 use crate::prints::put_printed;
@@ -20,28 +17,6 @@ use pb_code::{Labels, ProcessLabels};
 use pb_history::CountedPick;
 use pb_picks::write_picks;
 use pb_search::{Ask, Deadlock, StuckProcess, StuckState};
-use std::alloc::Global;
-
-/// Returns the lines of these deadlocks, each with its picks.
-pub fn deadlocks_text(
-    alloc: Global,
-    names: &Names,
-    labels: &Labels,
-    deadlocks: &[Deadlock],
-) -> Result<Vec<u8>, NoMemory>
-    requires named { All (λ d. HaveProcesses (names_view names.now) d.picks.items) deadlocks.now }
-    requires few { All (λ d. length d.picks.items ≤ MAX_PICKS) deadlocks.now }
-    ensures { IfOk result (λ text.
-        AreDeadlockLines (names_view names.now) (labels_view labels.now) (map deadlock_view deadlocks.now) text.items) }
-{
-    let mut text = Vec::new(alloc);
-    for i in 0..deadlocks.len() {
-        let one = &deadlocks[i];
-        let picks = count_picks(alloc, &one.picks)?;
-        put_deadlock(&mut text, names, labels, i + 1, one, &picks)?;
-    }
-    Ok(text)
-}
 
 /// Appends the lines of a deadlock with this number to a text, reached by these picks.
 pub fn put_deadlock(

@@ -1,20 +1,30 @@
 //! The engine behind the command `outcomes`: every way in which a small program can end, and every deadlock.
 #![tactic(auto)]
 
+mod all;
 mod asked;
 mod counts;
 mod deadlocks;
 mod endless;
 mod expect;
+mod item;
+mod item_lines;
+mod item_objects;
+mod items;
 pub mod laws;
 mod lines;
 mod names;
 mod one_run;
 mod outcomes;
+mod part;
+mod part_objects;
+mod parts;
 mod print_lines;
 mod prints;
 mod replies;
 mod requirements;
+mod said;
+mod teller;
 mod wanted;
 
 pub use asked::{Asked, read_asked};

@@ -1,20 +1,14 @@
 //! The lines of outcomes.
 
-ghost use Rattle.std.specs.Prelude.{◌≡◌, ◌≤◌, ◌++◌, ℕ, List, All, IfOk, OnOk, codes, length, map};
+ghost use Rattle.std.specs.Prelude.{◌≡◌, ◌++◌, All, OnOk, codes, map};
 ghost use Rattle.std.specs.Fmt.{decimal};
-ghost use Rattle.pb_base.specs.declared.limits.TheConstants.{MAX_PICKS};
 ghost use Rattle.pb_base.specs.Lines.{HasProcess, names_view, line};
 ghost use Rattle.pb_code.specs.View.{labels_view, process_labels_view};
 ghost use Rattle.pb_search.specs.Outcomes.{found_view, process_outcome_view};
-ghost use Rattle.pb_search_engine.specs.DeadlockLines.{AreDeadlockLines};
-ghost use Rattle.pb_search_engine.specs.OutcomeLines.{AreOutcomeLines, all_line, deadlocks_text, end_lines, last_line, plural};
+ghost use Rattle.pb_search_engine.specs.OutcomeLines.{all_line, deadlocks_text, end_lines, last_line, plural};
 ghost use Rattle.pb_search_engine.specs.OutcomeLines.{integer_line, integer_lines, outcome_lines, outcome_lines_of};
 ghost use Rattle.pb_search_engine.specs.OutcomeLines.{runs_text};
-ghost use Rattle.pb_search_engine.specs.Showing.{HaveProcesses};
-ghost use Rattle.pb_search.specs.Deadlocks.{deadlock_view};
 
-use crate::counts::count_picks;
-use crate::deadlocks::deadlocks_text;
 use crate::names::{integers_at, name_at};
 use crate::prints::put_printed;
 use pb_base::limits::MAX_PICKS;
@@ -23,61 +17,7 @@ use pb_base::{Names, NoMemory};
 use pb_code::{Labels, ProcessLabels};
 use pb_history::CountedPick;
 use pb_picks::write_picks;
-use pb_search::{Extent, Found, Outcomes, ProcessOutcome};
-use std::alloc::Global;
-
-/// Returns the lines of these outcomes and of these deadlocks, each with its picks, and the last line, which says
-/// whether these are all.
-pub fn outcomes_text(
-    alloc: Global,
-    names: &Names,
-    labels: &Labels,
-    told: &Outcomes,
-    states: u32,
-) -> Result<Vec<u8>, NoMemory>
-    requires found { All (λ f. HaveProcesses (names_view names.now) f.picks.items) told.now.found.items }
-    requires found_few { All (λ f. length f.picks.items ≤ MAX_PICKS) told.now.found.items }
-    requires deadlocks { All (λ d. HaveProcesses (names_view names.now) d.picks.items) told.now.deadlocks.items }
-    requires deadlocks_few { All (λ d. length d.picks.items ≤ MAX_PICKS) told.now.deadlocks.items }
-    ensures { IfOk result (λ text. (lines stuck : List ℕ)
-        × AreOutcomeLines (names_view names.now) (labels_view labels.now) (map found_view told.now.found.items) lines
-        × AreDeadlockLines (names_view names.now) (labels_view labels.now) (map deadlock_view told.now.deadlocks.items) stuck
-        × (text.items ≡ (lines ++ stuck)
-        ++ last_line states (length told.now.found.items) (length told.now.deadlocks.items) told.now.extent)) }
-{
-    let mut text = found_text(alloc, names, labels, &told.found)?;
-    let stuck = deadlocks_text(alloc, names, labels, &told.deadlocks)?;
-    text.extend_from_slice(&stuck)?;
-    put_last(
-        &mut text,
-        told.found.len(),
-        told.deadlocks.len(),
-        told.extent,
-        states,
-    )?;
-    Ok(text)
-}
-
-/// Returns the lines of these outcomes, each with its picks.
-fn found_text(
-    alloc: Global,
-    names: &Names,
-    labels: &Labels,
-    found: &[Found],
-) -> Result<Vec<u8>, NoMemory>
-    requires named { All (λ f. HaveProcesses (names_view names.now) f.picks.items) found.now }
-    requires few { All (λ f. length f.picks.items ≤ MAX_PICKS) found.now }
-    ensures { IfOk result (λ text.
-        AreOutcomeLines (names_view names.now) (labels_view labels.now) (map found_view found.now) text.items) }
-{
-    let mut text = Vec::new(alloc);
-    for i in 0..found.len() {
-        let one = &found[i];
-        let picks = count_picks(alloc, &one.picks)?;
-        put_outcome(&mut text, names, labels, i + 1, one, &picks)?;
-    }
-    Ok(text)
-}
+use pb_search::{Extent, Found, ProcessOutcome};
 
 /// Appends the lines of an outcome with this number to a text, reached by these picks.
 pub fn put_outcome(

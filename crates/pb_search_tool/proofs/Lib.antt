@@ -1,2 +1,3 @@
 pub mod MessageLemmas
 pub mod Notes
+pub mod WordLemmas

@@ -1,7 +1,10 @@
 -- What the tool that goes through all runs says.
-use Rattle.std.specs.Prelude.{◌≡◌, ℕ, Bool, true, false, List, Option}
+use Rattle.std.specs.Prelude.{◌≡◌, ◌&&◌, ◌||◌, ℕ, Bool, true, false, not, nat_eq, List, [], ◌∷◌, Option, codes}
+use Rattle.std.specs.List.{list_any, starts_with}
+use Rattle.std.specs.Str.{bytes_eq}
+use Rattle.pb_accept.specs.Claims.{SaysOfAny}
+use Rattle.pb_accept.specs.Objects as told
 use Rattle.pb_capitals.specs.Changes.{changes_in}
-use Rattle.pb_command_io.specs.Inputs.{SaysOfInput}
 use Rattle.pb_command_io.specs.declared.status.Status.{Status}
 use Rattle.pb_messages.specs.Said.{SaysToPerson, SaysWithin}
 use Rattle.pb_messages.specs.declared.message.Reading.TheVariants.{Shown, Text}
@@ -9,9 +12,11 @@ use Rattle.pb_options.specs.Lends.{lending_for}
 use Rattle.pb_options.specs.declared.options.StatesOptions.{StatesOptions}
 use Rattle.pb_page.specs.declared.run.Shown.{Shown as PartOfRun}
 use Rattle.pb_page_engine.specs.States.{SaysOfStates}
-use Rattle.pb_plan_engine.specs.PlanLines.{SaysOfPlan}
+use Rattle.pb_plan_engine.specs.Objects.{text_of}
+use Rattle.pb_plan_engine.specs.Plans.{SaysOfPlans}
 use Rattle.pb_search_engine.specs.SaysOfAll.{SaysOfSearches}
 use Rattle.pb_search_tool.specs.Messages.{SaysOfExpected, SaysOfTogether}
+use Rattle.pb_voice.specs.Voices.{Written}
 use Rattle.pb_voice.specs.declared.form.Form.{Form}
 use Rattle.pb_words.specs.declared.words.Options.{Options}
 use Rattle.pb_words.specs.declared.words.Options.TheVariants as option
@@ -20,11 +25,29 @@ use Rattle.pb_words.specs.declared.words.Options.TheVariants as option
 abbrev pub shown_by : StatesOptions → PartOfRun
 shown_by numbers = record { from = numbers.from; rows = numbers.rows }
 
--- what its commands may say of an input; they have lines alone
+-- a word asks `outcomes` for something else than all outcomes, which has lines alone
+abbrev pub asks_else : List ℕ → Bool
+asks_else word =
+    starts_with nat_eq word (codes "--expect") || starts_with nat_eq word (codes "--endless") || starts_with nat_eq word (codes "--graph")
+    || starts_with nat_eq word (codes "--run") || starts_with nat_eq word (codes "--deadlock")
+
+-- a command with these words after it tells data, and so writes objects as it writes lines
+abbrev pub tells_data : (command : List ℕ) → List (List ℕ) → Bool
+tells_data command words =
+    bytes_eq command (codes "plan") || bytes_eq command (codes "states")
+    || (bytes_eq command (codes "outcomes") && not (list_any asks_else words))
+
+-- whether the command of some words does; it is the word after the program's name
+abbrev pub in_objects : List (List ℕ) → Bool
+in_objects [] = false
+in_objects (name ∷ []) = false
+in_objects (name ∷ command ∷ words) = tells_data command words
+
+-- what its commands may say of an input in a form; the others have lines alone
 abbrev pub says : Form → Options → List ℕ → List ℕ → Status → Type 0
-says form (option.Outcomes numbers) = SaysOfInput (SaysOfSearches numbers)
-says form (option.Plan options changes) = SaysOfInput (SaysOfPlan (lending_for options.lend) (changes_in changes))
-says form (option.States options) = SaysOfInput (SaysOfStates (lending_for options.lend) (shown_by options))
+says form (option.Outcomes numbers) = SaysOfSearches form numbers
+says form (option.Plan options changes) = Written (text_of form) (SaysOfPlans (lending_for options.lend) (changes_in changes))
+says form (option.States options) = Written (told.text_of form) (SaysOfAny (SaysOfStates (lending_for options.lend) (shown_by options)))
 says form _ = λ bytes text status. ⊥
 
 -- what is written when a read fails: nothing

@@ -1,7 +1,9 @@
 //! What the tool does with its commands.
 
-ghost use Rattle.std.specs.Prelude.{false};
-ghost use Rattle.pb_search_tool.specs.Search.{leaves, says, tells_refused};
+ghost use Rattle.std.specs.Prelude.{◌≡◌, map};
+ghost use Rattle.std.specs.List.{list_any};
+ghost use Rattle.pb_search_tool.specs.Search as spec;
+ghost use Rattle.pb_search_tool.specs.Search.{in_objects, leaves, says, tells_refused};
 ghost use Rattle.pb_words.specs.declared.tool.Tool.TheVariants.{Search};
 
 use crate::expected::outcomes_message;
@@ -28,29 +30,36 @@ impl Commands for SearchTool {
 
     ghost MaySay = { says };
 
-    ghost in_objects = { λ words. false };
+    ghost in_objects = { in_objects };
 
-    ghost Leaves = { leaves };
+    ghost Leaves = { λ form. leaves };
 
     ghost TellsRefused = { tells_refused };
 
-    fn has_objects(&self, _words: &[&str]) -> bool {
-        false
+    fn has_objects(&self, words: &[&str]) -> bool {
+        match words {
+            [_, command, rest @ ..] => tells_data(command, rest),
+            _ => false,
+        }
     }
 
     fn answer<R: Threads + Wait + Sync, I: Input, O: Output>(
         &self,
         _rt: &R,
         alloc: Global,
-        _form: Form,
+        form: Form,
         options: Options,
         input: &mut I,
         output: &mut O,
     ) -> Option<Status> {
         match options {
-            Options::Outcomes(options) => Some(outcomes_engine(alloc, options, input, output)),
-            Options::Plan(options, changes) => Some(plan(alloc, options, &changes, input, output)),
-            Options::States(options) => Some(states(alloc, options, input, output)),
+            Options::Outcomes(options) => Some(outcomes_engine(
+                alloc, form, options, input, output,
+            )),
+            Options::Plan(options, changes) => Some(plan(
+                alloc, form, options, &changes, input, output,
+            )),
+            Options::States(options) => Some(states(alloc, form, options, input, output)),
             _ => None,
         }
     }
@@ -74,4 +83,30 @@ impl Commands for SearchTool {
             _ => None,
         }
     }
+}
+
+/// Returns whether a word asks `outcomes` for something else than all outcomes, which has lines alone.
+fn asks_else(word: &str) -> bool
+    ensures { result ≡ spec.asks_else word.now }
+{
+    let word = word.as_bytes();
+    word.starts_with(b"--expect")
+        || word.starts_with(b"--endless")
+        || word.starts_with(b"--graph")
+        || word.starts_with(b"--run")
+        || word.starts_with(b"--deadlock")
+}
+
+/// Returns whether some word asks `outcomes` for something else than all outcomes.
+fn some_asks_else(words: &[&str]) -> bool
+    ensures { result ≡ list_any spec.asks_else (map (λ w. w.now) words.now) }
+{
+    words.iter().any(|word| asks_else(word))
+}
+
+/// Returns whether a command with these words after it tells data, and so writes objects as it writes lines.
+fn tells_data(command: &str, words: &[&str]) -> bool
+    ensures { result ≡ spec.tells_data command.now (map (λ w. w.now) words.now) }
+{
+    command == "plan" || command == "states" || (command == "outcomes" && !some_asks_else(words))
 }

@@ -4,8 +4,8 @@ use pb_base::{Input, MemoryInput, MemoryOutput, Output};
 use pb_code::Format;
 use pb_command_io::Status;
 use pb_engines::{
-    CheckOptions, EmitOptions, Lend, RecordOptions, ReplayOptions, RunOptions, record_engine,
-    write_checks, write_claims, write_emission, write_execution, write_migration, write_replay,
+    CheckOptions, EmitOptions, Lend, RecordOptions, ReplayOptions, RunOptions, write_checks,
+    write_claims, write_emission, write_execution, write_migration, write_record, write_replay,
     write_run,
 };
 use pb_voice::Form;
@@ -85,7 +85,8 @@ pub fn make<I: Input, O: Output>(
         Call::Migrate => write_migration(alloc, Form::Lines, input, output),
         Call::Record(run, seed) => {
             let lend = Lend::Banker;
-            record_engine(rt, alloc, RecordOptions { run, seed, lend }, input, output)
+            let options = RecordOptions { run, seed, lend };
+            write_record(rt, alloc, Form::Lines, options, input, output)
         }
         Call::RecordByCash(run, seed) => {
             let options = RecordOptions {
@@ -93,7 +94,7 @@ pub fn make<I: Input, O: Output>(
                 seed: Some(seed),
                 lend: Lend::Cash,
             };
-            record_engine(rt, alloc, options, input, output)
+            write_record(rt, alloc, Form::Lines, options, input, output)
         }
         Call::Replay => {
             let options = ReplayOptions { lend: Lend::Banker };

@@ -10,7 +10,7 @@ use Rattle.clap.specs.declared.error.kind.ErrorKind.TheVariants.{OutOfMemory}
 use Rattle.clap.proofs.OnLiterals.{clap_on_literals}
 use Rattle.pb_command_line.specs.CommandLine.{command_line, with_text_commands, with_code_commands, with_object_commands}
 use Rattle.pb_command_line.specs.CommandLine.{with_other_commands, with_pick_commands, check_command, claims_command}
-use Rattle.pb_command_line.specs.CommandLine.{debug_command, draw_command, emit_command, exec_command, explain_command}
+use Rattle.pb_command_line.specs.CommandLine.{debug_command, draw_command, emit_command, exec_command, explain_command, findings_command}
 use Rattle.pb_command_line.specs.CommandLine.{migrate_command, outcomes_command, plan_command, record_command, replay_command, run_command}
 use Rattle.pb_command_line.specs.CommandLine.{bank_command, dap_command, lsp_command, states_command, with_bank_commands, with_run_rules}
 use Rattle.clap.specs.declared.parser.matches.Found.{Found}
@@ -24,7 +24,7 @@ use Rattle.pb_words.specs.Read.{HasSearchOptions, HasStatesOptions}
 use Rattle.pb_words.specs.Read.{HasRecordNumbers, HasRunNumbers}
 use Rattle.pb_words.specs.Read.{IsReadFrom, IsReadFromMatches, capital_words}
 use Rattle.pb_words.specs.declared.words.Options.{Options}
-use Rattle.pb_words.specs.declared.words.Options.TheVariants.{Bank, Check, Claims, Dap, Debug, Draw, Emit, Exec, Explain}
+use Rattle.pb_words.specs.declared.words.Options.TheVariants.{Bank, Check, Claims, Dap, Debug, Draw, Emit, Exec, Explain, Findings}
 use Rattle.pb_words.specs.declared.words.Options.TheVariants.{Lsp, Migrate, Outcomes, Plan, Record, Replay, Run, States}
 use Rattle.pb_options.specs.declared.options.CheckOptions.{CheckOptions}
 use Rattle.pb_options.specs.declared.options.DebugOptions.{DebugOptions}
@@ -129,6 +129,8 @@ no_check rows none (Exec o) says =
     let m : 99 ≡ 101 = ap (λ (l : Text). get_or l 0 0) says.0 in omega (arith, m)
 no_check rows none (Explain o) says =
     let m : 99 ≡ 101 = ap (λ (l : Text). get_or l 0 0) says.0 in omega (arith, m)
+no_check rows none (Findings o) says =
+    let m : 99 ≡ 102 = ap (λ (l : Text). get_or l 0 0) says.0 in omega (arith, m)
 no_check rows none Lsp says =
     let m : 99 ≡ 108 = ap (λ (l : Text). get_or l 0 0) says in omega (arith, m)
 no_check rows none Migrate says =
@@ -145,6 +147,45 @@ no_check rows none (Run o) says =
     let m : 99 ≡ 114 = ap (λ (l : Text). get_or l 0 0) says.0 in omega (arith, m)
 no_check rows none (States o) says =
     let m : 99 ≡ 115 = ap (λ (l : Text). get_or l 0 0) says.0 in omega (arith, m)
+
+-- if its options cannot be read, the rows of `findings` say nothing
+pub no_findings : (rows : List Row) → ((o : CheckOptions) → HasCheckOptions rows o → ⊥) → (o : Options)
+    → IsReadFrom (codes "findings") rows o → ⊥
+no_findings rows none Bank says =
+    let m : 102 ≡ 98 = ap (λ (l : Text). get_or l 0 0) says in omega (arith, m)
+no_findings rows none (Check o) says =
+    let m : 102 ≡ 99 = ap (λ (l : Text). get_or l 0 0) says.0 in omega (arith, m)
+no_findings rows none Claims says =
+    let m : 102 ≡ 99 = ap (λ (l : Text). get_or l 0 0) says in omega (arith, m)
+no_findings rows none (Debug o) says =
+    let m : 102 ≡ 100 = ap (λ (l : Text). get_or l 0 0) says.0 in omega (arith, m)
+no_findings rows none Dap says =
+    let m : 102 ≡ 100 = ap (λ (l : Text). get_or l 0 0) says in omega (arith, m)
+no_findings rows none (Draw o) says =
+    let m : 102 ≡ 100 = ap (λ (l : Text). get_or l 0 0) says.0 in omega (arith, m)
+no_findings rows none (Emit o) says =
+    let m : 102 ≡ 101 = ap (λ (l : Text). get_or l 0 0) says.0 in omega (arith, m)
+no_findings rows none (Exec o) says =
+    let m : 102 ≡ 101 = ap (λ (l : Text). get_or l 0 0) says.0 in omega (arith, m)
+no_findings rows none (Explain o) says =
+    let m : 102 ≡ 101 = ap (λ (l : Text). get_or l 0 0) says.0 in omega (arith, m)
+no_findings rows none (Findings o) says = none o says.1
+no_findings rows none Lsp says =
+    let m : 102 ≡ 108 = ap (λ (l : Text). get_or l 0 0) says in omega (arith, m)
+no_findings rows none Migrate says =
+    let m : 102 ≡ 109 = ap (λ (l : Text). get_or l 0 0) says in omega (arith, m)
+no_findings rows none (Outcomes o) says =
+    let m : 102 ≡ 111 = ap (λ (l : Text). get_or l 0 0) says.0 in omega (arith, m)
+no_findings rows none (Plan o changes) says =
+    let m : 102 ≡ 112 = ap (λ (l : Text). get_or l 0 0) says.0 in omega (arith, m)
+no_findings rows none (Record o) says =
+    let m : 102 ≡ 114 = ap (λ (l : Text). get_or l 0 0) says.0 in omega (arith, m)
+no_findings rows none (Replay o) says =
+    let m : 102 ≡ 114 = ap (λ (l : Text). get_or l 0 0) says.0 in omega (arith, m)
+no_findings rows none (Run o) says =
+    let m : 102 ≡ 114 = ap (λ (l : Text). get_or l 0 0) says.0 in omega (arith, m)
+no_findings rows none (States o) says =
+    let m : 102 ≡ 115 = ap (λ (l : Text). get_or l 0 0) says.0 in omega (arith, m)
 
 -- if its options cannot be read, the rows of `debug` say nothing
 pub no_debug : (rows : List Row) → ((o : DebugOptions) → HasDebugOptions rows o → ⊥) → (o : Options)
@@ -166,6 +207,8 @@ no_debug rows none (Exec o) says =
     let m : 100 ≡ 101 = ap (λ (l : Text). get_or l 0 0) says.0 in omega (arith, m)
 no_debug rows none (Explain o) says =
     let m : 100 ≡ 101 = ap (λ (l : Text). get_or l 0 0) says.0 in omega (arith, m)
+no_debug rows none (Findings o) says =
+    let m : 100 ≡ 102 = ap (λ (l : Text). get_or l 0 0) says.0 in omega (arith, m)
 no_debug rows none Lsp says =
     let m : 100 ≡ 108 = ap (λ (l : Text). get_or l 0 0) says in omega (arith, m)
 no_debug rows none Migrate says =
@@ -203,6 +246,8 @@ no_emit rows none (Exec o) says =
     let m : 109 ≡ 120 = ap (λ (l : Text). get_or l 1 0) says.0 in omega (arith, m)
 no_emit rows none (Explain o) says =
     let m : 109 ≡ 120 = ap (λ (l : Text). get_or l 1 0) says.0 in omega (arith, m)
+no_emit rows none (Findings o) says =
+    let m : 101 ≡ 102 = ap (λ (l : Text). get_or l 0 0) says.0 in omega (arith, m)
 no_emit rows none Lsp says =
     let m : 101 ≡ 108 = ap (λ (l : Text). get_or l 0 0) says in omega (arith, m)
 no_emit rows none Migrate says =
@@ -241,6 +286,8 @@ no_run rows none (Exec o) says =
     let m : 114 ≡ 101 = ap (λ (l : Text). get_or l 0 0) says.0 in omega (arith, m)
 no_run rows none (Explain o) says =
     let m : 114 ≡ 101 = ap (λ (l : Text). get_or l 0 0) says.0 in omega (arith, m)
+no_run rows none (Findings o) says =
+    let m : 114 ≡ 102 = ap (λ (l : Text). get_or l 0 0) says.0 in omega (arith, m)
 no_run rows none Lsp says =
     let m : 114 ≡ 108 = ap (λ (l : Text). get_or l 0 0) says in omega (arith, m)
 no_run rows none Migrate says =
@@ -278,6 +325,8 @@ no_record rows none (Exec o) says =
     let m : 114 ≡ 101 = ap (λ (l : Text). get_or l 0 0) says.0 in omega (arith, m)
 no_record rows none (Explain o) says =
     let m : 114 ≡ 101 = ap (λ (l : Text). get_or l 0 0) says.0 in omega (arith, m)
+no_record rows none (Findings o) says =
+    let m : 114 ≡ 102 = ap (λ (l : Text). get_or l 0 0) says.0 in omega (arith, m)
 no_record rows none Lsp says =
     let m : 114 ≡ 108 = ap (λ (l : Text). get_or l 0 0) says in omega (arith, m)
 no_record rows none Migrate says =
@@ -314,6 +363,8 @@ no_exec rows none (Emit o) says =
 no_exec rows none (Exec o) says = none o says.1
 no_exec rows none (Explain o) says =
     let m : 101 ≡ 112 = ap (λ (l : Text). get_or l 2 0) says.0 in omega (arith, m)
+no_exec rows none (Findings o) says =
+    let m : 101 ≡ 102 = ap (λ (l : Text). get_or l 0 0) says.0 in omega (arith, m)
 no_exec rows none Lsp says =
     let m : 101 ≡ 108 = ap (λ (l : Text). get_or l 0 0) says in omega (arith, m)
 no_exec rows none Migrate says =
@@ -351,6 +402,8 @@ no_explain rows none (Emit o) says =
 no_explain rows none (Exec o) says =
     let m : 112 ≡ 101 = ap (λ (l : Text). get_or l 2 0) says.0 in omega (arith, m)
 no_explain rows none (Explain o) says = none o says.1
+no_explain rows none (Findings o) says =
+    let m : 101 ≡ 102 = ap (λ (l : Text). get_or l 0 0) says.0 in omega (arith, m)
 no_explain rows none Lsp says =
     let m : 101 ≡ 108 = ap (λ (l : Text). get_or l 0 0) says in omega (arith, m)
 no_explain rows none Migrate says =
@@ -389,6 +442,8 @@ no_outcomes rows none (Exec o) says =
     let m : 111 ≡ 101 = ap (λ (l : Text). get_or l 0 0) says.0 in omega (arith, m)
 no_outcomes rows none (Explain o) says =
     let m : 111 ≡ 101 = ap (λ (l : Text). get_or l 0 0) says.0 in omega (arith, m)
+no_outcomes rows none (Findings o) says =
+    let m : 111 ≡ 102 = ap (λ (l : Text). get_or l 0 0) says.0 in omega (arith, m)
 no_outcomes rows none Lsp says =
     let m : 111 ≡ 108 = ap (λ (l : Text). get_or l 0 0) says in omega (arith, m)
 no_outcomes rows none Migrate says =
@@ -426,6 +481,8 @@ no_states rows none (Exec o) says =
     let m : 115 ≡ 101 = ap (λ (l : Text). get_or l 0 0) says.0 in omega (arith, m)
 no_states rows none (Explain o) says =
     let m : 115 ≡ 101 = ap (λ (l : Text). get_or l 0 0) says.0 in omega (arith, m)
+no_states rows none (Findings o) says =
+    let m : 115 ≡ 102 = ap (λ (l : Text). get_or l 0 0) says.0 in omega (arith, m)
 no_states rows none Lsp says =
     let m : 115 ≡ 108 = ap (λ (l : Text). get_or l 0 0) says in omega (arith, m)
 no_states rows none Migrate says =
@@ -463,6 +520,8 @@ no_plan rows none (Exec o) says =
     let m : 112 ≡ 101 = ap (λ (l : Text). get_or l 0 0) says.0 in omega (arith, m)
 no_plan rows none (Explain o) says =
     let m : 112 ≡ 101 = ap (λ (l : Text). get_or l 0 0) says.0 in omega (arith, m)
+no_plan rows none (Findings o) says =
+    let m : 112 ≡ 102 = ap (λ (l : Text). get_or l 0 0) says.0 in omega (arith, m)
 no_plan rows none Lsp says =
     let m : 112 ≡ 108 = ap (λ (l : Text). get_or l 0 0) says in omega (arith, m)
 no_plan rows none Migrate says =
@@ -500,6 +559,8 @@ no_replay rows none (Exec o) says =
     let m : 114 ≡ 101 = ap (λ (l : Text). get_or l 0 0) says.0 in omega (arith, m)
 no_replay rows none (Explain o) says =
     let m : 114 ≡ 101 = ap (λ (l : Text). get_or l 0 0) says.0 in omega (arith, m)
+no_replay rows none (Findings o) says =
+    let m : 114 ≡ 102 = ap (λ (l : Text). get_or l 0 0) says.0 in omega (arith, m)
 no_replay rows none Lsp says =
     let m : 114 ≡ 108 = ap (λ (l : Text). get_or l 0 0) says in omega (arith, m)
 no_replay rows none Migrate says =
@@ -536,6 +597,8 @@ no_draw rows none (Exec o) says =
     let m : 100 ≡ 101 = ap (λ (l : Text). get_or l 0 0) says.0 in omega (arith, m)
 no_draw rows none (Explain o) says =
     let m : 100 ≡ 101 = ap (λ (l : Text). get_or l 0 0) says.0 in omega (arith, m)
+no_draw rows none (Findings o) says =
+    let m : 100 ≡ 102 = ap (λ (l : Text). get_or l 0 0) says.0 in omega (arith, m)
 no_draw rows none Lsp says =
     let m : 100 ≡ 108 = ap (λ (l : Text). get_or l 0 0) says in omega (arith, m)
 no_draw rows none Migrate says =
@@ -651,14 +714,14 @@ clap_refused kinds e Memory is memory blames none = blames
 pub is_simple_command_line : is_simple command_line ≡ true
 unfolding command_line with_text_commands with_code_commands with_object_commands with_pick_commands check_command
     claims_command debug_command draw_command emit_command exec_command migrate_command outcomes_command
-    plan_command record_command replay_command run_command with_other_commands explain_command with_run_rules
+    plan_command record_command replay_command run_command with_other_commands explain_command findings_command with_run_rules
     with_bank_commands states_command bank_command dap_command lsp_command clap_on_literals
 is_simple_command_line = refl
 
 pub is_free_command_line : is_simple_and_free command_line ≡ true
 unfolding command_line with_text_commands with_code_commands with_object_commands with_pick_commands check_command
     claims_command debug_command draw_command emit_command exec_command migrate_command outcomes_command
-    plan_command record_command replay_command run_command with_other_commands explain_command with_run_rules
+    plan_command record_command replay_command run_command with_other_commands explain_command findings_command with_run_rules
     with_bank_commands states_command bank_command dap_command lsp_command clap_on_literals
 is_free_command_line = refl
 

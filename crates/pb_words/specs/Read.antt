@@ -59,7 +59,7 @@ HasOptionalNumberIn rows id least most None = one_of id rows ≡ None
 abbrev pub HasFlag : List Row → Text → Bool → Type 0
 HasFlag rows id set = IsTrue set ↔ (one_of id rows ≡ Some (codes "true"))
 
--- the number of `check`, if it is given, and whether warnings are asked for
+-- the number of `check` or `findings`, if it is given, and whether warnings are asked for
 abbrev pub HasCheckOptions : List Row → CheckOptions → Type 0
 HasCheckOptions rows o = HasOptionalNumber rows (codes "heap") o.heap × HasFlag rows (codes "warn") o.warn
 
@@ -136,6 +136,7 @@ IsReadFrom name rows (option.Draw o) = (name ≡ codes "draw") × HasDrawOptions
 IsReadFrom name rows (option.Emit o) = (name ≡ codes "emit") × HasEmitNumber rows o
 IsReadFrom name rows (option.Exec o) = (name ≡ codes "exec") × HasRunNumbers rows o
 IsReadFrom name rows (option.Explain code) = (name ≡ codes "explain") × HasCode rows code
+IsReadFrom name rows (option.Findings o) = (name ≡ codes "findings") × HasCheckOptions rows o
 IsReadFrom name rows option.Lsp = name ≡ codes "lsp"
 IsReadFrom name rows option.Migrate = name ≡ codes "migrate"
 IsReadFrom name rows (option.Outcomes o) = (name ≡ codes "outcomes") × HasSearchOptions rows o

@@ -24,6 +24,7 @@ tool_for (option.Draw o) = Debug
 tool_for (option.Emit o) = Run
 tool_for (option.Exec o) = Run
 tool_for (option.Explain code) = Run
+tool_for (option.Findings o) = Edit
 tool_for option.Lsp = Edit
 tool_for option.Migrate = Run
 tool_for (option.Outcomes o) = Search

@@ -295,6 +295,7 @@ fn read_matches(matches: &ArgMatches<'_>) -> Option<Options>
         "emit" => Some(Options::Emit(emit_options(inner)?)),
         "exec" => Some(Options::Exec(run_options(inner)?)),
         "explain" => Some(Options::Explain(code_given(inner)?)),
+        "findings" => Some(Options::Findings(check_options(inner)?)),
         "lsp" => Some(Options::Lsp),
         "migrate" => Some(Options::Migrate),
         "outcomes" => Some(Options::Outcomes(outcomes_options(inner)?)),

@@ -12,7 +12,7 @@ pub enum Tool {
     Bank,
     /// Answers `dap`, `debug` and `draw`.
     Debug,
-    /// Answers `lsp`.
+    /// Answers `findings` and `lsp`.
     Edit,
     /// Answers `check`, `claims`, `emit`, `exec`, `explain`, `migrate`, `record`, `replay` and `run`.
     Run,
@@ -42,7 +42,7 @@ pub fn tool_of(options: &Options) -> Tool
     match options {
         Options::Bank => Tool::Bank,
         Options::Dap | Options::Debug(_) | Options::Draw(_) => Tool::Debug,
-        Options::Lsp => Tool::Edit,
+        Options::Findings(_) | Options::Lsp => Tool::Edit,
         Options::Check(_)
         | Options::Claims
         | Options::Emit(_)

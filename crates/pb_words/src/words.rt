@@ -19,6 +19,7 @@ pub enum Options {
     Emit(EmitOptions),
     Exec(RunOptions),
     Explain(Option<Code>),
+    Findings(CheckOptions),
     Lsp,
     Migrate,
     Outcomes(OutcomesOptions),

@@ -6,11 +6,11 @@ use pb_capitals::Changes;
 use pb_code::Format;
 use pb_command_io::Status;
 use pb_engines::{
-    CheckOptions, EmitOptions, Lend, RecordOptions, ReplayOptions, RunOptions, record_engine,
-    write_checks, write_claims, write_emission, write_execution, write_migration, write_replay,
+    CheckOptions, EmitOptions, Lend, RecordOptions, ReplayOptions, RunOptions, write_checks,
+    write_claims, write_emission, write_execution, write_migration, write_record, write_replay,
     write_run,
 };
-use pb_plan_engine::plan_engine;
+use pb_plan_engine::write_plan;
 use pb_voice::Form;
 use std::sync::Wait;
 use std::thread::Threads;
@@ -86,7 +86,7 @@ fn status_of(
     let mut input = MemoryInput::new(call.input);
     let none = Changes::none();
     Some(match call.command {
-        Command::Bank => bank_engine(alloc, &mut input, output),
+        Command::Bank => bank_engine(alloc, Form::Lines, &mut input, output),
         Command::Check => write_checks(alloc, Form::Lines, CHECKED, &mut input, output),
         Command::Claims => write_claims(alloc, Form::Lines, &mut input, output),
         Command::Emit => {
@@ -106,15 +106,29 @@ fn status_of(
             )
         }
         Command::Migrate => write_migration(alloc, Form::Lines, &mut input, output),
-        Command::Plan => plan_engine(alloc, Lending::ByBanker, &none, &mut input, output),
-        Command::PlanByCash => plan_engine(alloc, Lending::ByCash, &none, &mut input, output),
+        Command::Plan => write_plan(
+            alloc,
+            Form::Lines,
+            Lending::ByBanker,
+            &none,
+            &mut input,
+            output,
+        ),
+        Command::PlanByCash => write_plan(
+            alloc,
+            Form::Lines,
+            Lending::ByCash,
+            &none,
+            &mut input,
+            output,
+        ),
         Command::Record { seed } => {
             let options = RecordOptions {
                 run: run_options(64, 1_000_000)?,
                 seed: Some(seed),
                 lend: Lend::Banker,
             };
-            record_engine(rt, alloc, options, &mut input, output)
+            write_record(rt, alloc, Form::Lines, options, &mut input, output)
         }
         Command::RecordByCash { seed } => {
             let options = RecordOptions {
@@ -122,7 +136,7 @@ fn status_of(
                 seed: Some(seed),
                 lend: Lend::Cash,
             };
-            record_engine(rt, alloc, options, &mut input, output)
+            write_record(rt, alloc, Form::Lines, options, &mut input, output)
         }
         Command::Replay => write_replay(alloc, Form::Lines, BY_BANKER, &mut input, output),
         Command::ReplayByCash => write_replay(alloc, Form::Lines, BY_CASH, &mut input, output),

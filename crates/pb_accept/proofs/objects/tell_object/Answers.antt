@@ -20,3 +20,6 @@ returns-in-Threads-clause-err g c = rw c.in-Threads.is c.say-in-Threads.ensures.
 
 pub returns-in-TooLong-clause-ok : goal.returns-in-TooLong-clause-ok
 returns-in-TooLong-clause-ok g c = rw c.in-TooLong.is c.say-in-TooLong.ensures.ok
+
+pub returns-in-LongOutput-clause-err : goal.returns-in-LongOutput-clause-err
+returns-in-LongOutput-clause-err g c = rw c.in-LongOutput.is c.say-in-LongOutput.ensures.err

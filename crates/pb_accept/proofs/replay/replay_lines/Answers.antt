@@ -1,5 +1,5 @@
 use Rattle.pb_machine.specs.Views.{machine_view}
-use Rattle.pb_accept.proofs.ReplayLemmas.{events_are_told, lines_are_refused}
+use Rattle.pb_accept.proofs.ReplayLemmas.{events_are_told, refusal_is_told}
 use Rattle.pb_voice.specs.Held.{at}
 use Rattle.pb_accept.proofs.replay.replay_lines.Goals as goal
 
@@ -14,6 +14,7 @@ returns-in-Ok g c =
 
 pub returns-in-Err : goal.returns-in-Err
 returns-in-Err g c =
-    lines_are_refused g.T.Teller.tells g.T.Teller.breaks (at g.O.Output.written g.O.Output.failures c.args.teller.now c.args.output.now)
-    (at g.O.Output.written g.O.Output.failures c.tell_refused.new.teller c.tell_refused.new.output) c.tell_refused.result c.args.lending c.args.verified.now.code
-    c.args.lines.now c.in-Err.fault c.lines_cause.result c.lines_cause.ensures c.in-Err.ensures.fault c.tell_refused.ensures
+    refusal_is_told g.T.Teller.tells g.T.Teller.breaks (at g.O.Output.written g.O.Output.failures c.args.teller.now c.args.output.now)
+    (at g.O.Output.written g.O.Output.failures c.tell_lines_fault.new.teller c.tell_lines_fault.new.output) c.tell_lines_fault.result c.args.lending
+    c.args.verified.now.code c.args.lines.now
+    (c.tell_lines_fault.ensures c.args.lending c.args.verified.now.code c.args.lines.now c.in-Err.ensures.fault)

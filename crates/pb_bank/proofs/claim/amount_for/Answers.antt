@@ -1,7 +1,5 @@
-use Rattle.std.proofs.Common.{◌<◌, length, true, false, arith, ap, sym, ◌∙◌}
+use Rattle.std.proofs.Common.{◌<◌, length, true, false, arith, sym, ◌∙◌}
 use Rattle.std.proofs.lemmas.Bool.{eq-eqb, ne_eqb}
-use Rattle.std.proofs.lemmas.List.{drop_all}
-use Rattle.pb_bank.specs.Claims.{amount_for}
 use Rattle.pb_bank.proofs.ClaimDesks.{amount_next}
 use Rattle.pb_bank.proofs.claim.amount_for.Goals as goal
 

@@ -8,7 +8,7 @@ use Rattle.pb_bank_engine.proofs.session.feed_page.Goals as goal
 use Rattle.pb_bank_engine.proofs.session.feed_page.Goals.{then-bytes-i-eq10+in-Ok, else-bytes-i-eq10}
 
 pub loop-i-init : goal.loop-i-init
-loop-i-init c = λ part e. fed_nothing c.args.desk.now part c.args.line.now (Some c.args.page.now.items) e
+loop-i-init c = λ part e. fed_nothing c.args.form c.args.desk.now part c.args.line.now (Some c.args.page.now.items) e
 
 pub loop-i-preserved : goal.loop-i-preserved
 loop-i-preserved c =
@@ -23,15 +23,15 @@ loop-i-preserved c =
       | then-bytes-i-eq10+in-Ok w ↦
           let new = Some w.answer_line.new.page.items in
           let next = w.answer_line.new.desk in
-          let told = subst (λ (l : List ℕ). IsTold m l mid new next) w.as_slice.ensures w.in-Ok.ensures.told in
+          let told = subst (λ (l : List ℕ). IsTold c.args.form m l mid new next) w.as_slice.ensures w.in-Ok.ensures.told in
           λ part e.
-          fed_as d part old next _ _ _ new _ [] _ (fed_line d m next part (take i bytes) old mid new c.loop-i.line (c.loop-i.invariant part e) told)
+          fed_as c.args.form d part old next _ _ _ new _ [] _ (fed_line c.args.form d m next part (take i bytes) old mid new c.loop-i.line (c.loop-i.invariant part e) told)
           (ap (λ (b : ℕ). take i bytes ++ b ∷ []) (sym w.if-bytes-i-eq10.true) ∙ sym more)
           (ap (λ v. Some v.items) (sym w.page-is)) (sym (w.line-is ∙ w.clear.ensures)) (sym w.desk-is)
       | else-bytes-i-eq10 w ↦
           let b = get_or bytes i 0 in
           λ part e.
-          fed_as d part old m _ _ _ mid _ w.put.new.self _ (fed_byte d m m part (take i bytes) old mid mid
+          fed_as c.args.form d part old m _ _ _ mid _ w.put.new.self _ (fed_byte c.args.form d m m part (take i bytes) old mid mid
           c.loop-i.line (c.loop-i.invariant part e) b w.put.new.self (ne_eqb b 10 w.if-bytes-i-eq10.false) w.put.ensures)
           (sym more) (ap (λ v. Some v.items) (sym w.page-is)) (sym w.line-is) (sym w.desk-is)
     ]
@@ -47,12 +47,12 @@ returns-in-Err-clause-some c =
     let new = Some c.answer_line.new.page.items in
     let whole = take-append-drop i bytes in
     λ part e.
-    subst (λ (bs : List ℕ). FedSome Memory d part bs old new) whole
-    (fed_stop d m m part (take i bytes) old mid new c.loop-i.line (c.loop-i.invariant part e) (drop i bytes)
+    subst (λ (bs : List ℕ). FedSome c.args.form Memory d part bs old new) whole
+    (fed_stop c.args.form d m m part (take i bytes) old mid new c.loop-i.line (c.loop-i.invariant part e) (drop i bytes)
     (ap (λ (t : List ℕ). Some t) c.in-Err.ensures.kept))
 
 pub returns-clause-fed : goal.returns-clause-fed
 returns-clause-fed c = λ part e.
     let bytes = c.args.bytes.now in
-    fed_as c.args.desk.now part (Some c.args.page.now.items) c.loop-i.desk _ _ _ (Some c.loop-i.page.items) _ c.loop-i.line _ (c.loop-i.invariant part e)
+    fed_as c.args.form c.args.desk.now part (Some c.args.page.now.items) c.loop-i.desk _ _ _ (Some c.loop-i.page.items) _ c.loop-i.line _ (c.loop-i.invariant part e)
     (take_all c.loop-i.i bytes (omega arith)) refl refl refl

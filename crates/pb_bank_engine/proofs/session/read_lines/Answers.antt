@@ -4,6 +4,7 @@ use Rattle.std.specs.Prelude.{IfSome}
 use Rattle.std.proofs.lemmas.List.{drop-drop, length-take, length-drop, take-append-drop}
 use Rattle.pb_base.specs.Device.{dropped}
 use Rattle.pb_bank_engine.specs.declared.session.Stop.TheVariants.{Device}
+use Rattle.pb_bank_engine.specs.Forms.{spoken}
 use Rattle.pb_bank_engine.specs.Sessions.{FedSome, session_bytes}
 use Rattle.pb_bank_engine.proofs.LineParts.{fed_nothing, fed_broken, fed_as, fed_fed, fed_then_some, some_of_more}
 use Rattle.pb_bank_engine.proofs.LineParts.{session_more, bytes_end}
@@ -16,7 +17,7 @@ loop-left-init g c = record {
   room = refl;
   reads = refl;
   writes = refl;
-  read = λ bytes e. fed_nothing c.args.desk.now [] c.args.line.now (g.O.Output.written c.args.output.now) c.requires;
+  read = λ bytes e. fed_nothing c.args.form c.args.desk.now [] c.args.line.now (g.O.Output.written c.args.output.now) c.requires;
   rest = λ bytes e. e;
 }
 
@@ -28,8 +29,8 @@ returns-in_default-clause-some g c = if_known (g.I.Input.rest c.args.input.now) 
     let old = g.O.Output.written c.args.output.now in
     let mid = g.O.Output.written c.loop-left.output in
     let more = session_more bytes k (omega arith) in
-    subst (λ (bs : List ℕ). FedSome Device d [] bs old mid) more.1
-    (fed_broken d m m [] (take k bytes) old mid mid c.loop-left.line (c.loop-left.invariant.read bytes e) more.0))
+    subst (λ (bs : List ℕ). FedSome c.args.form Device d [] bs old mid) more.1
+    (fed_broken c.args.form d m m [] (take k bytes) old mid mid c.loop-left.line (c.loop-left.invariant.read bytes e) more.0))
 
 pub returns-then-count-eq0-clause-fed : goal.returns-then-count-eq0-clause-fed
 returns-then-count-eq0-clause-fed g c = if_known (g.I.Input.rest c.args.input.now) _ (λ bytes e.
@@ -48,7 +49,7 @@ returns-then-count-eq0-clause-fed g c = if_known (g.I.Input.rest c.args.input.no
           absurd (omega (arith, size, empty, room, cut)))
       | inr none ↦ subst (λ (o : Option (List ℕ)). IfSome o (λ bs. bs ≡ [])) rest none
     ] in
-    fed_as d [] old m m (take k bytes) (session_bytes bytes) mid mid c.loop-left.line c.loop-left.line
+    fed_as c.args.form d [] old m m (take k bytes) (session_bytes bytes) mid mid c.loop-left.line c.loop-left.line
     (c.loop-left.invariant.read bytes e) (bytes_end bytes k end (omega arith)) refl refl refl)
 
 pub returns-in-Err-clause-some : goal.returns-in-Err-clause-some
@@ -70,10 +71,10 @@ returns-in-Err-clause-some g c = if_known (g.I.Input.rest c.args.input.now) _ (�
     let within : k + n ≤ 18446744073709551615 = omega (arith, bound, size, cut) in
     let more = session_more bytes (k + n) within in
     let fault = c.in-Err.stop in
-    let some = fed_then_some d m next [] (take k bytes) old mid new c.loop-left.line fed fault (take n (c.read.new.buf
+    let some = fed_then_some c.args.form d m next [] (take k bytes) old mid new c.loop-left.line fed fault (take n (c.read.new.buf
     ++ after)) (c.in-Err.ensures.some _ fed.last) in
-    subst (λ (bs : List ℕ). FedSome fault d [] bs old new) more.1
-    (some_of_more fault d [] (take (k + n) bytes) more.0 old new (subst (λ (bs : List ℕ). FedSome fault d [] bs old new) read some)))
+    subst (λ (bs : List ℕ). FedSome c.args.form fault d [] bs old new) more.1
+    (some_of_more c.args.form fault d [] (take (k + n) bytes) more.0 old new (subst (λ (bs : List ℕ). FedSome c.args.form fault d [] bs old new) read some)))
 
 pub loop-left-preserved : goal.loop-left-preserved
 loop-left-preserved g c =
@@ -101,8 +102,8 @@ loop-left-preserved g c =
       read = λ bytes e.
           let fed = c.loop-left.invariant.read bytes e in
           let read = bytes_read bytes c.read.new.buf after k n _ (c.loop-left.invariant.rest bytes e) c.in-Ok.ensures.given bound in
-          fed_as d [] old next next _ _ new new c.feed.new.line c.feed.new.line
-          (fed_fed d m next [] (take k bytes) old mid new c.loop-left.line fed (take n (c.read.new.buf ++ after))
+          fed_as c.args.form d [] old next next _ _ new new c.feed.new.line c.feed.new.line
+          (fed_fed c.args.form d m next [] (take k bytes) old mid new c.loop-left.line fed (take n (c.read.new.buf ++ after))
           c.feed.new.line (c.in-Ok-feed.ensures.fed _ fed.last))
           (read ∙ ap (λ i. take i bytes) further) refl refl refl;
       rest = λ bytes e.
@@ -114,15 +115,20 @@ loop-left-preserved g c =
 pub returns-clause-fed : goal.returns-clause-fed
 returns-clause-fed g c = if_known (g.I.Input.rest c.args.input.now) _ (λ bytes e.
     let none : 18446744073709551615 - c.loop-left.left ≡ 18446744073709551615 = omega arith in
-    fed_as c.args.desk.now [] (g.O.Output.written c.args.output.now) c.loop-left.desk c.loop-left.desk _ _ _ _ c.loop-left.line c.loop-left.line
+    fed_as c.args.form c.args.desk.now [] (g.O.Output.written c.args.output.now) c.loop-left.desk c.loop-left.desk _ _ _ _ c.loop-left.line c.loop-left.line
     (c.loop-left.invariant.read bytes e) (ap (λ i. take i bytes) none) refl refl refl)
 
 pub returns-in_default-clause-answered : goal.returns-in_default-clause-answered
 returns-in_default-clause-answered g c grew = if_known (g.I.Input.rest c.args.input.now) _ (λ bytes e.
     let k = 18446744073709551615 - c.loop-left.left in
     let fed = c.loop-left.invariant.read bytes e in
-    let coming = c.in_default.ensures.fault.0 ∙ c.loop-left.invariant.rest bytes e in
-    (take k bytes, fed.text, (drop k bytes, sym (take-append-drop k bytes), coming), fed.session, fed.written))
+    let coming = c.in_default.ensures.fault.0 ∙ c.loop-left.invariant.rest bytes e in (
+      take k bytes,
+      spoken c.args.form fed.said,
+      (drop k bytes, sym (take-append-drop k bytes), coming),
+      (fed.said, fed.session, refl),
+      fed.written,
+    ))
 
 pub returns-then-count-eq0-clause-answered : goal.returns-then-count-eq0-clause-answered
 returns-then-count-eq0-clause-answered g c grew = absurd (grew (c.in-Ok.ensures.counted ∙ c.loop-left.invariant.reads))

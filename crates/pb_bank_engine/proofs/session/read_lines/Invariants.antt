@@ -9,7 +9,7 @@ invariant-loop-left g l = record {
   reads : g.I.Input.failures l.input ≡ g.I.Input.failures l.initial.input;
   writes : g.O.Output.failures l.output ≡ g.O.Output.failures l.initial.output;
   read : (bytes : List ℕ) → g.I.Input.rest l.initial.input ≡ Some bytes
-      → Fed l.initial.desk [] (take (18446744073709551615 - l.left) bytes) (g.O.Output.written l.initial.output) (g.O.Output.written l.output) l.line l.desk;
+      → Fed l.form l.initial.desk [] (take (18446744073709551615 - l.left) bytes) (g.O.Output.written l.initial.output) (g.O.Output.written l.output) l.line l.desk;
   rest : (bytes : List ℕ) → g.I.Input.rest l.initial.input ≡ Some bytes
       → g.I.Input.rest l.input ≡ Some (drop (18446744073709551615 - l.left) bytes);
 }

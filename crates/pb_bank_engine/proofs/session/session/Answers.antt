@@ -9,7 +9,7 @@ use Rattle.pb_bank_engine.proofs.session.session.Goals as goal
 pub returns-in-Err-clause-some : goal.returns-in-Err-clause-some
 returns-in-Err-clause-some g c =
     IfSome_then (g.I.Input.rest c.args.input.now) c.in-Err.ensures.some
-    (λ bytes some. says_some c.in-Err.stop c.args.desk.now bytes (g.O.Output.written
+    (λ bytes some. says_some c.args.form c.in-Err.stop c.args.desk.now bytes (g.O.Output.written
     c.args.output.now) (g.O.Output.written c.read_lines.new.output) some)
 
 pub returns-then-is_empty-clause-all : goal.returns-then-is_empty-clause-all
@@ -18,7 +18,7 @@ returns-then-is_empty-clause-all g c =
     let none : length c.as_slice.result.now ≡ 0 = eqb-true (length c.as_slice.result.now) 0 (sym c.is_empty.ensures ∙ c.if-is_empty.true) in
     let empty : length line ≡ 0 = ap (λ (l : List ℕ). length l) (sym c.as_slice.ensures) ∙ none in
     IfSome_then (g.I.Input.rest c.args.input.now) c.in_default.ensures.fed
-    (λ bytes fed. says_all c.args.desk.now c.read_lines.new.desk bytes (g.O.Output.written c.args.output.now)
+    (λ bytes fed. says_all c.args.form c.args.desk.now c.read_lines.new.desk bytes (g.O.Output.written c.args.output.now)
     (g.O.Output.written c.read_lines.new.output) line fed empty c.waiting.ensures.waits)
 
 pub returns-clause-all : goal.returns-clause-all
@@ -33,8 +33,8 @@ returns-clause-all g c =
     let some : 0 < length line = omega (arith, same, some') in
     on_ok c.tell_line.result _ _ c.tell_line.ensures.told (λ told.
     IfSome_then (g.I.Input.rest c.args.input.now) c.in_default.ensures.fed
-    (λ bytes fed. says_last c.args.desk.now m bytes (g.O.Output.written c.args.output.now) mid line fed next new some
-    (subst (λ (l : List ℕ). IsTold m l mid new next) c.as_slice-2.ensures told)))
+    (λ bytes fed. says_last c.args.form c.args.desk.now m bytes (g.O.Output.written c.args.output.now) mid line fed next new some
+    (subst (λ (l : List ℕ). IsTold c.args.form m l mid new next) c.as_slice-2.ensures told)))
 
 pub returns-clause-some : goal.returns-clause-some
 returns-clause-some g c =
@@ -48,8 +48,8 @@ returns-clause-some g c =
     let some : 0 < length line = omega (arith, same, some') in
     if_err c.tell_line.result _ _ c.tell_line.ensures.stopped (λ fault stop.
     IfSome_then (g.I.Input.rest c.args.input.now) c.in_default.ensures.fed
-    (λ bytes fed. says_stop c.args.desk.now m bytes (g.O.Output.written c.args.output.now) mid line fed new fault some
-    (subst (λ (l : List ℕ). StopsAt fault m l mid new) c.as_slice-2.ensures stop)))
+    (λ bytes fed. says_stop c.args.form c.args.desk.now m bytes (g.O.Output.written c.args.output.now) mid line fed new fault some
+    (subst (λ (l : List ℕ). StopsAt c.args.form fault m l mid new) c.as_slice-2.ensures stop)))
 
 pub returns-in-Err-clause-answered : goal.returns-in-Err-clause-answered
 returns-in-Err-clause-answered g c grew = c.read_lines.ensures.answered grew

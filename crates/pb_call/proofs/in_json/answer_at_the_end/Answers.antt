@@ -16,9 +16,9 @@ returns-clause-text g c =
     let started : Gathering → Devices = λ m. record { reads = g.I.Input.failures c.args.input.now; writes = m.failures; written = Some m.bytes } in
     let ended : Devices =
     record { reads = g.I.Input.failures c.answer-given.new.input; writes = c.answer-given.new.output.failures; written = Some c.answer-given.new.output.bytes } in
-    let faults = subst (λ (m : Gathering). CallTellsFaults g.C.Commands.tool g.C.Commands.Leaves c.args.words.now (g.I.Input.rest c.args.input.now) (g.I.Input.rest c.answer-given.new.input)
+    let faults = subst (λ (m : Gathering). CallTellsFaults g.C.Commands.tool (g.C.Commands.Leaves Lines) c.args.words.now (g.I.Input.rest c.args.input.now) (g.I.Input.rest c.answer-given.new.input)
     (started m) ended c.answer-given.result) c.new-gathered.ensures c.answer-given.ensures.faults in
-    let tells = gathered_faults g.C.Commands.tool g.C.Commands.Leaves c.args.words.now (g.I.Input.rest c.args.input.now) (g.I.Input.rest c.answer-given.new.input)
+    let tells = gathered_faults g.C.Commands.tool (g.C.Commands.Leaves Lines) c.args.words.now (g.I.Input.rest c.args.input.now) (g.I.Input.rest c.answer-given.new.input)
     (g.I.Input.failures c.args.input.now) (g.I.Input.failures c.answer-given.new.input) c.answer-given.new.output.failures
     c.answer-given.new.output.bytes c.answer-given.result faults in
     let writes = subst (λ (m : Gathering). CallWrites g.C.Commands.tool g.C.Commands.MaySay Lines c.args.words.now (g.I.Input.rest c.args.input.now) (Some m.bytes)
@@ -42,9 +42,9 @@ returns-clause-faults g c =
     let started : Gathering → Devices = λ m. record { reads = g.I.Input.failures c.args.input.now; writes = m.failures; written = Some m.bytes } in
     let ended : Devices =
     record { reads = g.I.Input.failures c.answer-given.new.input; writes = c.answer-given.new.output.failures; written = Some c.answer-given.new.output.bytes } in
-    let faults = subst (λ (m : Gathering). CallTellsFaults g.C.Commands.tool g.C.Commands.Leaves c.args.words.now (g.I.Input.rest c.args.input.now) (g.I.Input.rest c.answer-given.new.input)
+    let faults = subst (λ (m : Gathering). CallTellsFaults g.C.Commands.tool (g.C.Commands.Leaves Lines) c.args.words.now (g.I.Input.rest c.args.input.now) (g.I.Input.rest c.answer-given.new.input)
     (started m) ended c.answer-given.result) c.new-gathered.ensures c.answer-given.ensures.faults in
-    let tells = gathered_faults g.C.Commands.tool g.C.Commands.Leaves c.args.words.now (g.I.Input.rest c.args.input.now) (g.I.Input.rest c.answer-given.new.input)
+    let tells = gathered_faults g.C.Commands.tool (g.C.Commands.Leaves Lines) c.args.words.now (g.I.Input.rest c.args.input.now) (g.I.Input.rest c.answer-given.new.input)
     (g.I.Input.failures c.args.input.now) (g.I.Input.failures c.answer-given.new.input) c.answer-given.new.output.failures
     c.answer-given.new.output.bytes c.answer-given.result faults in
     told_faults c.dialect_of.result c.answer-given.new.output.bytes c.answer-given.result c.tell_json.result (g.I.Input.failures c.args.input.now)

@@ -16,7 +16,7 @@ returns g c =
       heard = heard;
       writes = subst (λ (s : LiveSink). CallWrites g.C.Commands.tool g.C.Commands.MaySay Lines c.args.words.now rest (seen_by_writers s) (seen_by_writers heard) given)
           c.tell_lines.ensures c.answer-given.ensures.text;
-      faults = subst (λ (s : LiveSink). CallTellsFaults g.C.Commands.tool g.C.Commands.Leaves c.args.words.now rest left
+      faults = subst (λ (s : LiveSink). CallTellsFaults g.C.Commands.tool (g.C.Commands.Leaves Lines) c.args.words.now rest left
           (devices_of (g.I.Input.failures c.args.input.now) s) (devices_of (g.I.Input.failures c.answer-given.new.input) heard) given)
           c.tell_lines.ensures c.answer-given.ensures.faults;
       ended = c.end_lines.ensures;

@@ -1,4 +1,4 @@
-use Rattle.std.proofs.Common.{rules, ◌≡◌, ◌∷◌, ◌-◌, ◌<◌, ℤ, List, w64, to_z, of_z, length, sym, ap, ◌∙◌, arith}
+use Rattle.std.proofs.Common.{rules, ◌≡◌, ◌∷◌, ◌-◌, ◌<◌, ℤ, w64, to_z, of_z, length, sym, ap, ◌∙◌, arith}
 use Rattle.std.specs.Prelude.{pos, slice_index_or}
 use Rattle.pb_debug_texts.proofs.Tops.{last_on_top}
 use Rattle.pb_debug_texts.proofs.values.top.Goals as goal

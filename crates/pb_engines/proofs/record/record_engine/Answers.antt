@@ -1,21 +1,18 @@
-use Rattle.std.proofs.Common.{ap}
+use Rattle.pb_accept.specs.Sayings.{NoMemory, TooLong}
+use Rattle.pb_voice.proofs.InputLemmas.{answers_read, answers_unread}
 use Rattle.pb_engines.specs.Records.{SaysOfRecord}
 use Rattle.pb_options.specs.Lends.{lending_for}
-use Rattle.pb_command_io.proofs.InputLemmas.{read_faults, says_read, says_unread}
+use Rattle.pb_voice.specs.Held.{at}
 use Rattle.pb_engines.proofs.record.record_engine.Goals as goal
 
-pub returns-in-Ok-clause-text : goal.returns-in-Ok-clause-text
-returns-in-Ok-clause-text g c =
-    says_read (SaysOfRecord (lending_for c.args.options.lend) c.args.options.run.steps c.args.options.seed) (g.I.Input.rest c.args.input.now) _ _ _ _ _ c.record_text.result c.in-Ok.ensures.read
-    c.as_slice.ensures.value (ap g.O.Output.written c.in-Ok.ensures.untouched) c.record_text.ensures.text
+pub returns-in-Ok : goal.returns-in-Ok
+returns-in-Ok g c =
+    answers_read TooLong NoMemory g.T.Teller.tells g.T.Teller.breaks (SaysOfRecord (lending_for c.args.options.lend) c.args.options.run.steps c.args.options.seed) (at g.O.Output.written g.O.Output.failures c.args.teller.now c.args.output.now)
+    (at g.O.Output.written g.O.Output.failures c.record_text.new.teller c.record_text.new.output) c.record_text.result (g.I.Input.rest c.args.input.now) (g.I.Input.failures c.args.input.now) (g.I.Input.failures c.read_or_tell.new.input)
+    c.in-Ok.bytes.items c.deref.result.now (at g.O.Output.written g.O.Output.failures c.read_or_tell.new.teller c.read_or_tell.new.output)
+    c.in-Ok.ensures.read c.deref.ensures.value c.in-Ok.ensures.counted c.in-Ok.ensures.untouched c.record_text.ensures
 
-pub returns-in-Ok-clause-faults : goal.returns-in-Ok-clause-faults
-returns-in-Ok-clause-faults g c =
-    read_faults _ _ _ _ _ _ _ c.record_text.result c.in-Ok.ensures.counted (ap g.O.Output.failures c.in-Ok.ensures.untouched) c.record_text.ensures.faults
-
-pub returns-in-Err-clause-text : goal.returns-in-Err-clause-text
-returns-in-Err-clause-text g c = says_unread (SaysOfRecord (lending_for c.args.options.lend) c.args.options.run.steps c.args.options.seed)
-    (g.I.Input.rest c.args.input.now) _ _ c.in-Err.status c.in-Err.ensures.told
-
-pub returns-in-Err-clause-faults : goal.returns-in-Err-clause-faults
-returns-in-Err-clause-faults g c = c.in-Err.ensures.faults
+pub returns-in-Err : goal.returns-in-Err
+returns-in-Err g c =
+    answers_unread TooLong NoMemory g.T.Teller.tells g.T.Teller.breaks (SaysOfRecord (lending_for c.args.options.lend) c.args.options.run.steps c.args.options.seed) (at g.O.Output.written g.O.Output.failures c.args.teller.now c.args.output.now)
+    (at g.O.Output.written g.O.Output.failures c.read_or_tell.new.teller c.read_or_tell.new.output) c.in-Err.status (g.I.Input.rest c.args.input.now) (g.I.Input.failures c.args.input.now) (g.I.Input.failures c.read_or_tell.new.input) c.in-Err.ensures.told

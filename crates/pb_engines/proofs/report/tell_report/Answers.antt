@@ -2,7 +2,6 @@ use Rattle.std.proofs.Common.{ap}
 use Rattle.pb_accept.specs.ToldEvents.{shown}
 use Rattle.pb_accept.specs.View.{said_view}
 use Rattle.pb_accept.proofs.EventLemmas.{last_is_told, stops_before}
-use Rattle.pb_code.specs.View.{code_view}
 use Rattle.pb_code.specs.Whole.{Code}
 use Rattle.pb_engines.specs.Runs.{SaysOfCodeRun}
 use Rattle.pb_engines.proofs.ReportLemmas.{says_of_report}

@@ -1,4 +1,4 @@
-use Rattle.std.proofs.Common.{◌++◌, ◌∙◌, append_assoc}
+use Rattle.std.proofs.Common.{◌∙◌, append_assoc}
 use Rattle.pb_base.proofs.Lists.{four_behind}
 use Rattle.pb_explain.proofs.explain.put_example.Goals as goal
 

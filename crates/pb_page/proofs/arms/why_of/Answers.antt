@@ -91,8 +91,8 @@ reason-requires-clause-within_claim c =
     (request_within_claim (lending_by c.args.machine.now.bank) v c.code.ensures.verified s c.requires.machine.reached c.args.p c.args.arm _ _ code c.proc.ensures.state
     c.in-Some.bundle.now stands)
 
-pub returns-in_ok-why-in-Some : goal.returns-in_ok-why-in-Some
-returns-in_ok-why-in-Some c =
+pub returns-in-Some : goal.returns-in-Some
+returns-in-Some c =
     let v = c.args.verified.now in
     let s = machine_view c.args.machine.now in
     let given = c.code.result.now in
@@ -106,13 +106,11 @@ returns-in_ok-why-in-Some c =
     let there : thread_view c.thread.result.now ≡ thread_at s c.args.p c.args.arm =
     c.thread.ensures ∙ ap (λ (q : CodeProcess). thread q.threads c.args.arm) (sym (process_is s c.args.p _ c.proc.ensures.state)) in
     let at = subst (λ (t : Thread). IsAtTake (process_view c.index-code.result.now) t c.in-Some.bundle.now) there c.in-Some.ensures.some in
-    let why = c.in_ok-why-in-Some.why in
     let lends : lending_by c.lender.result.now ≡ lending_by c.args.machine.now.bank = ap lending_by c.lender.ensures.bank in
-    let is = subst (λ (b : BankerState). IsReasonBy (lending_by c.args.machine.now.bank) b c.args.p c.in-Some.bundle.now why) e
-    (subst (λ (l : Lending). IsReasonBy l (lender_state c.lender.result.now) c.args.p c.in-Some.bundle.now why) lends
-    c.in_ok-why-in-Some.ensures) in
-    if_ok c.why_text.result _ _ c.why_text.ensures
-    (λ text said. asking (process_view c.index-code.result.now) c.in-Some.bundle.now why code at is said)
+    if_ok c.reason.result _ _ c.reason.ensures
+    (λ why is. asking (process_view c.index-code.result.now) c.in-Some.bundle.now why code at
+    (subst (λ (b : BankerState). IsReasonBy (lending_by c.args.machine.now.bank) b c.args.p c.in-Some.bundle.now why) e
+    (subst (λ (l : Lending). IsReasonBy l (lender_state c.lender.result.now) c.args.p c.in-Some.bundle.now why) lends is)))
 
 pub returns-in-None : goal.returns-in-None
 returns-in-None c =
@@ -125,8 +123,7 @@ returns-in-None c =
     let within : c.args.p < length given.processes.items = omega (arith, inside, count, codes_number given v.code same) in
     let there : thread_at s c.args.p c.args.arm ≡ thread_view c.thread.result.now =
     sym (c.thread.ensures ∙ ap (λ (q : CodeProcess). thread q.threads c.args.arm) (sym (process_is s c.args.p _ c.proc.ensures.state))) in
-    if_ok c.why_text-in-None.result _ _ c.why_text-in-None.ensures
-    (λ text said. not_asking (λ of bundle read at. c.in-None.ensures.none bundle
+    not_asking (λ of bundle read at. c.in-None.ensures.none bundle
     (subst (λ (q : ProcessCode). IsAtTake q (thread_view c.thread.result.now) bundle)
     (code_is given v.code same c.args.p c.index-code.result.now of within c.index-code.ensures read)
-    (subst (λ (t : Thread). IsAtTake of t bundle) there at))) said)
+    (subst (λ (t : Thread). IsAtTake of t bundle) there at)))

@@ -2,6 +2,7 @@ use Rattle.std.proofs.Common.{Vec, Global, refl, ℕ, List, ◌++◌, sym, ap, �
 use Rattle.pb_base.specs.Lines.{NameTable, names_view}
 use Rattle.pb_base.specs.Steppers.{State}
 use Rattle.pb_code.specs.Code.{CodeProcess}
+use Rattle.pb_code.specs.View.{labels_view}
 use Rattle.pb_code.specs.Whole.{Code}
 use Rattle.pb_history.specs.Entries.{picks_of}
 use Rattle.pb_history.specs.Positions.{state_after}
@@ -45,7 +46,7 @@ returns-clause-row c =
             before = before;
             is_before = is_before;
             after = after;
-            is_after = subst (λ (s : State CodeProcess). IsStateBy lending v.code s after) reached (c.in_ok-after.ensures lending stands.machine);
+            is_after = subst (λ (s : State CodeProcess). IsStateBy lending v.code (labels_view c.args.labels.now) s after) reached (c.in_ok-after.ensures lending stands.machine);
             written = refl;
           },
     )
@@ -60,5 +61,5 @@ returns-clause-walks c = c.advance-step.ensures.walks
 pub returns-clause-state : goal.returns-clause-state
 returns-clause-state c lending walks =
     let stands = (c.advance-step.ensures.walks lending walks).stands in
-    subst (λ (s : State CodeProcess). IsStateBy lending c.args.verified.now.code s (texts c.in_ok-after.after.items))
+    subst (λ (s : State CodeProcess). IsStateBy lending c.args.verified.now.code (labels_view c.args.labels.now) s (texts c.in_ok-after.after.items))
     stands.state (c.in_ok-after.ensures lending stands.machine)

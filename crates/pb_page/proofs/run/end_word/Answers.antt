@@ -1,6 +1,6 @@
-use Rattle.std.proofs.Common.{◌≡◌, length, arith}
+use Rattle.std.proofs.Common.{arith}
 use Rattle.std.proofs.lemmas.List.{length-map}
-use Rattle.pb_history.specs.Entries.{Entry, picks_of}
+use Rattle.pb_history.specs.Entries.{Entry}
 use Rattle.pb_page.specs.Runs.{cut, whole}
 use Rattle.pb_page.proofs.run.end_word.Goals as goal
 

@@ -1,5 +1,6 @@
 use Rattle.std.proofs.Common.{◌≡◌, ◌+◌, ℕ, List, [], ◌++◌, refl, sym, ap, ◌∙◌, subst, append_assoc, arith}
 use Rattle.std.proofs.lemmas.List.{append-nil}
+use Rattle.pb_code.specs.View.{labels_view}
 use Rattle.pb_history.specs.Entries.{picks_of}
 use Rattle.pb_json.specs.Values.{comma}
 use Rattle.pb_page.specs.Rows.{IsRow}
@@ -43,10 +44,10 @@ loop-k-preserved c =
             ∙ (append_assoc here (comma k) row
             ∙ (ap (λ (t : List ℕ). t ++ (comma k ++ row)) before.rows.1 ∙ append_assoc old rows (comma k ++ row)))),
         λ lending walks is.
-            one_part_more (λ j part. (row : List ℕ) × IsRow lending v.code picks (from + j) row × (part ≡ comma j ++ row)) k rows (comma k ++ row)
+            one_part_more (λ j part. (row : List ℕ) × IsRow lending v.code (labels_view c.args.labels.now) picks (from + j) row × (part ≡ comma j ++ row)) k rows (comma k ++ row)
             (before.rows.2 lending walks is) (
               row,
-              subst (λ (i : ℕ). IsRow lending v.code picks i row) at
+              subst (λ (i : ℕ). IsRow lending v.code (labels_view c.args.labels.now) picks i row) at
                   (made.row.2 lending (before.walks lending walks) (before.state lending walks is)),
               refl,
             ),
@@ -62,6 +63,6 @@ returns-clause-rows c =
       rows.0,
       rows.1,
       λ lending walks is.
-          subst (λ (n : ℕ). AreRows lending c.args.verified.now.code (picks_of c.args.trace.now.entries) c.args.walker.now.at n rows.0) e
+          subst (λ (n : ℕ). AreRows lending c.args.verified.now.code (labels_view c.args.labels.now) (picks_of c.args.trace.now.entries) c.args.walker.now.at n rows.0) e
           (rows.2 lending walks is),
     )

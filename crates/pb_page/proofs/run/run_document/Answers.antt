@@ -2,6 +2,7 @@ use Rattle.std.proofs.Common.{Vec, Global, ◌≡◌, ◌+◌, ℕ, List, ◌++�
 use Rattle.std.proofs.lemmas.List.{length-map}
 use Rattle.pb_base.specs.Steppers.{State}
 use Rattle.pb_code.specs.Code.{CodeProcess}
+use Rattle.pb_code.specs.View.{labels_view}
 use Rattle.pb_history.specs.Entries.{Entry, picks_of}
 use Rattle.pb_history.specs.Positions.{state_after}
 use Rattle.pb_page.specs.Runs.{AreRows, IsEnd, end_text, first_of, head_text, rows_of, start_text}
@@ -32,15 +33,15 @@ returns c =
     let at : c.in_ok-walker.walker.at ≡ first_of picks shown.from = c.in_ok-walker.ensures.at ∙ from in
     let last : c.put_rows.new.walker.at ≡ first_of picks shown.from + rows_of picks shown.from shown.rows =
     let m = made.at in omega (arith, m, at, rows) in
-    let here : IsStateBy lending code (state_after code picks c.in_ok-walker.walker.at) start =
-    subst (λ (s : State CodeProcess). IsStateBy lending code s start) walks.stands.state
+    let here : IsStateBy lending code (labels_view c.args.labels.now) (state_after code picks c.in_ok-walker.walker.at) start =
+    subst (λ (s : State CodeProcess). IsStateBy lending code (labels_view c.args.labels.now) s start) walks.stands.state
     (c.in_ok-state.ensures lending walks.stands.machine) in
     record {
       start = start;
-      is_start = subst (λ (i : ℕ). IsStateBy lending code (state_after code picks i) start) at here;
+      is_start = subst (λ (i : ℕ). IsStateBy lending code (labels_view c.args.labels.now) (state_after code picks i) start) at here;
       rows = made.rows.0;
-      are_rows = subst (λ (i : ℕ). AreRows lending code picks i (rows_of picks shown.from shown.rows) made.rows.0) at
-          (subst (λ (n : ℕ). AreRows lending code picks c.in_ok-walker.walker.at n made.rows.0) rows (made.rows.2 lending walks here));
+      are_rows = subst (λ (i : ℕ). AreRows lending code (labels_view c.args.labels.now) picks i (rows_of picks shown.from shown.rows) made.rows.0) at
+          (subst (λ (n : ℕ). AreRows lending code (labels_view c.args.labels.now) picks c.in_ok-walker.walker.at n made.rows.0) rows (made.rows.2 lending walks here));
       end = c.end_word.result.now;
       is_end = subst (λ (i : ℕ). IsEnd picks c.args.ending.now i c.end_word.result.now) last c.end_word.ensures;
       written = four_parts c.new-out.result.items

@@ -1,5 +1,6 @@
 use Rattle.std.proofs.Common.{sym, subst}
 use Rattle.pb_base.specs.declared.lending.Lending.{Lending}
+use Rattle.pb_code.specs.View.{labels_view}
 use Rattle.pb_machine.specs.Views.{IsMachineBy, machine_view}
 use Rattle.pb_page.specs.States.{IsStateBy}
 use Rattle.pb_page.specs.Texts.{texts}
@@ -12,5 +13,5 @@ add_all-requires-clause-machine c =
 
 pub returns : goal.returns
 returns c = λ lending is.
-    subst (λ (l : Lending). IsStateBy l c.args.verified.now.code (machine_view c.args.machine.now) (texts c.add_all.new.entries.items))
+    subst (λ (l : Lending). IsStateBy l c.args.verified.now.code (labels_view c.args.labels.now) (machine_view c.args.machine.now) (texts c.add_all.new.entries.items))
     is.lends c.in_ok-add_all.ensures

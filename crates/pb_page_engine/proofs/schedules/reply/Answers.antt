@@ -21,8 +21,10 @@ returns c =
       spelled = subst (λ (labels : List ProcessLabels). SpellsCode Two code labels object) c.labels.ensures.labels
           (subst (λ (v : VerifiedCode). SpellsCode Two v.code (labels_view c.labels.result.now) object) c.verified-verified.ensures
           c.in_ok-object.ensures);
-      are = subst (λ (o : List ℕ). AreSchedules lending states source o code r.text.items r.status) c.deref.ensures.value
-          (subst (λ (v : VerifiedCode). AreSchedules lending states source c.deref.result.now v.code r.text.items r.status)
-          c.verified-verified.ensures are);
+      are = subst (λ (o : List ℕ). AreSchedules lending states source o code c.args.compiled.now.labels r.text.items r.status) c.deref.ensures.value
+          (subst (λ (v : VerifiedCode). AreSchedules lending states source c.deref.result.now v.code c.args.compiled.now.labels r.text.items r.status)
+          c.verified-verified.ensures
+          (subst (λ (labels : List ProcessLabels). AreSchedules lending states source c.deref.result.now c.verified-verified.result.now.code labels
+          r.text.items r.status) c.labels-2.ensures.labels are));
     })
     (λ e h. h)

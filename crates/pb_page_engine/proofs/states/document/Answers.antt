@@ -1,4 +1,5 @@
 use Rattle.std.proofs.Common.{List, ℕ, subst}
+use Rattle.pb_code.specs.View.{labels_view}
 use Rattle.pb_history.specs.Entries.{picks_of}
 use Rattle.pb_machine.specs.Views.{machine_view}
 use Rattle.pb_page.specs.Runs.{IsRunDocument}
@@ -22,9 +23,9 @@ returns c =
       spelled = c.in_ok-object.ensures;
       ending = ending;
       ends = c.ending_of-ending.ensures lending c.requires.machine;
-      written = subst (λ (word : List ℕ). IsRunDocument lending code picks text c.in_ok-object.object.items shown.from shown.rows word document)
+      written = subst (λ (word : List ℕ). IsRunDocument lending code (labels_view c.args.labels.now) picks text c.in_ok-object.object.items shown.from shown.rows word document)
           c.last_line.ensures
-          (subst (λ (o : List ℕ). IsRunDocument lending code picks text o shown.from shown.rows c.last_line.result.now document)
+          (subst (λ (o : List ℕ). IsRunDocument lending code (labels_view c.args.labels.now) picks text o shown.from shown.rows c.last_line.result.now document)
           c.deref.ensures.value c.in_ok-said.ensures);
       told = c.end_status.ensures.status machine c.status_at-faulted.ensures.status;
     }

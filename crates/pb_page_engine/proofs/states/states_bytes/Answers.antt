@@ -1,39 +1,48 @@
 use Rattle.std.proofs.Common.{◌≡◌, None, false, true, inl, refl}
-use Rattle.pb_accept.proofs.ReplayLemmas.{text_is_short}
+use Rattle.pb_accept.proofs.InputLemmas.{of_fault}
 use Rattle.pb_code.specs.View.{labels_view}
 use Rattle.pb_object.proofs.TextLimits.{text_keeps}
-use Rattle.pb_page_engine.proofs.StatesLemmas.{lines_of_text_told, lines_told, no_code_told, refusal_told}
+use Rattle.pb_page_engine.specs.States.{SaysOfStates, no_text}
+use Rattle.pb_page_engine.proofs.StatesLemmas.{lines_of_text_told, lines_told, no_code_told}
+use Rattle.pb_voice.specs.Held.{at}
 use Rattle.pb_page_engine.proofs.states.states_bytes.Goals as goal
 
-pub states_lines-requires : goal.states_lines-requires
-states_lines-requires g c = (text_keeps c.in-Ok.verified.code (labels_view c.in-Ok.labels) c.in-Ok.ensures.writable).fit
+pub states_lines-status-requires : goal.states_lines-status-requires
+states_lines-status-requires g c = (text_keeps c.in-Ok.verified.code (labels_view c.in-Ok.labels) c.in-Ok.ensures.writable).fit
 
-pub returns-in-Ok-clause-text : goal.returns-in-Ok-clause-text
-returns-in-Ok-clause-text g c =
+pub returns-in-Ok : goal.returns-in-Ok
+returns-in-Ok g c =
     let object = c.if-is_object.ensures.0 refl in
-    lines_told c.args.lending c.args.shown c.args.bytes.now c.two_parts.result.0.now c.two_parts.result.1.now c.in-Ok.verified.code
-    (labels_view c.in-Ok.labels) None _ _ c.states_lines.result c.requires c.two_parts.ensures (inl (object, c.in-Ok.ensures.loaded, refl))
-    c.states_lines.ensures.text
+    lines_told g.T.Teller.tells g.T.Teller.breaks (at g.O.Output.written g.O.Output.failures c.args.teller.now c.args.output.now)
+    (at g.O.Output.written g.O.Output.failures c.states_lines-status.new.teller c.states_lines-status.new.output) c.states_lines-status.result c.args.lending c.args.shown
+    c.args.bytes.now c.two_parts.result.0.now c.two_parts.result.1.now c.requires c.two_parts.ensures
+    c.in-Ok.verified.code (labels_view c.in-Ok.labels) None (inl (object, c.in-Ok.ensures.loaded, refl)) c.states_lines-status.ensures
 
-pub returns-in-Err-clause-text : goal.returns-in-Err-clause-text
-returns-in-Err-clause-text g c =
+pub returns-in-Err : goal.returns-in-Err
+returns-in-Err g c =
     let object = c.if-is_object.ensures.0 refl in
-    no_code_told c.args.lending c.args.shown c.args.bytes.now c.two_parts.result.0.now c.two_parts.result.1.now c.load_refusal.result _ _
-    c.tell.result c.requires c.two_parts.ensures object (c.load_refusal.ensures c.two_parts.result.0.now c.in-Err.ensures.fault)
-    c.tell.ensures.said c.tell.ensures.memory
+    no_code_told g.T.Teller.tells g.T.Teller.breaks (at g.O.Output.written g.O.Output.failures c.args.teller.now c.args.output.now)
+    (at g.O.Output.written g.O.Output.failures c.tell_load_fault.new.teller c.tell_load_fault.new.output) c.tell_load_fault.result c.args.lending c.args.shown
+    c.args.bytes.now c.two_parts.result.0.now c.two_parts.result.1.now c.requires c.two_parts.ensures
+    c.in-Err.fault object c.in-Err.ensures.fault c.tell_load_fault.ensures
 
-pub returns-in-Ok-compile_text-clause-text : goal.returns-in-Ok-compile_text-clause-text
-returns-in-Ok-compile_text-clause-text g c =
-    lines_of_text_told c.args.lending c.args.shown c.args.bytes.now c.two_parts.result.0.now c.two_parts.result.1.now
-    c.verified-in-Ok-compile_text.result.now c.in-Ok-compile_text.compiled.verified (labels_view c.labels.result.now)
-    c.in-Ok-compile_text.compiled.labels _ _ c.states_lines-in-Ok-compile_text.result c.requires c.two_parts.ensures
+pub returns-in-Ok-code_of_text : goal.returns-in-Ok-code_of_text
+returns-in-Ok-code_of_text g c =
+    lines_of_text_told g.T.Teller.tells g.T.Teller.breaks (at g.O.Output.written g.O.Output.failures c.args.teller.now c.args.output.now)
+    (at g.O.Output.written g.O.Output.failures c.states_lines-status-in-Ok-code_of_text.new.teller c.states_lines-status-in-Ok-code_of_text.new.output) c.states_lines-status-in-Ok-code_of_text.result c.args.lending c.args.shown
+    c.args.bytes.now c.two_parts.result.0.now c.two_parts.result.1.now c.requires c.two_parts.ensures
+    c.verified.result.now c.in-Ok-code_of_text.compiled.verified (labels_view c.labels.result.now)
+    c.in-Ok-code_of_text.compiled.labels
     (λ object. let w : false ≡ true = c.if-is_object.ensures.1 object in cc)
-    c.in-Ok-compile_text.ensures.compiled c.verified-in-Ok-compile_text.ensures c.labels.ensures.labels
-    c.states_lines-in-Ok-compile_text.ensures.text
+    c.in-Ok-code_of_text.ensures.compiled c.verified.ensures c.labels.ensures.labels
+    c.states_lines-status-in-Ok-code_of_text.ensures
 
-pub returns-in-Err-compile_text-clause-text : goal.returns-in-Err-compile_text-clause-text
-returns-in-Err-compile_text-clause-text g c =
-    let short = text_is_short c.args.bytes.now c.two_parts.result.0.now c.two_parts.result.1.now c.two_parts.ensures c.requires in
-    refusal_told c.args.lending c.args.shown c.args.bytes.now c.two_parts.result.0.now c.two_parts.result.1.now _ _ c.refuse.result c.requires short
-    c.two_parts.ensures (λ object. let w : false ≡ true = c.if-is_object.ensures.1 object in cc)
-    (c.refuse.ensures.text c.two_parts.result.0.now short c.in-Err-compile_text.ensures.refused)
+pub returns-in-Err-code_of_text : goal.returns-in-Err-code_of_text
+returns-in-Err-code_of_text g c =
+    of_fault g.T.Teller.tells g.T.Teller.breaks (SaysOfStates c.args.lending c.args.shown)
+    (at g.O.Output.written g.O.Output.failures c.args.teller.now c.args.output.now)
+    (at g.O.Output.written g.O.Output.failures c.tell_fault.new.teller c.tell_fault.new.output) c.tell_fault.result c.args.bytes.now
+    c.in-Err-code_of_text.fault c.requires
+    (λ not. no_text c.two_parts.result.0.now c.two_parts.result.1.now c.two_parts.ensures
+    (λ object. let w : false ≡ true = c.if-is_object.ensures.1 object in cc) c.in-Err-code_of_text.fault not c.in-Err-code_of_text.ensures.refused)
+    c.tell_fault.ensures.memory c.tell_fault.ensures.refused

@@ -2,7 +2,7 @@ use Rattle.std.proofs.Common.{Vec, Global, List, ℕ, subst, sym}
 use Rattle.pb_base.specs.declared.lending.Lending.{Lending}
 use Rattle.pb_claims.specs.Fits.{FitCapital, IsFirstOver}
 use Rattle.pb_names.specs.View.{resolved_view}
-use Rattle.pb_plan_engine.specs.PlanLines.{AllowsDeadlocks, RulesOutDeadlocks, may_deadlock, no_deadlock, scarce_of, too_little}
+use Rattle.pb_plan_engine.specs.Plans.{AllowsDeadlocks, RulesOutDeadlocks, may_deadlock, no_deadlock, scarce_of, too_little}
 use Rattle.pb_plan_engine.proofs.OrderLemmas.{an_order, no_order, some_bottleneck}
 use Rattle.pb_plan_engine.proofs.plan.status.Goals as goal
 

@@ -2,6 +2,7 @@ use Rattle.std.proofs.Common.{Vec, Global, ◌≡◌, ◌∙◌, ◌++◌, ℕ, 
 use Rattle.std.specs.Prelude.{All}
 use Rattle.std.proofs.lemmas.List.{length-map}
 use Rattle.pb_accept.proofs.ClaimLemmas.{names_of_resources}
+use Rattle.pb_joint.specs.View.{full_name}
 use Rattle.pb_names.specs.Program.{Name, Process}
 use Rattle.pb_names.specs.Resolves.{resource_names}
 use Rattle.pb_names.specs.View.{process_view, resolved_view, resource_view}
@@ -10,7 +11,8 @@ use Rattle.pb_names.specs.declared.resolved.Resource.{Resource}
 use Rattle.pb_plan.specs.Circles.{IsBelow, IsCircleAmong}
 use Rattle.pb_plan.specs.Nests.{AskBelow}
 use Rattle.pb_plan.specs.Scarce.{IsFollowedAmong}
-use Rattle.pb_plan_engine.specs.PlanLines.{circle_lines}
+use Rattle.pb_plan_engine.specs.Plans.{said_of_circle}
+use Rattle.pb_plan_engine.specs.View.{said_view}
 use Rattle.pb_plan.specs.declared.edge.Edge.{Edge}
 use Rattle.pb_plan_engine.proofs.OrderLemmas.{none_of, some_of}
 use Rattle.pb_plan_engine.proofs.plan.with_circle.Goals as goal
@@ -34,8 +36,8 @@ unreachable-requires g c =
     let found = none_of c.in_ok-found.found c.in_default.is c.in_ok-found.ensures.none in
     c.requires.none found.0 (subst (IsFollowedAmong c.args.few.now found.0) same found.1)
 
-pub put_circle-requires : goal.put_circle-requires
-put_circle-requires g c =
+pub add_circle-requires : goal.add_circle-requires
+add_circle-requires g c =
     let processes = c.args.program.now.processes.items in
     let resources = c.args.program.now.resources.items in
     let all = ap (λ (ps : List (GivenProcess _)). length ps) c.deref.ensures.value in
@@ -58,15 +60,15 @@ returns g c =
     ap (λ (ps : List (GivenProcess _)). map process_view ps) c.deref.ensures.value in
     let is = some_of (λ (v : Vec Edge Global). IsCircleAmong c.args.few.now (map process_view c.deref.result.now) v.items) c.in_ok-found.found
     c.in-Some.circle c.in-Some.is c.in_ok-found.ensures.circle in
-    let names = map (λ (n : Vec ℕ Global). n.items) c.args.names.now in
+    let names = map full_name c.args.names.now in
     let resources : map (λ (r : Resource _). r.name.items) c.deref-2.result.now ≡ resource_names view =
     ap (λ (rs : List (Resource _)). map (λ (r : Resource _). r.name.items) rs) c.deref-2.ensures.value
     ∙ names_of_resources c.args.program.now in (
       c.in-Some.circle.items,
       subst (λ (ps : List Process). IsCircleAmong c.args.few.now ps c.in-Some.circle.items) same is,
-      c.in_ok-put_circle.ensures
-          ∙ (ap (λ (es : List Edge). c.args.text.items
-          ++ circle_lines names
+      c.in_ok-add_circle.ensures
+          ∙ (ap (λ (es : List Edge). map said_view c.args.said.items
+          ++ said_of_circle names
           (map (λ (r : Resource _). r.name.items) c.deref-2.result.now) es) c.deref-3.ensures.value
-          ∙ ap (λ (ns : List Name). c.args.text.items ++ circle_lines names ns c.in-Some.circle.items) resources),
+          ∙ ap (λ (ns : List Name). map said_view c.args.said.items ++ said_of_circle names ns c.in-Some.circle.items) resources),
     )

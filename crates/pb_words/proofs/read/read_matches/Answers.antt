@@ -1,6 +1,6 @@
 use Rattle.std.proofs.Common.{rules}
 use Rattle.clap.specs.Words.{found_of, rows_of, subcommand_rows_of}
-use Rattle.pb_words.proofs.ReadLemmas.{IfNone-of, no_check, no_debug, no_draw, no_emit, no_exec, no_explain, no_outcomes, no_plan}
+use Rattle.pb_words.proofs.ReadLemmas.{IfNone-of, no_check, no_debug, no_draw, no_emit, no_exec, no_explain, no_findings, no_outcomes, no_plan}
 use Rattle.pb_words.proofs.ReadLemmas.{no_record, no_replay, no_run, no_states, nothing_read}
 use Rattle.pb_words.proofs.read.read_matches.Goals as goal
 
@@ -9,6 +9,12 @@ returns-in_err-check_options-in-check-clause-none c =
     IfNone-of c.from_residual-in_err-check_options-in-check.result
     (nothing_read (subcommand_rows_of c.args.matches.now) _ (rows_of (found_of c.in_ok-name.inner.now)) (search rules) c.in_ok-name.ensures.rows
     (no_check (rows_of (found_of c.in_ok-name.inner.now)) c.in_err-check_options-in-check.ensures.none))
+
+pub returns-in_err-check_options-in-findings-clause-none : goal.returns-in_err-check_options-in-findings-clause-none
+returns-in_err-check_options-in-findings-clause-none c =
+    IfNone-of c.from_residual-in_err-check_options-in-findings.result
+    (nothing_read (subcommand_rows_of c.args.matches.now) _ (rows_of (found_of c.in_ok-name.inner.now)) (search rules) c.in_ok-name.ensures.rows
+    (no_findings (rows_of (found_of c.in_ok-name.inner.now)) c.in_err-check_options-in-findings.ensures.none))
 
 pub returns-in_err-run_options-in-run-clause-none : goal.returns-in_err-run_options-in-run-clause-none
 returns-in_err-run_options-in-run-clause-none c =

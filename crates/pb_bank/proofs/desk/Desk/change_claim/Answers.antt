@@ -1,8 +1,10 @@
-use Rattle.std.proofs.Common.{Vec, Global, ap}
+use Rattle.std.proofs.Common.{Vec, Global, ap, ◌∙◌, ◌++◌, ◌∷◌, []}
 use Rattle.std.proofs.lemmas.List.Elements.{All-same}
 use Rattle.pb_base.specs.Lines.{names_view}
 use Rattle.pb_base.proofs.Results.{on_ok}
 use Rattle.pb_bank.specs.declared.request.Request.{Request}
+use Rattle.pb_bank.specs.declared.said.Jobs.{Jobs}
+use Rattle.pb_bank.specs.declared.said.Said.TheVariants.{WaitRest}
 use Rattle.pb_bank.specs.Desks.{IsRequestOf}
 use Rattle.pb_bank.proofs.CapitalDesks.{desk_same}
 use Rattle.pb_bank.proofs.ClaimDesks.{requests_claimed, told_rest}
@@ -22,7 +24,8 @@ invariant_of-self-in-Rest c =
 
 pub returns-in-Rest : goal.returns-in-Rest
 returns-in-Rest c =
-    on_ok c.put_reason.result _ _ c.put_reason.ensures
-    (told_rest c.args.self.now c.self.inside.bank c.set_claim.new.self (names_view c.self.inside.names) c.self.inside.wishes.items
-    c.args.job c.args.pair c.in-Rest.slots c.args.out.now.items c.put_reason.new.out.items c.self.view_is
-    c.in-Rest.ensures.said c.in-Rest.ensures.state c.in-Rest.ensures.used)
+    on_ok c.say.result _ _ c.say.ensures
+    (λ more. told_rest c.args.self.now c.self.inside.bank c.set_claim.new.self (names_view c.self.inside.names) c.self.inside.wishes.items
+    c.args.job c.args.pair c.in-Rest.slots c.args.out.now.items c.say.new.out.items c.self.view_is
+    c.in-Rest.ensures.said c.in-Rest.ensures.state c.in-Rest.ensures.used
+    (more ∙ ap (λ (jobs : Jobs). c.args.out.now.items ++ WaitRest jobs ∷ []) c.jobs_of.ensures))

@@ -4,7 +4,6 @@ use Rattle.pb_bank.specs.declared.request.Request.{Request}
 use Rattle.pb_bank.specs.Answers.{DropsWish}
 use Rattle.pb_bank.specs.Desks.{DeskValue, IsDesk}
 use Rattle.pb_bank.specs.Queues.{has_wish, without_wish}
-use Rattle.pb_bank.specs.Words.{words_of}
 use Rattle.pb_bank.proofs.Waiting.{desk_without}
 use Rattle.pb_bank.proofs.desk.Desk.drop_wish.Goals as goal
 
@@ -19,7 +18,6 @@ invariant_of-self c =
 pub returns : goal.returns
 returns c =
     let p = c.args.p in
-    let words = words_of c.args.text.now in
     let bank = c.self.inside.bank in
     let names = names_view c.self.inside.names in
     let wishes = c.self.inside.wishes.items in
@@ -31,8 +29,8 @@ returns c =
     let here : DeskValue = record { bank = bank; names = names; wishes = wishes } in
     let next : DeskValue = record { bank = bank; names = names; wishes = others } in (
       [],
-      subst (λ (d : DeskValue). DropsWish (has_wish d.wishes p) d words p [] next) c.self.view_is
-          (subst (λ (b : Bool). DropsWish b here words p [] next) (sym has)
+      subst (λ (d : DeskValue). DropsWish (has_wish d.wishes p) d p [] next) c.self.view_is
+          (subst (λ (b : Bool). DropsWish b here p [] next) (sym has)
           (refl, ap (λ (ws : List Request). record { bank = bank; names = names; wishes = ws }) kept)),
       sym (append-nil c.args.out.now.items),
     )

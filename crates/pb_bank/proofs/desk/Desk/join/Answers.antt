@@ -4,7 +4,6 @@ use Rattle.pb_banker.specs.Jobs.{BankValue}
 use Rattle.pb_bank.specs.declared.request.Request.{Request}
 use Rattle.pb_bank.specs.Desks.{IsRequestOf}
 use Rattle.pb_bank.specs.Queues.{ServesQueue}
-use Rattle.pb_bank.specs.Words.{words_of}
 use Rattle.pb_bank.proofs.DeskLemmas.{desk_of, joined_desk, requests_joined}
 use Rattle.pb_base.proofs.Results.{on_ok}
 use Rattle.pb_bank.proofs.desk.Desk.join.Goals as goal
@@ -25,7 +24,7 @@ returns-in-In c =
     on_ok c.serve.result _ _ c.serve.ensures (λ h. (
       h.0,
       joined_desk c.args.self.now c.self.inside.bank c.join.new.self jobs names c.self.inside.wishes.items c.in-In.p c.resources-resources.result
-          c.in_ok-name.name (words_of c.args.text.now) c.args.name.now c.row_of-row.result c.args.bundle.now h.0 c.serve.new.self c.self.view_is c.in_ok-name.ensures
+          c.in_ok-name.name c.args.name.now c.row_of-row.result c.args.bundle.now h.0 c.serve.new.self c.self.view_is c.in_ok-name.ensures
           c.resources-resources.ensures.number c.row_of-row.ensures c.in-In.ensures.said
           (subst (λ (ws : List Request). ServesQueue (desk_of c.join.new.self (set jobs c.in-In.p c.in_ok-name.name) names ws) h.0 c.serve.new.self)
           taken h.1),

@@ -12,12 +12,12 @@ added : (d : DeskValue) (words : List (List ℕ)) (name word : List ℕ) (amount
     → words ≡ name ∷ word ∷ [] → o ≡ amount_of word → o ≡ Some amount → r ≡ resource_refusal d name o → r ≡ None
     → next ≡ with_resource d name amount → AnswersResource d words [] next
 added d words name word amount o r next are is some refusal none same =
-    let here : AddsResource d (name ∷ word ∷ []) name (Some amount) None [] next = (refl, same) in
+    let here : AddsResource d name (Some amount) None [] next = (refl, same) in
     let there : Some amount ≡ amount_of word = sym some ∙ is in
     let taken : None ≡ resource_refusal d name (amount_of word) = sym none ∙ (refusal ∙ ap (resource_refusal d name) is) in
     subst (λ (ws : List (List ℕ)). AnswersResource d ws [] next) (sym are)
-    (subst (λ (r : Option Refusal). AddsResource d (name ∷ word ∷ []) name (amount_of word) r [] next) taken
-    (subst (λ (o : Option ℕ). AddsResource d (name ∷ word ∷ []) name o None [] next) there here))
+    (subst (λ (r : Option Refusal). AddsResource d name (amount_of word) r [] next) taken
+    (subst (λ (o : Option ℕ). AddsResource d name o None [] next) there here))
 
 pub returns-in-Some-amount : goal.returns-in-Some-amount
 returns-in-Some-amount c =

@@ -7,10 +7,13 @@ use Rattle.pb_bank.specs.Queues.{Serves, ServesQueue}
 use Rattle.pb_bank.proofs.Waiting.{served, desk_kept}
 use Rattle.pb_bank.proofs.desk.Desk.serve.Goals as goal
 
-pub serve-requires-clause-of : goal.serve-requires-clause-of
-serve-requires-clause-of c =
-    All-same (IsRequestOf c.self.inside.bank) c.deref.result.now c.args.wishes.items c.deref.ensures.value
-    (subst (λ (d : DeskValue). All (IsRequestOf d.bank) c.args.wishes.items) (sym c.self.view_is) c.requires.of)
+pub serve-requires : goal.serve-requires
+serve-requires c =
+    record {
+      of =
+          All-same (IsRequestOf c.self.inside.bank) c.deref.result.now c.args.wishes.items c.deref.ensures.value
+          (subst (λ (d : DeskValue). All (IsRequestOf d.bank) c.args.wishes.items) (sym c.self.view_is) c.requires.of);
+    }
 
 pub invariant_of-self-2 : goal.invariant_of-self-2
 invariant_of-self-2 c =
@@ -19,7 +22,7 @@ invariant_of-self-2 c =
     let of : All (IsRequestOf c.self.inside.bank) c.deref.result.now =
     All-same (IsRequestOf c.self.inside.bank) c.deref.result.now c.args.wishes.items c.deref.ensures.value
     (subst (λ (d : DeskValue). All (IsRequestOf d.bank) c.args.wishes.items) (sym c.self.view_is) c.requires.of) in
-    let h = served names c.self.inside.bank c.serve.ensures.formed c.deref.result.now says.0 c.in_ok-waiting.waiting.items c.serve.new.bank.state of says.1 in
+    let h = served c.self.inside.bank c.serve.ensures.formed c.deref.result.now says.0 c.in_ok-waiting.waiting.items c.serve.new.bank.state of says.1 in
     desk_kept c.self.inside.bank c.serve.new.bank names c.self.inside.wishes.items c.in_ok-waiting.waiting.items h.claims h.capital h.of h.waits
     c.self.invariant
 
@@ -35,7 +38,7 @@ returns c =
       subst (λ (d : DeskValue). ServesQueue (record d { wishes = c.args.wishes.items }) says.0 next) c.self.view_is (
         waiting,
         state,
-        subst (λ (q : List Request). Serves names bank.state q says.0 waiting state) c.deref.ensures.value says.1,
+        subst (λ (q : List Request). Serves bank.state q says.0 waiting state) c.deref.ensures.value says.1,
         ap (λ (u : List Bool). record { bank = record { state = state; used = u }; names = names; wishes = waiting }) c.serve.ensures.used,
       ),
       says.2,

@@ -1,4 +1,7 @@
+use Rattle.std.proofs.Common.{ap, ◌∙◌, ◌++◌, ◌∷◌, []}
 use Rattle.pb_base.specs.Lines.{names_view}
+use Rattle.pb_bank.specs.declared.said.Jobs.{Jobs}
+use Rattle.pb_bank.specs.declared.said.Said.TheVariants.{WaitRest}
 use Rattle.pb_bank.proofs.CapitalDesks.{desk_same, told_rest}
 use Rattle.pb_base.proofs.Results.{on_ok}
 use Rattle.pb_bank.proofs.desk.Desk.set_capital.Goals as goal
@@ -20,7 +23,8 @@ invariant_of-self-in-Rest c =
 
 pub returns-in-Rest : goal.returns-in-Rest
 returns-in-Rest c =
-    on_ok c.put_reason-in-Rest.result _ _ c.put_reason-in-Rest.ensures
-    (told_rest c.args.self.now c.self.inside.bank c.set_capital.new.self (names_view c.self.inside.names) c.self.inside.wishes.items
-    c.args.r c.args.amount c.in-Rest.slots c.args.out.now.items c.put_reason-in-Rest.new.out.items c.self.view_is
-    c.in-Rest.ensures.said c.in-Rest.ensures.state c.in-Rest.ensures.used)
+    on_ok c.say-in-Rest.result _ _ c.say-in-Rest.ensures
+    (λ more. told_rest c.args.self.now c.self.inside.bank c.set_capital.new.self (names_view c.self.inside.names) c.self.inside.wishes.items
+    c.args.r c.args.amount c.in-Rest.slots c.args.out.now.items c.say-in-Rest.new.out.items c.self.view_is
+    c.in-Rest.ensures.said c.in-Rest.ensures.state c.in-Rest.ensures.used
+    (more ∙ ap (λ (jobs : Jobs). c.args.out.now.items ++ WaitRest jobs ∷ []) c.jobs_of-in-Rest.ensures))

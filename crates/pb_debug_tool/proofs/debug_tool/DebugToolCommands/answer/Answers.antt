@@ -6,14 +6,14 @@ use Rattle.pb_debug_tool.proofs.debug_tool.DebugToolCommands.answer.Goals as goa
 pub returns-in-Dap-clause-text : goal.returns-in-Dap-clause-text
 returns-in-Dap-clause-text g c =
     tells_as (g.I.Input.rest c.args.input.now) (g.I.Input.rest c.args.input.now) (g.O.Output.written c.args.output.now)
-    (g.O.Output.written c.adapter_engine.new.output) c.adapter_engine.result c.args.options option.Dap c.in-Dap.is (says c.args._form) c.adapter_engine.ensures.text
+    (g.O.Output.written c.adapter_engine.new.output) c.adapter_engine.result c.args.options option.Dap c.in-Dap.is (says c.args.form) c.adapter_engine.ensures.text
 
 pub returns-in-Debug-clause-text : goal.returns-in-Debug-clause-text
 returns-in-Debug-clause-text g c =
     tells_as (g.I.Input.rest c.args.input.now) (g.I.Input.rest c.args.input.now) (g.O.Output.written c.args.output.now)
-    (g.O.Output.written c.debug.new.output) c.debug.result c.args.options (option.Debug c.in-Debug.flags) c.in-Debug.is (says c.args._form) c.debug.ensures.text
+    (g.O.Output.written c.debug.new.output) c.debug.result c.args.options (option.Debug c.in-Debug.flags) c.in-Debug.is (says c.args.form) c.debug.ensures.text
 
 pub returns-in-Draw-clause-text : goal.returns-in-Draw-clause-text
 returns-in-Draw-clause-text g c =
     tells_as (g.I.Input.rest c.args.input.now) (g.I.Input.rest c.args.input.now) (g.O.Output.written c.args.output.now)
-    (g.O.Output.written c.draw_engine.new.output) c.draw_engine.result c.args.options (option.Draw c.in-Draw.options) c.in-Draw.is (says c.args._form) c.draw_engine.ensures.text
+    (g.O.Output.written c.write_drawing.new.output) c.write_drawing.result c.args.options (option.Draw c.in-Draw.options) c.in-Draw.is (says c.args.form) c.write_drawing.ensures.text

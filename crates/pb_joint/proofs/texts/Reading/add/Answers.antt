@@ -5,6 +5,7 @@ use Rattle.pb_codegen.specs.declared.fault.CompileFault.TheVariants.{Memory}
 use Rattle.pb_names.specs.View.{resolved_view}
 use Rattle.pb_tree.specs.View.{process_view, program_view}
 use Rattle.pb_tree.specs.declared.program.Process.{Process}
+use Rattle.pb_joint.specs.View.{full_name}
 use Rattle.pb_joint.specs.Joined.{one_more}
 use Rattle.pb_joint.specs.Texts.{alone, names_in, together}
 use Rattle.pb_joint.proofs.TextLemmas.{complete_with, one_more_text}
@@ -41,12 +42,12 @@ returns-in_err-program-clause-fault c texts trees so_far =
 
 pub returns-clause-added : goal.returns-clause-added
 returns-clause-added c texts trees so_far same =
-    let old = map (λ (n : Vec ℕ Global). n.items) c.args.self.now.names.items in
+    let old = map full_name c.args.self.now.names.items in
     let called = c.in_ok-put_names.ensures
     ∙ ap (λ (ps : List (Process Global)). old ++ names_in c.args.several c.args.number (map process_view ps)) c.deref.ensures.value in (
       program_view c.in_ok-tree.tree,
       one_more_text c.args.several texts trees (program_view c.args.self.now.whole) (program_view c.in_ok-tree.tree)
           (program_view c.join.new.whole) c.args.text.now (option_map resolved_view c.args.self.now.program)
-          (resolved_view c.in_ok-program.program) old (map (λ (n : Vec ℕ Global). n.items) c.put_names.new.names.items)
+          (resolved_view c.in_ok-program.program) old (map full_name c.put_names.new.names.items)
           c.args.number so_far c.in_ok-tree.ensures.read c.in_ok-join.ensures c.in_ok-program.ensures.resolves called same,
     )

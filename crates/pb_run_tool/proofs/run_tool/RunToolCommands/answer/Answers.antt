@@ -36,7 +36,7 @@ returns-in-Migrate-clause-text g c =
 pub returns-in-Record-clause-text : goal.returns-in-Record-clause-text
 returns-in-Record-clause-text g c =
     tells_as (g.I.Input.rest c.args.input.now) (g.I.Input.rest c.args.input.now) (g.O.Output.written c.args.output.now)
-    (g.O.Output.written c.record_engine.new.output) c.record_engine.result c.args.options (option.Record c.in-Record.numbers) c.in-Record.is (says c.args.form) c.record_engine.ensures.text
+    (g.O.Output.written c.write_record.new.output) c.write_record.result c.args.options (option.Record c.in-Record.numbers) c.in-Record.is (says c.args.form) c.write_record.ensures.text
 
 pub returns-in-Replay-clause-text : goal.returns-in-Replay-clause-text
 returns-in-Replay-clause-text g c =

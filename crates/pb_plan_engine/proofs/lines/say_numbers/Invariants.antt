@@ -1,0 +1,11 @@
+use Rattle.std.proofs.Common.{take}
+use Rattle.std.specs.List.{flat_map}
+use Rattle.pb_voice.specs.Held.{at}
+use Rattle.pb_voice.specs.Voices.{Adds}
+use Rattle.pb_plan_engine.specs.Sayings.{line_text}
+use Rattle.pb_plan_engine.proofs.lines.say_numbers.Given as goal
+
+abbrev pub invariant-loop-i : goal.invariant-loop-i
+invariant-loop-i g l =
+    Adds (at g.O.Output.written g.O.Output.failures l.fn.voice l.fn.output) (flat_map (line_text) (take l.i l.parts))
+    (at g.O.Output.written g.O.Output.failures l.voice l.output)

@@ -1,0 +1,29 @@
+use Rattle.std.proofs.lemmas.Result.{on_ok_weaker, on_err_weaker}
+use Rattle.pb_command_io.proofs.PageLemmas.{OnErr-of}
+use Rattle.pb_voice.specs.Held.{at}
+use Rattle.pb_voice.proofs.VoiceLemmas.{adds_more, breaks_later, breaks_sooner}
+use Rattle.std.proofs.Common.{[], ◌∷◌}
+use Rattle.std.specs.Prelude.{codes}
+use Rattle.std.specs.List.{concat}
+use Rattle.pb_json.specs.Strings.{string_text}
+use Rattle.pb_plan_engine.proofs.objects.say_called.Goals as goal
+
+pub returns-in_err-say_pieces-clause-err : goal.returns-in_err-say_pieces-clause-err
+returns-in_err-say_pieces-clause-err g c =
+    let before = at g.O.Output.written g.O.Output.failures c.args.voice.now c.args.output.now in
+    let s1 = at g.O.Output.written g.O.Output.failures c.say_pieces.new.voice c.say_pieces.new.output in
+    OnErr-of c.from_residual.result (breaks_sooner before s1 (concat (codes "{\"kind\":\"" ∷ c.args.kind.now ∷ codes "\",\"process\":" ∷ string_text c.args.called.now.name.items ∷ [])) _ (rw c.deref.ensures.value at c.in_err-say_pieces.ensures.err))
+
+pub returns-clause-ok : goal.returns-clause-ok
+returns-clause-ok g c =
+    let before = at g.O.Output.written g.O.Output.failures c.args.voice.now c.args.output.now in
+    let s1 = at g.O.Output.written g.O.Output.failures c.say_pieces.new.voice c.say_pieces.new.output in
+    let s2 = at g.O.Output.written g.O.Output.failures c.say_of_text.new.voice c.say_of_text.new.output in
+    on_ok_weaker c.say_of_text.result (λ last. adds_more before s1 s2 (concat (codes "{\"kind\":\"" ∷ c.args.kind.now ∷ codes "\",\"process\":" ∷ string_text c.args.called.now.name.items ∷ [])) _ (rw c.deref.ensures.value at c.in_ok-say_pieces.ensures.ok) (last)) c.say_of_text.ensures.ok
+
+pub returns-clause-err : goal.returns-clause-err
+returns-clause-err g c =
+    let before = at g.O.Output.written g.O.Output.failures c.args.voice.now c.args.output.now in
+    let s1 = at g.O.Output.written g.O.Output.failures c.say_pieces.new.voice c.say_pieces.new.output in
+    let s2 = at g.O.Output.written g.O.Output.failures c.say_of_text.new.voice c.say_of_text.new.output in
+    on_err_weaker c.say_of_text.result (λ last. breaks_later before s1 s2 (concat (codes "{\"kind\":\"" ∷ c.args.kind.now ∷ codes "\",\"process\":" ∷ string_text c.args.called.now.name.items ∷ [])) _ (rw c.deref.ensures.value at c.in_ok-say_pieces.ensures.ok) (last)) c.say_of_text.ensures.err

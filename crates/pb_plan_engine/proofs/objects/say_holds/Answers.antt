@@ -1,0 +1,7 @@
+use Rattle.pb_plan_engine.proofs.objects.say_holds.Goals as goal
+
+pub returns-clause-ok : goal.returns-clause-ok
+returns-clause-ok g c = rw (c.deref.ensures.value, c.as_bytes.ensures.value, c.format.ensures.text, c.deref-2.ensures.value, c.as_bytes-2.ensures.value, c.format-2.ensures.text) at c.say_pieces.ensures.ok
+
+pub returns-clause-err : goal.returns-clause-err
+returns-clause-err g c = rw (c.deref.ensures.value, c.as_bytes.ensures.value, c.format.ensures.text, c.deref-2.ensures.value, c.as_bytes-2.ensures.value, c.format-2.ensures.text) at c.say_pieces.ensures.err

@@ -1,0 +1,25 @@
+use Rattle.pb_search_engine.proofs.item_lines.tell_item_lines.Goals as goal
+
+pub returns-in-Outcome-clause-ok : goal.returns-in-Outcome-clause-ok
+returns-in-Outcome-clause-ok g c = rw c.in-Outcome.is c.tell_block.ensures.ok
+
+pub returns-in-Outcome-clause-err : goal.returns-in-Outcome-clause-err
+returns-in-Outcome-clause-err g c = rw c.in-Outcome.is c.tell_block.ensures.err
+
+pub returns-in-Deadlock-clause-ok : goal.returns-in-Deadlock-clause-ok
+returns-in-Deadlock-clause-ok g c = rw c.in-Deadlock.is c.tell_block-in-Deadlock.ensures.ok
+
+pub returns-in-Deadlock-clause-err : goal.returns-in-Deadlock-clause-err
+returns-in-Deadlock-clause-err g c = rw c.in-Deadlock.is c.tell_block-in-Deadlock.ensures.err
+
+pub returns-in-AtDeadlock-clause-ok : goal.returns-in-AtDeadlock-clause-ok
+returns-in-AtDeadlock-clause-ok g c = rw c.in-AtDeadlock.is c.say.ensures.ok
+
+pub returns-in-AtDeadlock-clause-err : goal.returns-in-AtDeadlock-clause-err
+returns-in-AtDeadlock-clause-err g c = rw c.in-AtDeadlock.is c.say.ensures.err
+
+pub returns-in-Others-clause-ok : goal.returns-in-Others-clause-ok
+returns-in-Others-clause-ok g c = rw c.in-Others.is c.tell_more.ensures.ok
+
+pub returns-in-Others-clause-err : goal.returns-in-Others-clause-err
+returns-in-Others-clause-err g c = rw c.in-Others.is c.tell_more.ensures.err

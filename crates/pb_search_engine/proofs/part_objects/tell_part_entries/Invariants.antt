@@ -1,0 +1,15 @@
+use Rattle.std.proofs.Common.{◌≡◌, take, true}
+use Rattle.pb_base.specs.Lines.{names_view}
+use Rattle.pb_code.specs.View.{labels_view}
+use Rattle.pb_search_engine.specs.ItemObjects.{part_json}
+use Rattle.pb_search_engine.specs.Parts.{is_of}
+use Rattle.pb_search_engine.specs.ItemObjects.{entries, still_first}
+use Rattle.pb_voice.specs.Held.{at}
+use Rattle.pb_voice.specs.Voices.{Adds}
+use Rattle.pb_search_engine.proofs.part_objects.tell_part_entries.Given as goal
+
+abbrev pub invariant-loop-i : goal.invariant-loop-i
+invariant-loop-i g l =
+    Adds (at g.O.Output.written g.O.Output.failures l.fn.voice l.fn.output) (entries (is_of l.section) (part_json (names_view l.names) (labels_view l.labels)) true (take l.i l.parts))
+    (at g.O.Output.written g.O.Output.failures l.voice l.output)
+    × (l.first ≡ still_first (is_of l.section) true (take l.i l.parts))
