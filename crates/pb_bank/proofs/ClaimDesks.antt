@@ -17,7 +17,7 @@ use Rattle.pb_bank.specs.Claims.{AsksForClaim, SetsClaim, SetsClaims, amount_for
 use Rattle.pb_bank.specs.Desks.{DeskValue, IsRequestOf}
 use Rattle.pb_bank.specs.Refusals.{Refuses, jobs_of}
 use Rattle.pb_bank.specs.declared.refusal.Refusal.TheVariants.{Command}
-use Rattle.pb_bank.proofs.CapitalDesks.{same_bank}
+use Rattle.pb_bank.proofs.Waiting.{same_bank}
 
 -- the amounts of a resource from a pair on
 pub amount_next : (pairs : List Pair) (i r : ℕ) (pair : Pair) (b : Bool) → i < length pairs → slice_get pairs i ≡ Some pair

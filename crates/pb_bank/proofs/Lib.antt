@@ -4,11 +4,15 @@ pub mod ClaimDesks
 pub mod DeskLemmas
 pub mod EachNumber
 pub mod MoreLoans
+pub mod NamesApart
 pub mod OrderLemmas
 pub mod PairLemmas
 pub mod PlaceLemmas
 pub mod QueueTexts
+pub mod QueuedWishes
 pub mod ReadingDesks
 pub mod RefusedDesks
+pub mod SlotNames
+pub mod StartDesks
 pub mod Waiting
 pub mod WordLemmas

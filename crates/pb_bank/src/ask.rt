@@ -1,11 +1,11 @@
 //! Requests, and what comes back.
 
-ghost use Rattle.std.specs.Prelude.{◌≡◌, ◌++◌, ◌<◌, ◌≤◌, List, All, OnOk, IfNone};
+ghost use Rattle.std.specs.Prelude.{◌≡◌, ◌++◌, ◌<◌, ◌≤◌, List, All, false, OnOk, IfNone};
 ghost use Rattle.pb_base.specs.Banker.{processes, resources, loan};
 ghost use Rattle.pb_banker.specs.Jobs.{SaysWhy, state_held};
 ghost use Rattle.pb_bank.specs.Answers as answers;
 ghost use Rattle.pb_bank.specs.Desks.{IsRequestOf, job_of};
-ghost use Rattle.pb_bank.specs.Queues.{ServesQueue};
+ghost use Rattle.pb_bank.specs.Queues.{has_wish, ServesQueue};
 ghost use Rattle.pb_bank.specs.Words.{words_of};
 ghost use Rattle.pb_bank.specs.declared.said.Said.{Said};
 
@@ -74,9 +74,10 @@ fn unheld(bank: &Bank, request: &Request) -> Option<usize>
 }
 
 impl Desk {
-    /// Grants a request if it is allowed, and returns why it is granted or not.
+    /// Grants a request of a job that has no wish, if it is allowed, and returns why it is granted or not.
     pub(crate) fn grant(&mut self, request: &Request) -> Reason
-        requires { IsRequestOf self.old.bank request.now }
+        requires of { IsRequestOf self.old.bank request.now }
+        requires free { has_wish self.old.wishes request.now.job ≡ false }
         ensures why { SaysWhy self.old.bank.state request.now.job request.now.bundle result }
         ensures state { self.new ≡ answers.with_state self.old
             (state_held self.old.bank.state request.now.job request.now.bundle result) }
@@ -113,7 +114,8 @@ impl Desk {
         held: bool,
         request: &Request,
     ) -> Result<(), NoMemory>
-        requires { IsRequestOf self.old.bank request.now }
+        requires of { IsRequestOf self.old.bank request.now }
+        requires free { has_wish self.old.wishes request.now.job ≡ false }
         ensures { OnOk result ((said : List Said) × answers.Grants held self.old request.now said self.new
             × (out.new.items ≡ out.old.items ++ said)) }
     {
@@ -144,6 +146,8 @@ impl Desk {
         if let Some(r) = unheld(&self.bank, request) {
             return say(out, Said::Refused(Refusal::NotHeld(r)));
         }
+        // Called for its contract alone, which the proof needs.
+        let _ = self.bank.slots();
         let wishes = mem::replace(&mut self.wishes, Vec::new(self.alloc));
         self.bank.give(request.job, &request.bundle);
         self.serve(out, wishes)

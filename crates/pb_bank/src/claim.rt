@@ -1,6 +1,6 @@
 //! Another claim of a job.
 
-ghost use Rattle.std.specs.Prelude.{◌≡◌, ◌<◌, ◌≤◌, ◌++◌, List, OnOk, IfNone};
+ghost use Rattle.std.specs.Prelude.{◌≡◌, ◌+◌, ◌<◌, ◌≤◌, ◌++◌, List, OnOk, IfNone};
 ghost use Rattle.pb_base.specs.Banker.{processes, resources, capital, loan};
 ghost use Rattle.pb_banker.specs.Jobs.{HasJob};
 ghost use Rattle.pb_bank.specs.Claims as claims;
@@ -48,7 +48,8 @@ impl Desk {
         requires job { job < processes self.now.bank.state }
         requires resource { pair.resource < resources self.now.bank.state }
         ensures said { result ≡ claims.claim_refusal self.now job pair }
-        ensures held { IfNone result (loan self.now.bank.state job pair.resource ≤ pair.amount) }
+        ensures enough { IfNone result
+            (loan self.now.bank.state job pair.resource + claims.wished self.now.wishes job pair.resource ≤ pair.amount) }
         ensures within { IfNone result (pair.amount ≤ capital self.now.bank.state pair.resource) }
     {
         let r = pair.resource as usize;
@@ -70,11 +71,14 @@ impl Desk {
         requires job { HasJob self.old.bank job }
         requires row { job < processes self.old.bank.state }
         requires resource { pair.resource < resources self.old.bank.state }
-        requires held { loan self.old.bank.state job pair.resource ≤ pair.amount }
+        requires enough { loan self.old.bank.state job pair.resource + claims.wished self.old.wishes job pair.resource
+            ≤ pair.amount }
         requires within { pair.amount ≤ capital self.old.bank.state pair.resource }
         ensures { OnOk result ((said : List Said) × claims.AsksForClaim self.old job pair said self.new
             × (out.new.items ≡ out.old.items ++ said)) }
     {
+        // Called for its contract alone, which the proof needs.
+        let _ = self.bank.slots();
         match self
             .bank
             .set_claim(job, pair.resource as usize, pair.amount)

@@ -1,9 +1,11 @@
 //! Resources, and jobs that join.
 
-ghost use Rattle.std.specs.Prelude.{◌≡◌, ◌++◌, ◌<◌, ◌≤◌, ◌∷◌, [], List, length, All, OnOk, IfOk, OnErr, take, map, option_map, replicate};
+ghost use Rattle.std.specs.Prelude.{◌≡◌, ◌++◌, ◌<◌, ◌≤◌, ◌∷◌, [], List, length, All, None, false, OnOk, IfOk, IfNone, OnErr, take, map, option_map, replicate};
 ghost use Rattle.pb_base.specs.Banker.{processes, resources, capital};
 ghost use Rattle.pb_base.specs.Lines.{names_view};
+ghost use Rattle.pb_banker.specs.Value.{start_state};
 ghost use Rattle.pb_bank.specs.Answers as answers;
+ghost use Rattle.pb_bank.specs.Desks.{IsUsableName, place_of};
 ghost use Rattle.pb_bank.specs.Requests.{pairs_of};
 ghost use Rattle.pb_bank.specs.Words.{words_of, amount_of};
 ghost use Rattle.pb_bank.specs.declared.said.Said.{Said};
@@ -14,7 +16,7 @@ use crate::request::bundle_of;
 use crate::said::{Said, say};
 use crate::words::{amount_of, first_word, is_name, place_of, two_words};
 use pb_banker::{Bank, Joined};
-use pb_base::limits::{MAX_AMOUNT, MAX_RESOURCES};
+use pb_base::limits::{MAX_AMOUNT, MAX_PROCESSES, MAX_RESOURCES};
 use pb_base::{Bundle, Capital, NoMemory};
 use std::alloc::Global;
 use std::mem;
@@ -59,10 +61,26 @@ fn amounts_with(alloc: Global, bank: &Bank, amount: u32) -> Result<Vec<u32>, NoM
     Ok(amounts)
 }
 
+/// Returns a bank with one more resource, and no jobs.
+fn bank_with(alloc: Global, bank: &Bank, amount: u32) -> Result<Bank, NoMemory>
+    requires few { resources bank.now.state < MAX_RESOURCES }
+    requires small { amount ≤ MAX_AMOUNT }
+    ensures state { IfOk result (λ b. b.state ≡ start_state (bank.now.state.capital ++ amount ∷ []) []) }
+    ensures used { IfOk result (λ b. b.used ≡ replicate MAX_PROCESSES false) }
+{
+    let amounts = amounts_with(alloc, bank, amount)?;
+    let capital = Capital::new(alloc, &amounts)?;
+    Ok(Bank::new(&capital))
+}
+
 impl Desk {
     /// Returns why a resource is refused, if it is.
     fn resource_refusal(&self, name: &[u8], amount: Option<u32>) -> Option<Refusal>
-        ensures { result ≡ answers.resource_refusal self.now name.now amount }
+        requires { 0 < length name.now }
+        ensures said { result ≡ answers.resource_refusal self.now name.now amount }
+        ensures name { IfNone result (IsUsableName name.now) }
+        ensures new { IfNone result (place_of self.now.names.resources name.now ≡ None) }
+        ensures early { IfNone result (processes self.now.bank.state ≡ 0) }
     {
         if amount.is_none() {
             return Some(Refusal::Amount(1));
@@ -87,14 +105,16 @@ impl Desk {
     fn add_resource(&mut self, name: &[u8], amount: u32) -> Result<(), NoMemory>
         requires few { resources self.old.bank.state < MAX_RESOURCES }
         requires small { amount ≤ MAX_AMOUNT }
+        requires name { IsUsableName name.now }
+        requires new { place_of self.old.names.resources name.now ≡ None }
+        requires early { processes self.old.bank.state ≡ 0 }
         ensures { OnOk result (self.new ≡ answers.with_resource self.old name.now amount) }
     {
-        let amounts = amounts_with(self.alloc, &self.bank, amount)?;
-        let capital = Capital::new(self.alloc, &amounts)?;
-        let name = name.to_vec(self.alloc)?;
+        let bank = bank_with(self.alloc, &self.bank, amount)?;
+        let name = owned(self.alloc, name)?;
         self.names.resources.push(name)?;
-        self.bank = Bank::new(&capital);
-        self.wishes.clear();
+        self.bank = bank;
+        self.wishes = Vec::new(self.alloc);
         Ok(())
     }
 
@@ -121,8 +141,11 @@ impl Desk {
 
     /// Returns the claims of a job of this name, if it may have it.
     fn claims_for(&self, name: &[u8], text: &[u8]) -> Result<Bundle, Refusal>
+        requires { 0 < length name.now }
         ensures said { result ≡ answers.job_for self.now name.now (pairs_of self.now.names.resources (words_of text.now)) }
         ensures below { IfOk result (All (λ pair. pair.resource < resources self.now.bank.state)) }
+        ensures name { IfOk result (λ _. IsUsableName name.now) }
+        ensures new { IfOk result (λ _. place_of self.now.names.processes name.now ≡ None) }
     {
         // Called for its contract alone, which the proof needs.
         let _ = self.bank.resources();
@@ -137,10 +160,15 @@ impl Desk {
 
     /// Has a job of this name join, and serves the queue; or is refused.
     fn join(&mut self, out: &mut Vec<Said>, name: &[u8], bundle: &Bundle) -> Result<(), NoMemory>
-        requires { All (λ pair. pair.resource < resources self.old.bank.state) bundle.now }
+        requires below { All (λ pair. pair.resource < resources self.old.bank.state) bundle.now }
+        requires name { IsUsableName name.now }
+        requires new { place_of self.old.names.processes name.now ≡ None }
         ensures { OnOk result ((said : List Said) × answers.JoinsWith self.old name.now bundle.now said self.new
             × (out.new.items ≡ out.old.items ++ said)) }
     {
+        // Called for their contracts alone, which the proof needs.
+        let _ = self.bank.slots();
+        let _ = bundle.len();
         let resources = self.bank.resources();
         let row = row_of(bundle);
         let name = owned(self.alloc, name)?;

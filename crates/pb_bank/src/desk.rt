@@ -49,7 +49,7 @@ fn no_names(alloc: Global, count: usize) -> Result<Vec<Vec<u8>>, NoMemory>
 }
 
 impl Desk {
-    ghost use Rattle.pb_bank.specs.Desks.{job_of, IsFirstDesk, IsRequestOf, NoneIsAllowed};
+    ghost use Rattle.pb_bank.specs.Desks.{job_of, IsFirstDesk, IsQueueOf, IsRequestOf, NoneIsAllowed};
 
     /// Returns a desk with no resources, no jobs and no wishes.
     pub fn new(alloc: Global) -> Result<Desk, NoMemory>
@@ -70,9 +70,10 @@ impl Desk {
         })
     }
 
-    /// Returns the number of wishes in the queue, of which none is allowed.
+    /// Returns the number of wishes in the queue: one of a job at most, each within its claim, and none is allowed.
     pub fn waiting(&self) -> usize
         ensures number { result ≡ length self.now.wishes }
+        ensures queue { IsQueueOf self.now.bank self.now.wishes }
         ensures waits { NoneIsAllowed self.now.bank.state self.now.wishes }
     {
         self.wishes.len()

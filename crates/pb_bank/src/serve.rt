@@ -2,7 +2,7 @@
 
 ghost use Rattle.std.specs.Prelude.{◌≡◌, ◌++◌, [], List, All, IfOk, OnOk};
 ghost use Rattle.pb_base.specs.Banker.{IsWellFormed};
-ghost use Rattle.pb_bank.specs.Desks.{IsRequestOf, NoneIsAllowed};
+ghost use Rattle.pb_bank.specs.Desks.{IsQueueOf, IsRequestOf};
 ghost use Rattle.pb_bank.specs.Queues.{Serves, ServesQueue, ServesWish};
 ghost use Rattle.pb_bank.specs.declared.said.Said.{Said};
 
@@ -72,7 +72,7 @@ impl Desk {
         wishes: Vec<Request>,
     ) -> Result<(), NoMemory>
         requires none { self.old.wishes ≡ [] }
-        requires of { All (IsRequestOf self.old.bank) wishes.items }
+        requires queue { IsQueueOf self.old.bank wishes.items }
         ensures { OnOk result ((said : List Said) × ServesQueue (record self.old { wishes = wishes.items }) said self.new
             × (out.new.items ≡ out.old.items ++ said)) }
     {

@@ -1,7 +1,8 @@
 //! Wishes that join the queue, and that are taken back.
 
-ghost use Rattle.std.specs.Prelude.{◌≡◌, ◌++◌, ◌∷◌, [], List, IfOk, OnOk};
-ghost use Rattle.pb_base.specs.Banker.{IsAllowed};
+ghost use Rattle.std.specs.Prelude.{◌≡◌, ◌++◌, ◌∷◌, [], List, false, IfOk, OnOk};
+ghost use Rattle.pb_base.specs.Banker.{IsAllowed, IsWithinClaim};
+ghost use Rattle.pb_banker.specs.Jobs.{HasJob};
 ghost use Rattle.pb_bank.specs.Answers as answers;
 ghost use Rattle.pb_bank.specs.Desks.{IsRequestOf};
 ghost use Rattle.pb_bank.specs.Queues as queue;
@@ -23,6 +24,8 @@ impl Desk {
     pub(crate) fn asked_of(&self, text: &[u8]) -> Result<Request, Refusal>
         ensures said { result ≡ answers.asked_of self.now (words_of text.now) }
         ensures of { IfOk result (IsRequestOf self.now.bank) }
+        ensures has { IfOk result (λ w. HasJob self.now.bank w.job) }
+        ensures free { IfOk result (λ w. queue.has_wish self.now.wishes w.job ≡ false) }
     {
         match self.request_of(text) {
             Ok(request) => {
@@ -39,17 +42,24 @@ impl Desk {
     /// Puts a wish that is not allowed into the queue.
     fn queue(&mut self, out: &mut Vec<Said>, wish: Request) -> Result<(), NoMemory>
         requires of { IsRequestOf self.old.bank wish }
+        requires has { HasJob self.old.bank wish.job }
+        requires free { queue.has_wish self.old.wishes wish.job ≡ false }
+        requires within { IsWithinClaim self.old.bank.state wish.job wish.bundle }
         requires waits { ¬ IsAllowed self.old.bank.state wish.job wish.bundle }
         ensures wishes { OnOk result (self.new ≡ answers.with_wish self.old wish) }
         ensures said { OnOk result (out.new.items ≡ out.old.items ++ Queued ∷ []) }
     {
+        // Called for its contract alone, which the proof needs.
+        let _ = wish.bundle.len();
         self.wishes.push(wish)?;
         say(out, Said::Queued)
     }
 
     /// Grants a wish if it is allowed; else it joins the queue, if the claim allows as much.
     fn want(&mut self, out: &mut Vec<Said>, wish: Request) -> Result<(), NoMemory>
-        requires { IsRequestOf self.old.bank wish }
+        requires of { IsRequestOf self.old.bank wish }
+        requires has { HasJob self.old.bank wish.job }
+        requires free { queue.has_wish self.old.wishes wish.job ≡ false }
         ensures { OnOk result ((said : List Said) × answers.Wants self.old wish said self.new
             × (out.new.items ≡ out.old.items ++ said)) }
     {

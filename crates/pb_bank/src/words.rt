@@ -125,6 +125,7 @@ pub fn after_command<'t>(line: &'t [u8]) -> &'t [u8]
 pub fn two_words<'t>(text: &'t [u8]) -> Option<TwoWords<'t>>
     ensures some { IfSome result (λ w. spec.words_of text.now ≡ w.first.now ∷ w.second.now ∷ spec.words_of w.rest.now) }
     ensures shorter { IfSome result (λ w. length w.rest.now < length text.now) }
+    ensures first { IfSome result (λ w. 0 < length w.first.now) }
     ensures none { IfNone result (spec.has_two (spec.words_of text.now) ≡ false) }
 {
     let one = first_word(text);

@@ -30,7 +30,7 @@ returns-in-Some-amount c =
     on_ok c.add_resource.result _ _ c.add_resource.ensures (λ same. (
       [],
       added c.args.self.now (words_of c.args.text.now) first second c.in-Some-amount.amount c.amount_of-amount.result c.resource_refusal.result
-          c.add_resource.new.self words c.amount_of-amount.ensures c.in-Some-amount.is c.resource_refusal.ensures
+          c.add_resource.new.self words c.amount_of-amount.ensures c.in-Some-amount.is c.resource_refusal.ensures.said
           c.in_default-resource_refusal.is same,
       sym (append-nil c.args.out.now.items),
     ))
