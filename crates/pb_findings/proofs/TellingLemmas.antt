@@ -1,5 +1,5 @@
 -- Replies that are told.
-use Rattle.std.proofs.Common.{◌≡◌, ◌++◌, ℕ, List, [], Option, Some, None, Result, Ok, Err, IfOk, IfSome, OnErr, inl, refl, subst, sym}
+use Rattle.std.proofs.Common.{◌≡◌, ℕ, List, [], Option, Some, None, Result, Ok, Err, IfOk, IfSome, OnErr, inl, refl, subst, sym}
 use Rattle.pb_base.specs.Device.{appended}
 use Rattle.pb_command_io.specs.Answers.{Says, Tells, memory_line}
 use Rattle.pb_command_io.specs.declared.reply.Reply.{Reply}

@@ -1,5 +1,5 @@
 -- What is found, as one document of SARIF 2.1.0.
-use Rattle.std.specs.Prelude.{ℕ, Bool, true, false, cond, ◌+◌, ◌==◌, List, [], ◌∷◌, ◌++◌, codes, string_bytes}
+use Rattle.std.specs.Prelude.{ℕ, Bool, false, cond, ◌+◌, ◌==◌, List, [], ◌∷◌, ◌++◌, codes, string_bytes}
 use Rattle.std.specs.Fmt.{decimal}
 use Rattle.std.specs.List.{concat, flat_map, list_any}
 use Rattle.std.specs.Str.{bytes_eq}

@@ -1,4 +1,4 @@
-use Rattle.std.proofs.Common.{◌+◌, [], List, arith, subst, sym}
+use Rattle.std.proofs.Common.{◌+◌, List, arith, subst, sym}
 use Rattle.pb_findings.specs.Reports.{AreAllFound, AreFound, none}
 use Rattle.pb_findings.specs.declared.said.Found.{Found}
 use Rattle.pb_findings.proofs.FileLemmas.{cut_shorter}

@@ -1,4 +1,4 @@
-use Rattle.std.proofs.Common.{List, ℕ, [], ◌∷◌, ◌+◌, ◌++◌, codes, decimal, string_bytes}
+use Rattle.std.proofs.Common.{List, ℕ, [], ◌++◌, codes, string_bytes}
 use Rattle.std.specs.List.{flat_map}
 use Rattle.pb_findings.specs.Gcc.{begin_of, head_gcc, note_gcc, spots_gcc}
 use Rattle.pb_findings.specs.declared.gcc.At.{At}

@@ -1,4 +1,4 @@
-use Rattle.std.proofs.Common.{List, ℕ, [], ◌∷◌, ◌+◌, ◌++◌, codes, decimal, string_bytes}
+use Rattle.std.proofs.Common.{List, ℕ, ◌++◌, codes}
 use Rattle.pb_findings.specs.Objects.{warnings_text}
 use Rattle.pb_findings.proofs.ObjectLemmas.{on_ok, then}
 use Rattle.pb_findings.proofs.object.put_acceptance.Goals as goal

@@ -1,6 +1,5 @@
-use Rattle.std.proofs.Common.{◌≡◌, ◌++◌, List, ℕ, subst, sym, ap}
+use Rattle.std.proofs.Common.{◌++◌}
 use Rattle.pb_command_io.specs.declared.status.Status.TheVariants.{Refused}
-use Rattle.pb_findings.specs.Entries.{IsNoLayout}
 use Rattle.pb_findings.specs.Reports.{SaysOfFiles, call_status, laid_out, no_file, no_layout, refused_input, reported, sums_line}
 use Rattle.pb_findings.proofs.TellingLemmas.{if_ok, says_same}
 use Rattle.pb_findings.proofs.report.answer.Goals as goal

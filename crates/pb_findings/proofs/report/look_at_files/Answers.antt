@@ -1,4 +1,4 @@
-use Rattle.std.proofs.Common.{[], ◌∷◌, ◌++◌, List, arith, subst, sym}
+use Rattle.std.proofs.Common.{List, arith, subst, sym}
 use Rattle.pb_findings.specs.Reports.{AreReported, more, none}
 use Rattle.pb_findings.specs.declared.said.Report.{Report}
 use Rattle.pb_findings.proofs.FileLemmas.{frame_shorter}

@@ -1,4 +1,4 @@
-use Rattle.std.proofs.Common.{List, ℕ, [], ◌∷◌, ◌+◌, ◌++◌, codes, decimal, string_bytes}
+use Rattle.std.proofs.Common.{List, ℕ, ◌++◌, codes}
 use Rattle.pb_findings.proofs.ObjectLemmas.{on_ok, then}
 use Rattle.pb_findings.proofs.results.put_address.Goals as goal
 

@@ -1,4 +1,4 @@
-use Rattle.std.proofs.Common.{List, ℕ, [], ◌∷◌, ◌+◌, ◌++◌, codes, decimal, string_bytes}
+use Rattle.std.proofs.Common.{List, ℕ, [], ◌++◌, codes, string_bytes}
 use Rattle.std.specs.List.{flat_map}
 use Rattle.pb_findings.specs.Sarif.{note_sarif}
 use Rattle.pb_findings.specs.Strings.{inside}

@@ -1,4 +1,4 @@
-use Rattle.std.proofs.Common.{List, ℕ, [], ◌∷◌, ◌+◌, ◌++◌, codes, decimal, string_bytes}
+use Rattle.std.proofs.Common.{List, ℕ, ◌+◌, ◌++◌, codes, decimal}
 use Rattle.pb_findings.specs.Sarif.{comma_before, place_sarif}
 use Rattle.pb_findings.proofs.ObjectLemmas.{on_ok, then}
 use Rattle.pb_findings.proofs.results.put_one_related.Goals as goal

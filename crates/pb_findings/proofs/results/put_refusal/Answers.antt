@@ -1,4 +1,4 @@
-use Rattle.std.proofs.Common.{List, ℕ, [], ◌∷◌, ◌+◌, ◌++◌, codes, decimal, string_bytes}
+use Rattle.std.proofs.Common.{List, ℕ, ◌++◌, codes}
 use Rattle.pb_findings.specs.Rules.{rule_name}
 use Rattle.pb_findings.specs.Sarif.{message_sarif, result_head, result_places}
 use Rattle.pb_findings.specs.Spots.{spots_of}

@@ -1,4 +1,4 @@
-use Rattle.std.proofs.Common.{List, ℕ, [], ◌∷◌, ◌+◌, ◌++◌, codes, decimal, string_bytes}
+use Rattle.std.proofs.Common.{List, ℕ, [], ◌∷◌, ◌++◌, codes, string_bytes}
 use Rattle.pb_options.specs.Codes.{code_name}
 use Rattle.pb_findings.specs.Sarif.{result_head, result_places}
 use Rattle.pb_findings.specs.Strings.{inside}

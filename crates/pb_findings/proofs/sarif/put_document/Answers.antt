@@ -1,4 +1,4 @@
-use Rattle.std.proofs.Common.{List, ℕ, [], ◌∷◌, ◌+◌, ◌++◌, codes, decimal, string_bytes}
+use Rattle.std.proofs.Common.{List, ℕ, ◌++◌, codes}
 use Rattle.std.specs.List.{flat_map}
 use Rattle.pb_findings.specs.Sarif.{all_rules, array_text, invocation_sarif, notice_sarif, report_sarif, rule_if}
 use Rattle.pb_findings.specs.Strings.{words_text}
