@@ -199,6 +199,11 @@ def entry(name: bytes, given: bytes | Unread) -> bytes:
     return framed(b"long " + name) + framed(b"") if len(given) > files.MOST_READ else framed(b"file " + name) + framed(given)
 
 
+def in_ascii(told: bytes) -> bytes:
+    """Returns a report of JSON in ASCII: whatever else it has is in its strings."""
+    return told if told.isascii() else re.sub(r"[^\x00-\x7f]", lambda it: json.dumps(it[0])[1:-1], told.decode()).encode()
+
+
 class Finder:
     """Calls of the program's `findings`, in a layout."""
 
@@ -213,7 +218,7 @@ class Finder:
         # (the last line is how many files are refused, or why there is nothing before it)
         end = ran.stdout.rfind(b"\n", 0, -1) + 1
         told = re.fullmatch(rb"refused (\d+)\n", ran.stdout[end:])
-        sys.stdout.buffer.write(ran.stdout[:end])
+        sys.stdout.buffer.write(ran.stdout[:end] if self.layout == "gcc" else in_ascii(ran.stdout[:end]))
         sys.stdout.flush()
         count = sum(not isinstance(it, Unread) for _, it in group)
         refused = int(told[1]) if told else count
