@@ -10,11 +10,12 @@ import sys
 from collections.abc import Iterable, Iterator
 from dataclasses import dataclass
 from typing import Tuple, Union
+from urllib.parse import quote
 
 from script import files, helping
-from script.findings import Finding, Unread, by_file, found_in, message, texts_of
+from script.messages import Unread, texts_of
 from script.places import DEVICE, REFUSED, WORDS, say, shown, write_message
-from script.reports import gcc_lines, json_line, json_unread, sarif_document
+from script.reports import version_of
 from script.standard import drop_output
 from script.warned import by_text, messages
 
@@ -179,62 +180,58 @@ def check_as_text(checker: Checker, source: Source, jobs: int, sums: Sums) -> No
                 say(told)
 
 
-# What is said of a file that is too long, and of one of which nothing is said because there was too little memory.
-TOO_LONG = "input", "refused input", "the input is longer than 4194304 bytes"
-UNSAID = "memory", "memory", "out of memory"
+def framed(content: bytes) -> bytes:
+    """Returns a message of the program's `findings`."""
+    return b"Content-Length: %d\r\n\r\n%s" % (len(content), content)
 
 
-def unsaid(name: str, given: bytes) -> list[str]:
-    """Returns the line about a file of which the program said nothing."""
-    code, line, words = TOO_LONG if len(message(name, given)) > files.MOST_READ else UNSAID
-    said = {"file": name, "text": 1, "accepted": False, "code": code, "refusal": line, "message": words}
-    return [json_line({**said, "places": [], "expected": [], "hints": [], "notes": []})]
+def named(name: str, layout: str) -> bytes:
+    """Returns the name of a file as a report has it: as it is shown, as the inside of a string of JSON, or as an address."""
+    if layout == "gcc":
+        return os.fsencode(shown(name))
+    return (quote(os.fsencode(name), safe="/") if layout == "sarif" else json.dumps(name)[1:-1]).encode()
 
 
-def in_ascii(name: str, lines: list[str]) -> list[str]:
-    """Returns lines about a file in ASCII, with its name as it is, also if that is of bytes that are no text."""
-    return [line if line.isascii() and name.isascii() else json_line({**json.loads(line), "file": name}) for line in lines]
+def entry(name: bytes, given: bytes | Unread) -> bytes:
+    """Returns the two messages by which the program's `findings` is told of a file."""
+    if isinstance(given, Unread):
+        return framed(b"unread " + name) + framed(given.reason.encode(errors="backslashreplace"))
+    return framed(b"long " + name) + framed(b"") if len(given) > files.MOST_READ else framed(b"file " + name) + framed(given)
+
+
+def in_ascii(told: bytes) -> bytes:
+    """Returns a report of JSON in ASCII: whatever else it has is in its strings."""
+    return told if told.isascii() else re.sub(r"[^\x00-\x7f]", lambda it: json.dumps(it[0])[1:-1], told.decode()).encode()
 
 
 class Finder:
-    """Calls of the program's `findings`."""
+    """Calls of the program's `findings`, in a layout."""
 
-    def __init__(self, start: list[str], words: list[str]) -> None:
-        self.call = [*start[:1], "findings", *words]
+    def __init__(self, start: list[str], words: list[str], layout: str) -> None:
+        self.call, self.layout = [*start[:1], "findings", *words], layout
+        self.head = framed(f"sarif {version_of(start)}".encode() if layout == "sarif" else layout.encode())
 
-    def ask(self, group: list[tuple[str, bytes]], sums: Sums) -> Iterator[list[str]]:
-        """Yields the lines about each of these files, and counts the answers."""
-        given = b"".join(message(name, it) for name, it in group)
-        ran = subprocess.run(self.call, input=given, capture_output=True, check=False)
-        # (the last line is none of a text if the program was out of memory, or the input too long)
-        answers = by_file([f"{line}\n" for line in ran.stdout.decode(errors="replace").split("\n") if line.startswith("{")])
-        for name, it in group:
-            lines = in_ascii(name, next(answers, unsaid(name, it)))
-            are_accepted = all(json.loads(line)["accepted"] for line in lines)
-            sums.add(Answer(0 if are_accepted else max(REFUSED, ran.returncode), lines, b""))
-            yield lines
-
-
-def check_as_data(finder: Finder, source: Source, options: Options, sums: Sums) -> None:
-    """Checks each file, and tells of each text in a format for programs."""
-    kept: list[Finding | Unread] = []
-    for group in groups(source.read()):
-        answers = finder.ask([(name, given) for name, given in group if not isinstance(given, Unread)], sums)
-        for name, given in group:
-            is_unread = isinstance(given, Unread)
-            lines = [json_line(json_unread(given))] if is_unread else next(answers)
-            if options.format == "json":
-                sys.stdout.buffer.write("".join(lines).encode())
-                continue
-            found = [given] if is_unread else [found_in(name, line) for line in lines]
-            if options.format == "gcc":
-                sys.stdout.writelines(line for it in found for line in gcc_lines(it))
-            else:
-                kept += found
+    def tell(self, group: list[Read], sums: Sums) -> None:
+        """Writes what the program finds in files, and counts those that it refuses."""
+        given = self.head + b"".join(entry(named(name, self.layout), it) for name, it in group)
+        ran = subprocess.run(self.call, input=given, stdout=subprocess.PIPE, check=False)
+        # (the last line is how many files are refused, or why there is nothing before it)
+        end = ran.stdout.rfind(b"\n", 0, -1) + 1
+        told = re.fullmatch(rb"refused (\d+)\n", ran.stdout[end:])
+        sys.stdout.buffer.write(ran.stdout[:end] if self.layout == "gcc" else in_ascii(ran.stdout[:end]))
         sys.stdout.flush()
-    if options.format == "sarif":
-        sys.stdout.write(sarif_document(finder.call[:1], kept))
-        sys.stdout.flush()
+        count = sum(not isinstance(it, Unread) for _, it in group)
+        refused = int(told[1]) if told else count
+        if not told:
+            say(f"check --format: {ran.stdout.decode(errors='replace').strip() or 'no answer'}")
+        sums.accepted, sums.refused = sums.accepted + count - refused, sums.refused + refused
+        sums.status = max(sums.status, REFUSED if refused else 0, ran.returncode)
+
+
+def check_as_data(finder: Finder, source: Source, sums: Sums) -> None:
+    """Checks each file, and tells of each text in a layout for programs: SARIF is one document, other layouts come as files are read."""
+    for group in [list(source.read())] if finder.layout == "sarif" else groups(source.read()):
+        finder.tell(group, sums)
 
 
 def tell_sums(sums: Sums, source: Source) -> None:
@@ -265,7 +262,7 @@ def check(start: list[str], words: list[str]) -> int:
         if options.format == "text":
             check_as_text(Checker(start, sorted_words.others), source, options.jobs, sums)
         else:
-            check_as_data(Finder(start, sorted_words.others), source, options, sums)
+            check_as_data(Finder(start, sorted_words.others, options.format), source, sums)
     except OSError as fault:
         return drop_output(fault)
     if "--quiet" not in start and (len(source.names) > 1 or options.format != "text"):

@@ -10,7 +10,7 @@ from dataclasses import dataclass
 from typing import Any
 
 from script import files
-from script.findings import HEAD, PLACE, Finding, Place, Text, Unread, finding, texts_of
+from script.messages import HEAD, PLACE, Finding, Place, Text, Unread, finding, texts_of
 from script.helping import are_refused
 from script.options import Given, WrongWords, read_options, tell_wrong
 from script.places import DEADLOCK, DEVICE, WORDS, write_message

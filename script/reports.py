@@ -1,4 +1,4 @@
-"""The formats in which `check` and `plan` tell their findings: as lines of a compiler, as JSON Lines, and as SARIF 2.1.0."""
+"""The formats in which `plan` tells its findings: as lines of a compiler, as JSON Lines, and as SARIF 2.1.0."""
 from __future__ import annotations
 
 import json
@@ -8,7 +8,7 @@ from collections.abc import Iterable, Iterator
 from typing import Any
 from urllib.parse import quote
 
-from script.findings import Finding, Place, Unread
+from script.messages import Finding, Place, Unread
 from script.helping import ran_on
 from script.places import shown
 
@@ -20,13 +20,8 @@ START = Place(1, 1, "")
 
 
 def gcc_lines(finding: Finding | Unread) -> Iterator[str]:
-    """Yields the lines of a finding as compilers write them; of a text that is accepted those of its warnings, and none of a
-    file that cannot be read, which standard error tells."""
+    """Yields the lines of a finding as compilers write them, and none of a file that cannot be read, which standard error tells."""
     if isinstance(finding, Unread):
-        return
-    if finding.is_accepted:
-        for warning in finding.warnings or []:
-            yield from gcc_lines(warning)
         return
     first, *others = finding.places or [Place(finding.text.lines_before + 1, 1, "")]
 
@@ -58,11 +53,6 @@ def message_object(finding: Finding) -> dict[str, Any]:
         given |= {"line": finding.places[0].line, "column": finding.places[0].column}
     lists = {"expected": finding.expected, "hints": finding.hints, "notes": finding.notes}
     return {**given, "places": [place_object(it) for it in finding.places], **lists}
-
-
-def json_unread(unread: Unread) -> dict[str, Any]:
-    """Returns for JSON that a file cannot be read."""
-    return {"file": unread.file, "accepted": False, "read": False, "message": unread.reason}
 
 
 def json_line(said: dict[str, Any]) -> str:
@@ -106,16 +96,18 @@ def rules(start: list[str], codes: Iterable[str]) -> list[dict[str, Any]]:
     return [{"id": code, "shortDescription": {"text": words.get(code, code)}} for code in sorted(set(codes))]
 
 
+def version_of(start: list[str]) -> str:
+    """Returns the number of the program's version."""
+    _, told, _ = ran_on(start[:1], ["--version"])
+    number = re.search(r"\d+\.\d+(?:\.\d+)?", told.decode(errors="replace"))
+    return number[0] if number else "0.0"
+
+
 def sarif_document(start: list[str], said: list[Finding | Unread]) -> str:
-    """Returns the findings as one SARIF document; of texts that are accepted their warnings are in it."""
-    findings = [it for it in said if isinstance(it, Finding)]
-    told = [one for it in findings for one in (it.warnings or [] if it.is_accepted else [it])]
+    """Returns the findings as one SARIF document."""
+    told = [it for it in said if isinstance(it, Finding)]
     unread = [it for it in said if isinstance(it, Unread)]
-    _, version, _ = ran_on(start[:1], ["--version"])
-    number = re.search(r"\d+\.\d+(?:\.\d+)?", version.decode(errors="replace"))
-    driver = {"name": "parbegin", "rules": rules(start, (it.code for it in told))}
-    if number:
-        driver["version"] = number[0]
+    driver = {"name": "parbegin", "rules": rules(start, (it.code for it in told)), "version": version_of(start)}
     run = {"tool": {"driver": driver}, "invocations": [sarif_invocation(unread)], "columnKind": "utf16CodeUnits"}
     run["results"] = [sarif_result(it) for it in told]
     return json.dumps({"$schema": SARIF, "version": "2.1.0", "runs": [run]}, indent=2) + "\n"

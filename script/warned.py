@@ -4,7 +4,7 @@ from __future__ import annotations
 import re
 from collections.abc import Iterator
 
-from script.findings import Finding, Place, Text
+from script.messages import Finding, Place, Text
 from script.places import shown
 
 WARNING = re.compile(r"warning (?P<code>\w+) line (?P<line>\d+)(?: (?P<words>.*))?")

@@ -199,6 +199,9 @@ def try_words(tally: Tally, it: Script) -> None:
     for words in (["--format", "xml"], ["--jobs", "0"], ["--heap", "1"], ["--fly"]):
         status, told, said = it.run("check", *words, "fine.pb")
         tally.expect(status == WORDS and not told and said, "words", words, status, told)
+    status, told, said = it.run("findings", given=b"fine.pb")
+    is_told = (status, told) == (REFUSED, "refused input\n") and said.startswith("error input: ")
+    tally.expect(is_told, "findings in what names no files", status, told, said)
 
 
 def main() -> None:

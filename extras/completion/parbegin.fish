@@ -21,7 +21,7 @@ set -l codes L1 L2 L3 L4 P1 P2 P3 N1 N2 N3 N4 N6 C1 E1 O1 O2 V1 V2 V3 V4 V5 V6 V
 complete -c parbegin -n "not __fish_seen_subcommand_from $commands" -a explain -d "Print what a refusal means"
 complete -c parbegin -n "not __fish_seen_subcommand_from $commands" -a grade -d "Judge the texts of a folder against an exercise"
 complete -c parbegin -n "not __fish_seen_subcommand_from $commands" -a hold -d "Run a command while it holds resources"
-complete -c parbegin -n "not __fish_seen_subcommand_from $commands" -a findings -d "Check files that come as messages, as JSON"
+complete -c parbegin -n "not __fish_seen_subcommand_from $commands" -a findings -d "Check files that come as messages, in a layout"
 complete -c parbegin -n "not __fish_seen_subcommand_from $commands" -a lsp -d "Answer an editor by the Language Server Protocol"
 complete -c parbegin -n "not __fish_seen_subcommand_from $commands" -a migrate -d "Print an object in format 2"
 complete -c parbegin -n "not __fish_seen_subcommand_from $commands" -a outcomes -d "Print every way in which a program can end"

@@ -24,7 +24,7 @@ use Rattle.pb_engines.specs.Executions.{SaysOfExecution}
 use Rattle.pb_engines.specs.Records.{SaysOfRecord}
 use Rattle.pb_engines.specs.Runs.{SaysOfTextRun}
 use Rattle.pb_explain.specs.Pages.{SaysOfExplain}
-use Rattle.pb_findings.specs.Reports.{SaysOfFiles}
+use Rattle.pb_findings.specs.Reports.{SaysOfReports}
 use Rattle.pb_options.specs.Lends.{lending_for}
 use Rattle.pb_page_engine.specs.States.{SaysOfStates}
 use Rattle.pb_plan_engine.specs.Plans.{SaysOfPlans}
@@ -49,7 +49,7 @@ CommandSays (option.Draw options) = Written line_of (SaysOfAny (SaysOfDraw (lend
 CommandSays (option.Emit numbers) = Written line_of (SaysOfAny (SaysOfEmission numbers.object))
 CommandSays (option.Exec numbers) = Written line_of (SaysOfAny (SaysOfExecution numbers.steps))
 CommandSays (option.Explain code) = λ bytes. SaysOfExplain Lines code
-CommandSays (option.Findings numbers) = Written line_of (SaysOfAny (SaysOfFiles numbers.warn))
+CommandSays (option.Findings numbers) = SaysOfReports numbers.warn
 CommandSays option.Lsp = SaysOfServer
 CommandSays option.Migrate = Written line_of (SaysOfAny SaysOfMigration)
 CommandSays (option.Outcomes numbers) = SaysOfSearches Lines numbers

@@ -1,13 +1,13 @@
 //! What the tool does with its command.
 
 ghost use Rattle.std.specs.Prelude.{false};
-ghost use Rattle.pb_edit_tool.specs.Edit.{leaves, says};
+ghost use Rattle.pb_edit_tool.specs.Edit.{leaves, says, tells_refused};
 ghost use Rattle.pb_words.specs.declared.tool.Tool.TheVariants.{Edit};
 
 use pb_base::{Input, NoMemory, Output};
 use pb_call::Commands;
 use pb_command_io::Status;
-use pb_findings::write_reports;
+use pb_findings::{input_message, write_reports};
 use pb_server_engine::server_engine;
 use pb_voice::Form;
 use pb_words::Options;
@@ -28,7 +28,7 @@ impl Commands for EditTool {
 
     ghost Leaves = { λ form. leaves };
 
-    ghost TellsRefused = { λ o bytes told. ⊥ };
+    ghost TellsRefused = { tells_refused };
 
     fn has_objects(&self, _words: &[&str]) -> bool {
         false
@@ -52,10 +52,13 @@ impl Commands for EditTool {
 
     fn message(
         &self,
-        _alloc: Global,
-        _options: &Options,
-        _bytes: &[u8],
+        alloc: Global,
+        options: &Options,
+        bytes: &[u8],
     ) -> Option<Result<Vec<u8>, NoMemory>> {
-        None
+        match options {
+            Options::Findings(_) => input_message(alloc, bytes),
+            _ => None,
+        }
     }
 }

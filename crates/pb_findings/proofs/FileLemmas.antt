@@ -2,6 +2,9 @@
 use Rattle.std.proofs.Common.{◌≡◌, ◌<◌, ℕ, List, [], ◌∷◌, ◌++◌, ◌∙◌, ap, sym, refl, length, length-append, arith, subst, suc, None}
 use Rattle.pb_command_io.specs.Parts.{IsCutAt}
 use Rattle.std.proofs.lemmas.Grind.{common_steps}
+use Rattle.pb_findings.specs.Entries.{IsNextEntry}
+use Rattle.pb_findings.specs.declared.entry.Entry.{Entry}
+use Rattle.pb_findings.specs.declared.entry.Next.TheVariants as next
 use Rattle.pb_frames.specs.Frames.{IsFrame}
 use Rattle.pb_frames.specs.Heads.{Early, Says, head_of}
 use Rattle.pb_frames.proofs.HeadLemmas.{head_front, scan_end}
@@ -30,3 +33,10 @@ frame_shorter bytes content rest frame =
 -- what comes after a line `%%` is shorter
 pub cut_shorter : (left part rest : List ℕ) → IsCutAt left part rest → length rest < length left
 cut_shorter left part rest cut = grind (arith, common_steps) steps 400000
+
+-- and so is what comes after the two messages of a file
+pub two_shorter : (old : List ℕ) (one : Entry) (new : List ℕ) → IsNextEntry old (next.Entry one) new → length new < length old
+two_shorter old one new (head, mid, content, first, second, says) =
+    let outer = frame_shorter old head mid first in
+    let inner = frame_shorter mid content new second in
+    omega (arith, outer, inner)

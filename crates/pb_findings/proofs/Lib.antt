@@ -1,3 +1,4 @@
 pub mod FileLemmas
 pub mod ObjectLemmas
 pub mod ReportLemmas
+pub mod TellingLemmas

@@ -1,13 +1,18 @@
 -- What there is to say of one text of a file.
-use Rattle.std.specs.Prelude.{◌≡◌, ℕ, ◌+◌, ◌-◌, min, Bool, true, false, List, [], ◌∷◌, ◌++◌, length, take, Option, Some, None, All, option_map, string_bytes}
+use Rattle.std.specs.Prelude.{◌≡◌, ℕ, ◌+◌, ◌-◌, min, Bool, List, [], ◌∷◌, ◌++◌, length, take, Option, Some, None, All, option_map, codes, string_bytes, Vec}
+use Rattle.std.specs.declared.alloc.Global.{Global}
 use Rattle.pb_accept.specs.Causes.{text_cause}
 use Rattle.pb_accept.specs.Refusals.{IsAcceptedText, RefusesWith}
 use Rattle.pb_accept.specs.Warned.{AreToldFor, warning_line}
 use Rattle.pb_accept.specs.declared.cause.Cause.{Cause}
 use Rattle.pb_codegen.specs.Compiled.{IsRefused}
 use Rattle.pb_codegen.specs.declared.fault.CompileFault.{CompileFault}
-use Rattle.pb_findings.specs.Objects.{accepted_text, refused_text}
 use Rattle.pb_findings.specs.declared.refusal.Refusal.{Refusal}
+use Rattle.pb_findings.specs.declared.rule.Rule.{Rule}
+use Rattle.pb_findings.specs.declared.rule.Rule.TheVariants as rules
+use Rattle.pb_findings.specs.declared.said.Found.{Found}
+use Rattle.pb_findings.specs.declared.said.Verdict.{Verdict}
+use Rattle.pb_findings.specs.declared.said.Verdict.TheVariants as verdict
 use Rattle.pb_findings.specs.declared.spot.Spot.{Spot}
 use Rattle.pb_findings.specs.declared.warned.Warned.{Warned}
 use Rattle.pb_lexer.specs.Cutting.{line_at}
@@ -43,7 +48,7 @@ pub record IsRefusalOf (file : List ℕ) (start : ℕ) (text : List ℕ) (r : Re
   pub refused : IsRefused text fault
   pub cause : Cause
   pub of : text_cause fault ≡ Some cause
-  pub code : r.code ≡ cause.code
+  pub rule : r.rule ≡ rules.Code cause.code
   pub line : RefusesWith text r.line.items
   pub offset : r.offset ≡ option_map (in_file start text) cause.at
   pub first : IsFirstSpot file r.offset r.first
@@ -77,8 +82,22 @@ pub data AreWarned (file : List ℕ) (start : ℕ) : List Warning → List Warne
   more : (found : List Warning) (warned : List Warned) (one : Warning) (w : Warned) → AreWarned file start found warned
       → IsWarned file start one w → AreWarned file start (found ++ one ∷ []) (warned ++ w ∷ [])
 
--- what is said of the text with a number, that begins at an offset of a file with a name, and whether it is a refusal
-pub data SaysOfFound (warn : Bool) (name file : List ℕ) (number start : ℕ) (text : List ℕ) : (line : List ℕ) → Bool → Type 0 where
-  accepted : (found : List Warning) (warned : List Warned) → IsAcceptedText text → AreToldFor warn text found
-      → AreWarned file start found warned → SaysOfFound warn name file number start text (accepted_text name number warn warned) false
-  refused : (r : Refusal) → IsRefusalOf file start text r → SaysOfFound warn name file number start text (refused_text name number r) true
+-- a refusal of a text as a whole: what it is filed under, and its line; it has no place, and nothing more is said of it
+pub record IsWhole (rule : Rule) (words : List ℕ) (r : Refusal) : Type 0 where
+  pub filed : r.rule ≡ rule
+  pub line : r.line.items ≡ words
+  pub nowhere : r.offset ≡ None
+  pub no_first : r.first ≡ None
+  pub no_others : r.others.items ≡ []
+
+-- what comes of a text that begins at an offset of a file: it is accepted, with the warnings that are asked for; it is
+-- refused; or there is too little memory to look at it
+pub data IsVerdict (warn : Bool) (file : List ℕ) (start : ℕ) (text : List ℕ) : Verdict → Type 0 where
+  accepted : (found : List Warning) (warned : Vec Warned Global) → IsAcceptedText text → AreToldFor warn text found
+      → AreWarned file start found warned.items → IsVerdict warn file start text (verdict.Accepted warned)
+  refused : (r : Refusal) → IsRefusalOf file start text r → IsVerdict warn file start text (verdict.Refused r)
+  no_memory : (r : Refusal) → IsWhole rules.Memory (codes "memory") r → IsVerdict warn file start text (verdict.Refused r)
+
+-- the text with a number, which begins at an offset of a file, and what comes of it
+abbrev pub IsFound : (warn : Bool) → (file : List ℕ) → (number start : ℕ) → (text : List ℕ) → Found → Type 0
+IsFound warn file number start text found = (found.number ≡ number) × IsVerdict warn file start text found.verdict

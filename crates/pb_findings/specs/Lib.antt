@@ -1,3 +1,9 @@
+pub mod Entries
 pub mod Findings
+pub mod Gcc
 pub mod Objects
 pub mod Reports
+pub mod Rules
+pub mod Sarif
+pub mod Spots
+pub mod Strings

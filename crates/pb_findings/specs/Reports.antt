@@ -1,119 +1,129 @@
--- What is said of files that come one after another, each as two messages: its name, and its bytes, which lines `%%` part.
-use Rattle.std.specs.Prelude.{◌≡◌, ◌≤◌, ◌⊎◌, ◌++◌, ◌+◌, ◌-◌, ◌||◌, ℕ, Bool, false, List, [], ◌∷◌, length, ⊤}
-use Rattle.pb_accept.specs.Checks.{check_status}
-use Rattle.pb_accept.specs.Sayings.{Saying, NoMemory, Text}
+-- What is told of files: a list of what is found, in a layout, and then how many of them are refused.
+use Rattle.std.specs.Prelude.{◌≡◌, ◌≤◌, ◌<◌, ◌++◌, ◌+◌, ◌-◌, ℕ, Bool, true, false, cond, List, [], ◌∷◌, length, codes, ⊤}
+use Rattle.std.specs.Fmt.{decimal}
+use Rattle.std.specs.List.{concat, count_by, flat_map, list_any}
+use Rattle.pb_base.specs.Lines.{line}
+use Rattle.pb_command_io.specs.Answers.{memory_line}
 use Rattle.pb_command_io.specs.Parts.{IsCutAt, IsMarkAt}
 use Rattle.pb_command_io.specs.declared.status.Status.{Status}
 use Rattle.pb_command_io.specs.declared.status.Status.TheVariants as status
-use Rattle.pb_findings.specs.Findings.{SaysOfFound}
-use Rattle.pb_findings.specs.declared.report.Told.{Told}
-use Rattle.pb_findings.specs.declared.report.Told.TheVariants as told
-use Rattle.pb_findings.specs.declared.report.Next.{Next}
-use Rattle.pb_findings.specs.declared.report.Next.TheVariants as next
+use Rattle.pb_findings.specs.Entries.{IsEntry, IsLayout, IsNoEntry, IsNoLayout}
+use Rattle.pb_findings.specs.Findings.{IsFound, IsWhole}
+use Rattle.pb_findings.specs.Gcc.{report_gcc}
+use Rattle.pb_findings.specs.Objects.{report_json}
+use Rattle.pb_findings.specs.Sarif.{document_sarif, report_has}
+use Rattle.pb_findings.specs.declared.entry.Entry.{Entry}
+use Rattle.pb_findings.specs.declared.entry.Entry.TheVariants as entry
+use Rattle.pb_findings.specs.declared.entry.Layout.{Layout}
+use Rattle.pb_findings.specs.declared.entry.Layout.TheVariants as layout
+use Rattle.pb_findings.specs.declared.report.Looked.{Looked}
+use Rattle.pb_findings.specs.declared.report.Looked.TheVariants as looked
+use Rattle.pb_findings.specs.declared.report.TheConstants.{MAX_FILES}
+use Rattle.pb_findings.specs.declared.rule.Rule.TheVariants as rules
+use Rattle.pb_findings.specs.declared.said.Found.{Found}
+use Rattle.pb_findings.specs.declared.said.Report.{Report}
+use Rattle.pb_findings.specs.declared.said.Report.TheVariants as report
+use Rattle.pb_findings.specs.declared.said.Verdict.{Verdict}
+use Rattle.pb_findings.specs.declared.said.Verdict.TheVariants as verdict
 use Rattle.pb_frames.specs.Frames.{IsFrame}
-use Rattle.pb_frames.specs.declared.fault.FrameFault.{FrameFault}
-use Rattle.pb_frames.specs.declared.fault.FrameFault.TheVariants as frame
-use Rattle.pb_voice.specs.Tellings.{Breaking, Telling}
+use Rattle.pb_options.specs.declared.code.Code.TheVariants as coded
 
 -- ---- one file
 
--- so many texts of a file are told of, each with its number, from 1, and its offset in the file; these bytes of the file
--- are left; and whether one of them is refused
-pub data AreFound (warn : Bool) (name file : List ℕ) : (count : ℕ) → (left : List ℕ) → List Saying → Bool → Type 0 where
-  none : AreFound warn name file 0 file [] false
-  more : (count : ℕ) (left part rest : List ℕ) (said : List Saying) (line : List ℕ) (refused is : Bool)
-      → AreFound warn name file count left said refused → IsCutAt left part rest
-      → SaysOfFound warn name file (count + 1) (length file - length left) part line is
-      → AreFound warn name file (count + 1) rest (said ++ Text line ∷ []) (refused || is)
+-- so many texts of a file were looked at, each with its number, from 1, and its offset in the file; these bytes of the file
+-- are left
+pub data AreFound (warn : Bool) (file : List ℕ) : (count : ℕ) → (left : List ℕ) → List Found → Type 0 where
+  none : AreFound warn file 0 file []
+  more : (count : ℕ) (left part rest : List ℕ) (said : List Found) (one : Found)
+      → AreFound warn file count left said → IsCutAt left part rest
+      → IsFound warn file (count + 1) (length file - length left) part one
+      → AreFound warn file (count + 1) rest (said ++ one ∷ [])
 
--- all of its texts are: there is no line `%%` in what is left before the last
-pub data SaysOfFile (warn : Bool) (name file : List ℕ) : List Saying → Bool → Type 0 where
-  all : (count : ℕ) (left : List ℕ) (said : List Saying) (line : List ℕ) (refused is : Bool)
-      → AreFound warn name file count left said refused → ((at : ℕ) → ¬ IsMarkAt left at)
-      → SaysOfFound warn name file (count + 1) (length file - length left) left line is
-      → SaysOfFile warn name file (said ++ Text line ∷ []) (refused || is)
+-- all of its texts were: there is no line `%%` in what is left before the last
+pub data AreAllFound (warn : Bool) (file : List ℕ) : List Found → Type 0 where
+  all : (count : ℕ) (left : List ℕ) (said : List Found) (one : Found)
+      → AreFound warn file count left said → ((at : ℕ) → ¬ IsMarkAt left at)
+      → IsFound warn file (count + 1) (length file - length left) left one
+      → AreAllFound warn file (said ++ one ∷ [])
 
--- the first ones are, or all
-abbrev pub SaysOfFirst : (warn : Bool) → (name file : List ℕ) → List Saying → Type 0
-SaysOfFirst warn name file said =
-    ((count : ℕ) × (left : List ℕ) × (refused : Bool) × AreFound warn name file count left said refused)
-    ⊎ ((refused : Bool) × SaysOfFile warn name file said refused)
+-- of a file that is too long just that is said
+abbrev pub IsLongVerdict : Verdict → Type 0
+IsLongVerdict (verdict.Accepted warned) = ⊥
+IsLongVerdict (verdict.Refused r) = IsWhole (rules.Code coded.Input) (codes "refused input") r
 
--- what came of telling of a file
-abbrev pub TellsFile : {T : Type 0} (tells breaks : T → Saying → T → Type 0) → (warn : Bool) → (name file : List ℕ) → (old new : T) → Told → Type 0
-TellsFile tells breaks warn name file old new (told.Answered refused) =
-    (said : List Saying) × SaysOfFile warn name file said refused × Telling tells old said new
-TellsFile tells breaks warn name file old new told.OutOfMemory =
-    (said : List Saying) × SaysOfFirst warn name file said × Telling tells old said new
-TellsFile tells breaks warn name file old new told.Broken =
-    (said : List Saying) × SaysOfFirst warn name file said × Breaking tells breaks old said new
+pub data IsLong : List Found → Type 0 where
+  long : (one : Found) → one.number ≡ 1 → IsLongVerdict one.verdict → IsLong (one ∷ [])
 
--- the texts of a file that have been told of so far
-pub record IsOnFile {T : Type 0} (tells : T → Saying → T → Type 0) (warn : Bool) (name file : List ℕ) (start : T) (count : ℕ) (left : List ℕ) (refused : Bool)
-    (now : T) : Type 0 where
-  pub said : List Saying
-  pub are : AreFound warn name file count left said refused
-  pub told : Telling tells start said now
-  pub few : count + length left ≤ length file
+-- what there is to say of a file
+abbrev pub IsReport : (warn : Bool) → Entry → Report → Type 0
+IsReport warn (entry.File name bytes) (report.Texts told found) = (told.items ≡ name.items) × AreAllFound warn bytes.items found.items
+IsReport warn (entry.Unread name reason) (report.Unread told why) = (told.items ≡ name.items) × (why.items ≡ reason.items)
+IsReport warn (entry.Long name) (report.Texts told found) = (told.items ≡ name.items) × IsLong found.items
+IsReport warn _ _ = ⊥
 
 -- ---- all files
 
--- the first files of an input are told of, these bytes of it are left, and whether a text of one is refused
-pub data AreReported (warn : Bool) (bytes : List ℕ) : (left : List ℕ) → List Saying → Bool → Type 0 where
-  none : AreReported warn bytes bytes [] false
-  more : (left name mid file rest : List ℕ) (said one : List Saying) (refused is : Bool)
-      → AreReported warn bytes left said refused → IsFrame left name mid → IsFrame mid file rest
-      → SaysOfFile warn name file one is
-      → AreReported warn bytes rest (said ++ one) (refused || is)
+-- what there is to say of the first files of an input; these bytes of it are left
+pub data AreReported (warn : Bool) (bytes : List ℕ) : (left : List ℕ) → List Report → Type 0 where
+  none : AreReported warn bytes bytes []
+  more : (left head mid content rest : List ℕ) (said : List Report) (entry : Entry) (one : Report)
+      → AreReported warn bytes left said → IsFrame left head mid → IsFrame mid content rest → IsEntry head content entry
+      → IsReport warn entry one → AreReported warn bytes rest (said ++ one ∷ [])
 
--- the first texts of the next file are told of
-abbrev pub SaysOfNext : (warn : Bool) → (left : List ℕ) → List Saying → Type 0
-SaysOfNext warn left one =
-    (one ≡ []) ⊎ ((name : List ℕ) × (mid : List ℕ) × (file : List ℕ) × (rest : List ℕ)
-    × IsFrame left name mid × IsFrame mid file rest × SaysOfFirst warn name file one)
+-- ---- what is written
 
--- a name and the bytes of a file do not come next
-abbrev pub IsNoFile : List ℕ → Type 0
-IsNoFile left =
-    ((content rest : List ℕ) → ¬ IsFrame left content rest)
-    ⊎ ((name : List ℕ) × (mid : List ℕ) × IsFrame left name mid × ((content rest : List ℕ) → ¬ IsFrame mid content rest))
+-- a list of what is found in a layout
+abbrev pub laid_out : Layout → (warn : Bool) → List Report → List ℕ
+laid_out layout.Gcc warn said = flat_map report_gcc said
+laid_out layout.Json warn said = flat_map (report_json warn) said
+laid_out (layout.Sarif version) warn said = document_sarif version.items said
 
--- the files that have been told of so far
-pub record IsOnInput {T : Type 0} (tells : T → Saying → T → Type 0) (warn : Bool) (bytes : List ℕ) (start : T) (left : List ℕ) (refused : Bool) (now : T) : Type 0 where
-  pub said : List Saying
-  pub are : AreReported warn bytes left said refused
-  pub told : Telling tells start said now
+-- whether a text is refused, and a text of a file
+abbrev pub is_refused : Verdict → Bool
+is_refused (verdict.Accepted warned) = false
+is_refused (verdict.Refused r) = true
 
--- what a message that is not read comes to
-abbrev pub fault_next : FrameFault → Next
-fault_next frame.Early = next.NoFile
-fault_next frame.Malformed = next.NoFile
-fault_next frame.TooLong = next.NoFile
-fault_next frame.Memory = next.OutOfMemory
-fault_next frame.Device = next.OutOfMemory
+abbrev pub has_refused : Report → Bool
+has_refused (report.Texts name found) = list_any (λ f. is_refused f.verdict) found.items
+has_refused (report.Unread name reason) = false
 
--- what comes next in an input, and what is left then
-abbrev pub IsNextFile : (old : List ℕ) → Next → (new : List ℕ) → Type 0
-IsNextFile old (next.File name bytes) new =
-    (mid : List ℕ) × IsFrame old name.items mid × IsFrame mid bytes.items new
-IsNextFile old next.End new = old ≡ []
-IsNextFile old next.NoFile new = IsNoFile old
-IsNextFile old next.OutOfMemory new = ⊤
+-- the last line: how many files have a refused text
+abbrev pub sums_line : List Report → List ℕ
+sums_line said = concat (codes "refused " ∷ decimal (count_by has_refused said) ∷ codes "\n" ∷ [])
 
--- the same after the name of a file
-abbrev pub IsNextBytes : (old : List ℕ) → (name : List ℕ) → Next → (new : List ℕ) → Type 0
-IsNextBytes old name (next.File given bytes) new = (given.items ≡ name) × IsFrame old bytes.items new
-IsNextBytes old name next.End new = ⊥
-IsNextBytes old name next.NoFile new = (content rest : List ℕ) → ¬ IsFrame old content rest
-IsNextBytes old name next.OutOfMemory new = ⊤
+-- the status: there was too little memory for a text, a text is refused, or neither
+abbrev pub call_status : List Report → Status
+call_status said =
+    cond (list_any (report_has (codes "memory")) said) status.Memory (cond (list_any has_refused said) status.Refused status.Done)
 
--- what is said of an input: of all its files; of those before one that does not come as two messages, and nothing more; or
--- of the first texts, until it is out of memory or a write fails
-pub data SaysOfFiles (warn : Bool) (bytes : List ℕ) : List Saying → Status → Type 0 where
-  reported : (said : List Saying) (refused : Bool) → AreReported warn bytes [] said refused → SaysOfFiles warn bytes said (check_status refused)
-  no_file : (left : List ℕ) (said : List Saying) (refused : Bool) → AreReported warn bytes left said refused → IsNoFile left
-      → SaysOfFiles warn bytes said status.Refused
-  out_of_memory : (left : List ℕ) (said one : List Saying) (refused : Bool) → AreReported warn bytes left said refused
-      → SaysOfNext warn left one → SaysOfFiles warn bytes ((said ++ one) ++ NoMemory ∷ []) status.Memory
-  cut_off : (left : List ℕ) (said one : List Saying) (refused : Bool) → AreReported warn bytes left said refused
-      → SaysOfNext warn left one → SaysOfFiles warn bytes (said ++ one) status.Device
+-- the line of an input that is not of this form
+abbrev pub refused_input : List ℕ
+refused_input = line (codes "refused input")
+
+-- what came of looking at the files of an input
+abbrev pub IsLooked : (warn : Bool) → (bytes : List ℕ) → Looked → Type 0
+IsLooked warn bytes (looked.Whole said) = AreReported warn bytes [] said.items
+IsLooked warn bytes looked.NoFile = (left : List ℕ) × (said : List Report) × AreReported warn bytes left said × IsNoEntry left
+IsLooked warn bytes looked.OutOfMemory = ⊤
+
+-- what is said of an input: all that is found, in the layout that it names; or that it does not name files
+pub data SaysOfFiles (warn : Bool) (bytes : List ℕ) : List ℕ → Status → Type 0 where
+  reported : (named rest : List ℕ) (layout : Layout) (said : List Report) → IsFrame bytes named rest → IsLayout named layout
+      → AreReported warn rest [] said
+      → SaysOfFiles warn bytes (laid_out layout warn said ++ sums_line said) (call_status said)
+  no_layout : IsNoLayout bytes → SaysOfFiles warn bytes refused_input status.Refused
+  no_file : (named rest left : List ℕ) (layout : Layout) (said : List Report) → IsFrame bytes named rest → IsLayout named layout
+      → AreReported warn rest left said → IsNoEntry left → SaysOfFiles warn bytes refused_input status.Refused
+  no_memory : SaysOfFiles warn bytes memory_line status.Memory
+
+-- the same of an input that may be too long, or not be read
+pub data SaysOfReports (warn : Bool) (bytes : List ℕ) : List ℕ → Status → Type 0 where
+  too_long : MAX_FILES < length bytes → SaysOfReports warn bytes refused_input status.Refused
+  out_of_memory : SaysOfReports warn bytes memory_line status.Memory
+  nothing : SaysOfReports warn bytes [] status.Device
+  read : (text : List ℕ) (given : Status) → length bytes ≤ MAX_FILES → SaysOfFiles warn bytes text given
+      → SaysOfReports warn bytes text given
+
+-- what a person is told of an input that is not of this form
+abbrev pub files_message : List ℕ
+files_message = codes "error input: these are not messages that name a layout and files\n  = note: the first one is `gcc`, `json` or `sarif VERSION`, and two follow for each file: `file NAME` and its bytes, `unread NAME` and why, or `long NAME` and nothing\n  = note: a message is the line `Content-Length: N`, an empty line, both with a carriage return at the end, and N bytes\n  = hint: `parbegin check --format json FILE ..` writes them\n"

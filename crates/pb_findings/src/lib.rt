@@ -1,14 +1,25 @@
-//! What `check` finds in files, as data for programs: of each text of each file an object of JSON, with the code, the offset
-//! and the place of its refusal in the file.
+//! What `check` finds in files, in a layout for editors and code hosts: as lines of a compiler, as JSON, or as SARIF, each
+//! finding with its code, what is wrong, and its places in the file.
 #![tactic(auto)]
 
 mod column;
+mod entry;
+mod examine;
+mod gcc;
+mod message;
 mod object;
 mod part;
 mod refusal;
 mod report;
+mod results;
+mod rule;
+mod said;
+mod sarif;
 mod spot;
+mod spots;
+mod strings;
 mod warned;
 mod words;
 
-pub use report::{report_engine, write_reports};
+pub use message::input_message;
+pub use report::write_reports;

@@ -1,99 +1,21 @@
-//! What is said of a text, as an object of JSON on a line.
+//! What is found, as an object of JSON on a line for each text.
 
-ghost use Rattle.std.specs.Prelude.{◌≡◌, ◌++◌, IfOk, OnOk, codes, string_bytes};
+ghost use Rattle.std.specs.Prelude.{◌≡◌, ◌++◌, OnOk, codes, string_bytes};
 ghost use Rattle.std.specs.List.{flat_map};
-ghost use Rattle.pb_findings.specs.Objects.{accepted_text, first_text, further, byte_in_words, items_text, list_member, words_member, offset_member, place_members};
-ghost use Rattle.pb_findings.specs.Objects.{refusal_head, refusal_notes, refusal_places, refusal_members, refused_text, spot_text};
-ghost use Rattle.pb_findings.specs.Objects.{spots_of, text_head, warned_text, warnings_text, what_text, words_text};
+ghost use Rattle.pb_findings.specs.Objects.{acceptance_members, first_text, found_json, offset_member, place_members, refusal_head};
+ghost use Rattle.pb_findings.specs.Objects.{refusal_members, refusal_notes, refusal_places, report_json, spot_text, text_head, unread_json};
+ghost use Rattle.pb_findings.specs.Objects.{verdict_members, warned_text, warnings_text, what_text};
+ghost use Rattle.pb_findings.specs.Spots.{spots_of};
+ghost use Rattle.pb_findings.specs.Strings.{further, items_text, list_member};
 
 use crate::refusal::Refusal;
+use crate::said::{Found, Report, Verdict};
 use crate::spot::Spot;
+use crate::spots::places;
+use crate::strings::{put_member, put_strings};
 use crate::warned::Warned;
 use pb_base::NoMemory;
-use pb_base::writing::{put, put_number};
-use pb_json::hex_digit;
-use std::alloc::Global;
-
-/// Appends what stands for a byte inside a string of UTF-8.
-fn put_byte(out: &mut Vec<u8>, byte: u8) -> Result<(), NoMemory>
-    ensures { OnOk result (out.new.items ≡ out.old.items ++ byte_in_words byte) }
-{
-    if byte == b'"' {
-        return put(out, b"\\\"");
-    }
-    if byte == b'\\' {
-        return put(out, b"\\\\");
-    }
-    if byte == b'\n' {
-        return put(out, b"\\n");
-    }
-    if byte >= 32 {
-        return put(out, &[byte]);
-    }
-    let high = hex_digit(byte / 16);
-    let low = hex_digit(byte % 16);
-    put(out, &[b'\\', b'u', b'0', b'0', high, low])
-}
-
-/// Appends the inside of a string of UTF-8.
-fn put_inside(out: &mut Vec<u8>, bytes: &[u8]) -> Result<(), NoMemory>
-    ensures { OnOk result (out.new.items ≡ out.old.items ++ flat_map byte_in_words bytes.now) }
-{
-    for byte in bytes {
-        put_byte(out, *byte)?;
-    }
-    Ok(())
-}
-
-/// Appends a string of UTF-8, with its quotes.
-fn put_words(out: &mut Vec<u8>, bytes: &[u8]) -> Result<(), NoMemory>
-    ensures { OnOk result (out.new.items ≡ out.old.items ++ words_text bytes.now) }
-{
-    put(out, b"\"")?;
-    put_inside(out, bytes)?;
-    put(out, b"\"")
-}
-
-/// Appends a member with a string.
-fn put_member(out: &mut Vec<u8>, name: &[u8], bytes: &[u8]) -> Result<(), NoMemory>
-    ensures { OnOk result (out.new.items ≡ out.old.items ++ words_member name.now bytes.now) }
-{
-    put(out, name)?;
-    put_words(out, bytes)
-}
-
-/// Appends strings that are not the first of a list.
-fn put_further_strings(out: &mut Vec<u8>, strings: &[String]) -> Result<(), NoMemory>
-    ensures { OnOk result (out.new.items ≡ out.old.items ++ flat_map (further (λ words. words_text (string_bytes words))) strings.now) }
-{
-    for words in strings {
-        put_member(out, b", ", words.as_bytes())?;
-    }
-    Ok(())
-}
-
-/// Appends the strings of a list.
-fn put_items(out: &mut Vec<u8>, strings: &[String]) -> Result<(), NoMemory>
-    ensures { OnOk result (out.new.items ≡ out.old.items ++ items_text (λ words. words_text (string_bytes words)) strings.now) }
-{
-    match strings {
-        [first, others @ ..] => {
-            put_words(out, first.as_bytes())?;
-            put_further_strings(out, others)
-        }
-        [] => Ok(()),
-    }
-}
-
-/// Appends a member with a list of strings.
-fn put_strings(out: &mut Vec<u8>, name: &[u8], strings: &[String]) -> Result<(), NoMemory>
-    ensures { OnOk result (out.new.items ≡ out.old.items ++ list_member name.now (λ words. words_text (string_bytes words)) strings.now) }
-{
-    put(out, name)?;
-    put(out, b"[")?;
-    put_items(out, strings)?;
-    put(out, b"]")
-}
+use pb_base::writing::{put, put_name, put_number};
 
 /// Appends the line and the column of a place.
 fn put_place(out: &mut Vec<u8>, spot: &Spot) -> Result<(), NoMemory>
@@ -134,29 +56,16 @@ fn put_further_spots(out: &mut Vec<u8>, spots: &[Spot]) -> Result<(), NoMemory>
     Ok(())
 }
 
-/// Appends the places of a list.
-fn put_spot_items(out: &mut Vec<u8>, spots: &[Spot]) -> Result<(), NoMemory>
-    ensures { OnOk result (out.new.items ≡ out.old.items ++ items_text spot_text spots.now) }
-{
-    match spots {
-        [first, others @ ..] => {
-            put_spot(out, first)?;
-            put_further_spots(out, others)
-        }
-        [] => Ok(()),
-    }
-}
-
 /// Appends all places of a refusal.
 fn put_all_spots(out: &mut Vec<u8>, refusal: &Refusal) -> Result<(), NoMemory>
     ensures { OnOk result (out.new.items ≡ out.old.items ++ items_text spot_text (spots_of refusal.now)) }
 {
-    match &refusal.first {
-        Some(first) => {
-            put_spot(out, first)?;
-            put_further_spots(out, &refusal.others)
+    match places(refusal) {
+        Some(spots) => {
+            put_spot(out, spots.first)?;
+            put_further_spots(out, spots.others)
         }
-        None => put_spot_items(out, &refusal.others),
+        None => Ok(()),
     }
 }
 
@@ -168,23 +77,13 @@ fn put_first(out: &mut Vec<u8>, spot: &Spot) -> Result<(), NoMemory>
     put_place(out, spot)
 }
 
-/// Appends the line and the column of the first of some places.
-fn put_first_of(out: &mut Vec<u8>, spots: &[Spot]) -> Result<(), NoMemory>
-    ensures { OnOk result (out.new.items ≡ out.old.items ++ first_text spots.now) }
-{
-    match spots {
-        [first, ..] => put_first(out, first),
-        [] => Ok(()),
-    }
-}
-
 /// Appends the line and the column of the first place of a refusal.
 fn put_first_spot(out: &mut Vec<u8>, refusal: &Refusal) -> Result<(), NoMemory>
     ensures { OnOk result (out.new.items ≡ out.old.items ++ first_text (spots_of refusal.now)) }
 {
-    match &refusal.first {
-        Some(first) => put_first(out, first),
-        None => put_first_of(out, &refusal.others),
+    match places(refusal) {
+        Some(spots) => put_first(out, spots.first),
+        None => Ok(()),
     }
 }
 
@@ -217,7 +116,7 @@ fn put_refusal_head(out: &mut Vec<u8>, refusal: &Refusal) -> Result<(), NoMemory
     put_member(
         out,
         b", \"accepted\": false, \"code\": ",
-        refusal.code.name().as_bytes(),
+        refusal.rule.name().as_bytes(),
     )?;
     put_member(out, b", \"refusal\": ", &refusal.line)?;
     put_member(out, b", \"message\": ", refusal.message.as_bytes())
@@ -236,8 +135,8 @@ fn put_notes(out: &mut Vec<u8>, refusal: &Refusal) -> Result<(), NoMemory>
 fn put_head(out: &mut Vec<u8>, name: &[u8], number: usize) -> Result<(), NoMemory>
     ensures { OnOk result (out.new.items ≡ out.old.items ++ text_head name.now number) }
 {
-    put_member(out, b"{\"file\": ", name)?;
-    put_number(out, b", \"text\": ", number)
+    put_name(out, b"{\"file\": \"", name)?;
+    put_number(out, b"\", \"text\": ", number)
 }
 
 /// Appends a refusal, after the file and the text that it is of.
@@ -307,35 +206,72 @@ fn put_warnings(out: &mut Vec<u8>, warn: bool, warned: &[Warned]) -> Result<(), 
     }
 }
 
-/// Returns the object of the text with a number of a file, which is accepted, with its warnings, if they are asked for.
-pub fn accepted_object(
-    alloc: Global,
-    name: &[u8],
-    number: usize,
-    warn: bool,
-    warned: &[Warned],
-) -> Result<Vec<u8>, NoMemory>
-    ensures { IfOk result (λ line. line.items ≡ accepted_text name.now number warn warned.now) }
+/// Appends that a text is accepted, after the file and the text that it is.
+fn put_acceptance(out: &mut Vec<u8>, warn: bool, warned: &[Warned]) -> Result<(), NoMemory>
+    ensures { OnOk result (out.new.items ≡ out.old.items ++ acceptance_members warn warned.now) }
 {
-    let mut line = Vec::new(alloc);
-    put_head(&mut line, name, number)?;
-    put(&mut line, b", \"accepted\": true")?;
-    put_warnings(&mut line, warn, warned)?;
-    put(&mut line, b"}\n")?;
-    Ok(line)
+    put(out, b", \"accepted\": true")?;
+    put_warnings(out, warn, warned)?;
+    put(out, b"}\n")
 }
 
-/// Returns the object of the text with a number of a file, which is refused.
-pub fn refused_object(
-    alloc: Global,
-    name: &[u8],
-    number: usize,
-    refusal: &Refusal,
-) -> Result<Vec<u8>, NoMemory>
-    ensures { IfOk result (λ line. line.items ≡ refused_text name.now number refusal.now) }
+/// Appends what comes of a text, after the file and the text that it is.
+fn put_verdict(out: &mut Vec<u8>, warn: bool, verdict: &Verdict) -> Result<(), NoMemory>
+    ensures { OnOk result (out.new.items ≡ out.old.items ++ verdict_members warn verdict.now) }
 {
-    let mut line = Vec::new(alloc);
-    put_head(&mut line, name, number)?;
-    put_refusal(&mut line, refusal)?;
-    Ok(line)
+    match verdict {
+        Verdict::Accepted(warned) => put_acceptance(out, warn, warned),
+        Verdict::Refused(refusal) => put_refusal(out, refusal),
+    }
+}
+
+/// Appends the object of a text, with its warnings if they are asked for.
+fn put_found(out: &mut Vec<u8>, warn: bool, name: &[u8], found: &Found) -> Result<(), NoMemory>
+    ensures { OnOk result (out.new.items ≡ out.old.items ++ found_json warn name.now found.now) }
+{
+    put_head(out, name, found.number)?;
+    put_verdict(out, warn, &found.verdict)
+}
+
+/// Appends the objects of the texts of a file.
+fn put_texts(out: &mut Vec<u8>, warn: bool, name: &[u8], texts: &[Found]) -> Result<(), NoMemory>
+    ensures { OnOk result (out.new.items ≡ out.old.items ++ flat_map (found_json warn name.now) texts.now) }
+{
+    for found in texts {
+        put_found(out, warn, name, found)?;
+    }
+    Ok(())
+}
+
+/// Appends the object of a file that cannot be read.
+fn put_unread(out: &mut Vec<u8>, name: &[u8], reason: &[u8]) -> Result<(), NoMemory>
+    ensures { OnOk result (out.new.items ≡ out.old.items ++ unread_json name.now reason.now) }
+{
+    put_name(out, b"{\"file\": \"", name)?;
+    put_member(
+        out,
+        b"\", \"accepted\": false, \"read\": false, \"message\": ",
+        reason,
+    )?;
+    put(out, b"}\n")
+}
+
+/// Appends the objects of a file.
+fn put_report(out: &mut Vec<u8>, warn: bool, report: &Report) -> Result<(), NoMemory>
+    ensures { OnOk result (out.new.items ≡ out.old.items ++ report_json warn report.now) }
+{
+    match report {
+        Report::Texts { name, found } => put_texts(out, warn, name, found),
+        Report::Unread { name, reason } => put_unread(out, name, reason),
+    }
+}
+
+/// Appends the objects of files, with warnings if they are asked for.
+pub fn put_objects(out: &mut Vec<u8>, warn: bool, said: &[Report]) -> Result<(), NoMemory>
+    ensures { OnOk result (out.new.items ≡ out.old.items ++ flat_map (report_json warn) said.now) }
+{
+    for report in said {
+        put_report(out, warn, report)?;
+    }
+    Ok(())
 }

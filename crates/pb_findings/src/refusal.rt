@@ -2,9 +2,10 @@
 
 ghost use Rattle.std.specs.Prelude.{◌≡◌, ◌≤◌, All, IfOk, length, min, option_map};
 ghost use Rattle.pb_codegen.specs.Compiled.{IsRefused};
-ghost use Rattle.pb_findings.specs.Findings.{IsFirstSpot, IsRefusalOf, IsSpotOf, in_file};
+ghost use Rattle.pb_findings.specs.Findings.{IsFirstSpot, IsRefusalOf, IsSpotOf, IsWhole, in_file};
 
 use crate::part::{Part, lines_before, offset_of};
+use crate::rule::Rule;
 use crate::spot::{Spot, spot_at};
 use crate::words::{in_lines_of_file, what_of};
 use pb_accept::{fault_line, text_cause};
@@ -12,14 +13,13 @@ use pb_base::NoMemory;
 use pb_codegen::CompileFault;
 use pb_message_wording::text_wording;
 use pb_mistakes::{Spot as Other, Wording};
-use pb_options::Code;
 use std::alloc::Global;
 
 /// What there is to say of a refused text.
 #[derive(Drop)]
 pub struct Refusal {
-    /// Its code.
-    pub code: Code,
+    /// What it is filed under.
+    pub rule: Rule,
     /// Its line, without a line feed.
     pub line: Vec<u8>,
     /// What is wrong, in words.
@@ -132,7 +132,7 @@ pub fn refusal_of(alloc: Global, part: Part<'_>, fault: CompileFault) -> Result<
     let message = in_lines_of_file(alloc, &wording.summary, before)?;
     let notes = notes_of(alloc, &wording)?;
     Ok(Refusal {
-        code: cause.code,
+        rule: Rule::Code(cause.code),
         line,
         message,
         offset,
@@ -141,5 +141,27 @@ pub fn refusal_of(alloc: Global, part: Part<'_>, fault: CompileFault) -> Result<
         expected: notes.expected,
         hints: notes.hints,
         notes: notes.others,
+    })
+}
+
+/// Returns a refusal of a text as a whole, which no place of it has to do with.
+pub fn whole_refusal(
+    alloc: Global,
+    rule: Rule,
+    line: &str,
+    message: &str,
+) -> Result<Refusal, NoMemory>
+    ensures { IfOk result (IsWhole rule line.now) }
+{
+    Ok(Refusal {
+        rule,
+        line: Vec::from_slice(alloc, line.as_bytes())?,
+        message: String::from_str(alloc, message)?,
+        offset: None,
+        first: None,
+        others: Vec::new(alloc),
+        expected: Vec::new(alloc),
+        hints: Vec::new(alloc),
+        notes: Vec::new(alloc),
     })
 }

@@ -1,242 +1,219 @@
-//! Files that come one after another, and what is told of each of their texts.
+//! Files that come one after another, and what is told of them.
 
-ghost use Rattle.std.specs.Prelude.{◌≡◌, ◌≢◌, ◌≤◌, IfErr, IfOk, IfSome, OnOk, length, map};
-ghost use Rattle.pb_accept.specs.Checks.{check_status};
-ghost use Rattle.pb_accept.specs.Claims.{SaysOfAny};
-ghost use Rattle.pb_accept.specs.Objects.{text_of};
-ghost use Rattle.pb_accept.specs.Refusals.{IsAcceptedText};
-ghost use Rattle.pb_accept.specs.Warned.{AreToldFor};
-ghost use Rattle.pb_codegen.specs.Compiled.{IsRefused};
+ghost use Rattle.std.specs.Prelude.{◌≡◌, ◌≤◌, ◌++◌, ◌∷◌, [], IfOk, IfSome, OnOk, cond};
+ghost use Rattle.std.specs.List.{count_by, list_any};
 ghost use Rattle.pb_command_io.specs.Answers.{Tells};
 ghost use Rattle.pb_command_io.specs.Faults.{TellsFaults};
-ghost use Rattle.pb_findings.specs.Findings.{SaysOfFound};
-ghost use Rattle.pb_findings.specs.Reports.{IsNextFile, IsNextBytes, SaysOfFiles, TellsFile, fault_next};
-ghost use Rattle.pb_voice.specs.Held.{at};
-ghost use Rattle.pb_voice.specs.Tellings.{Answers, Speaks};
-ghost use Rattle.pb_voice.specs.Voices.{Written};
-ghost use Rattle.pb_warnings.specs.Warnings.{warning};
+ghost use Rattle.pb_findings.specs.Reports as spec;
+ghost use Rattle.pb_findings.specs.Reports.{IsLooked, IsReport, SaysOfFiles, SaysOfReports, call_status, files_message, laid_out};
+ghost use Rattle.pb_findings.specs.Reports.{refused_input, sums_line};
+ghost use Rattle.pb_findings.specs.declared.said.Report.{Report as AnyReport};
 
-use crate::object::{accepted_object, refused_object};
-use crate::part::Part;
-use crate::refusal::refusal_of;
-use crate::warned::warned_of;
+use crate::entry::{Entry, First, Layout, Next, first_layout, next_entry};
+use crate::examine::report_of;
+use crate::gcc::put_lines;
+use crate::object::put_objects;
+use crate::said::{Found, Report, Verdict};
+use crate::sarif::{put_document, some_has};
+use crate::strings::put_all;
 use bumpalo::Bump;
-use pb_accept::{Said, Teller, look_within, tell_last};
-use pb_base::limits::MAX_INPUT;
+use itoa::Buffer;
 use pb_base::{Input, MemoryInput, NoMemory, Output, ReadFault, read_whole};
-use pb_codegen::CompileFault;
-use pb_command_io::{Status, first_part};
-use pb_frames::{FrameFault, read_frame};
+use pb_command_io::{Reply, Status, refused, tell};
 use pb_options::CheckOptions;
-use pb_voice::{Form, Voice};
-use pb_warnings::Warning;
 use std::alloc::Global;
 
-/// What came of telling of a file.
-#[derive(Clone, Copy)]
-enum Told {
-    // All of its texts were told of, and one of them was refused or none.
-    Answered(bool),
-    // Out of memory.
-    OutOfMemory,
-    // A write failed.
-    Broken,
-}
+/// The most bytes of an input.
+pub const MAX_FILES: usize = 1_073_741_824;
 
-/// What is said of a text.
+/// What came of looking at the files of an input.
 #[derive(Drop)]
-struct Line {
-    bytes: Vec<u8>,
-    is_refusal: bool,
-}
-
-/// Returns what is said of the text with a number of a file with a name.
-fn line_of(
-    alloc: Global,
-    name: &[u8],
-    number: usize,
-    part: Part<'_>,
-    warn: bool,
-    answer: Result<Vec<Warning>, CompileFault>,
-) -> Result<Line, NoMemory>
-    requires accepted { OnOk answer (IsAcceptedText part.text.now) }
-    requires warned { IfOk answer (λ found. AreToldFor warn part.text.now (map warning found.items)) }
-    requires refused { IfErr answer (IsRefused part.text.now) }
-    requires within { part.start ≤ length part.file.now }
-    ensures { IfOk result (λ line. SaysOfFound warn name.now part.entry.file.now number part.entry.start part.entry.text.now line.bytes.items line.is_refusal) }
-{
-    match answer {
-        Ok(found) => {
-            let warned = warned_of(alloc, part, &found)?;
-            Ok(Line {
-                bytes: accepted_object(alloc, name, number, warn, &warned)?,
-                is_refusal: false,
-            })
-        }
-        Err(fault) => {
-            let refusal = refusal_of(alloc, part, fault)?;
-            Ok(Line {
-                bytes: refused_object(alloc, name, number, &refusal)?,
-                is_refusal: true,
-            })
-        }
-    }
-}
-
-/// Tells of each text of a file, in turn.
-fn tell_file<O: Output, T: Teller>(
-    alloc: Global,
-    options: CheckOptions,
-    arena: &mut Bump,
-    name: &[u8],
-    file: &[u8],
-    teller: &mut T,
-    output: &mut O,
-) -> Told
-    ensures { TellsFile T.tells T.breaks options.warn name.now file.now (at O.written O.failures teller.old output.old)
-        (at O.written O.failures teller.new output.new) result }
-{
-    let mut refused = false;
-    let mut count = 0;
-    let mut rest = file;
-    loop {
-        let cut = first_part(rest);
-        let part = Part {
-            file,
-            start: file.len() - rest.len(),
-            text: cut.part,
-        };
-        let answer = look_within(alloc, options, arena, cut.part);
-        let Ok(line) = line_of(alloc, name, count + 1, part, options.warn, answer) else {
-            return Told::OutOfMemory;
-        };
-        match teller.tell(output, Said::Text(&line.bytes)) {
-            Ok(()) => refused |= line.is_refusal,
-            Err(_) => return Told::Broken,
-        }
-        let Some(more) = cut.rest else {
-            return Told::Answered(refused);
-        };
-        rest = more;
-        count += 1;
-    }
-}
-
-/// Returns the status of a call that came to its end.
-fn status_of(refused: bool) -> Status
-    ensures { result ≡ check_status refused }
-{
-    match refused {
-        true => Status::Refused,
-        false => Status::Done,
-    }
-}
-
-/// What comes next in an input.
-#[derive(Drop)]
-enum Next {
-    /// A file with a name, and what it has.
-    File { name: Vec<u8>, bytes: Vec<u8> },
-    /// Nothing: the input is at its end.
-    End,
-    /// Something else.
+enum Looked {
+    /// All were looked at.
+    Whole(Vec<Report>),
+    /// Something that is no file comes after some of them.
     NoFile,
     /// Out of memory.
     OutOfMemory,
 }
 
-/// Returns what a message that is not read comes to.
-fn unread(fault: FrameFault) -> Next
-    requires { fault ≢ FrameFault.Device }
-    ensures { result ≡ fault_next fault }
+/// Returns whether a text is refused.
+fn is_refused(found: &Found) -> bool
+    ensures { result ≡ spec.is_refused found.now.verdict }
 {
-    match fault {
-        FrameFault::Memory | FrameFault::Device => Next::OutOfMemory,
-        FrameFault::Early | FrameFault::Malformed | FrameFault::TooLong => Next::NoFile,
+    match &found.verdict {
+        Verdict::Accepted(_) => false,
+        Verdict::Refused(_) => true,
     }
 }
 
-/// Reads the bytes of a file after its name.
-fn next_bytes(alloc: Global, input: &mut MemoryInput<'_>, name: Vec<u8>) -> Next
-    ensures { IsNextBytes input.old name.items result input.new }
+/// Returns whether one of some texts is refused.
+fn some_refused(texts: &[Found]) -> bool
+    ensures { result ≡ list_any (λ f. spec.is_refused f.verdict) texts.now }
 {
-    match read_frame(alloc, input) {
-        Ok(Some(bytes)) => Next::File { name, bytes },
-        Ok(None) => Next::NoFile,
-        Err(fault) => unread(fault),
+    texts.iter().any(|found| is_refused(found))
+}
+
+/// Returns whether a text of a file is refused.
+fn has_refused(report: &Report) -> bool
+    ensures { result ≡ spec.has_refused report.now }
+{
+    match report {
+        Report::Texts { name: _, found } => some_refused(found),
+        Report::Unread { .. } => false,
     }
 }
 
-/// Reads the next file of an input in memory.
-fn next_file(alloc: Global, input: &mut MemoryInput<'_>) -> Next
-    ensures { IsNextFile input.old result input.new }
+/// Returns one if a text of a file is refused, else nothing.
+fn refused_in(report: &Report) -> usize
+    ensures one { result ≡ cond (spec.has_refused report.now) 1 0 }
+    ensures bound { result ≤ 1 }
 {
-    match read_frame(alloc, input) {
-        Ok(Some(name)) => next_bytes(alloc, input, name),
-        Ok(None) => Next::End,
-        Err(fault) => unread(fault),
+    if has_refused(report) { 1 } else { 0 }
+}
+
+/// Returns how many files have a refused text.
+fn count_refused(said: &[Report]) -> usize
+    ensures { result ≡ count_by spec.has_refused said.now }
+{
+    let mut count = 0;
+    for report in said {
+        count += refused_in(report);
+    }
+    count
+}
+
+/// Returns whether some file has a refused text.
+fn any_refused(said: &[Report]) -> bool
+    ensures { result ≡ list_any spec.has_refused said.now }
+{
+    said.iter().any(|report| has_refused(report))
+}
+
+/// Returns the status of a call that looked at all files.
+fn status_of(said: &[Report]) -> Status
+    ensures { result ≡ call_status said.now }
+{
+    if some_has(said, "memory") {
+        return Status::Memory;
+    }
+    if any_refused(said) {
+        Status::Refused
+    } else {
+        Status::Done
     }
 }
 
-/// Tells of each text of each file of an input, in turn.
-fn report_files<O: Output, T: Teller>(
+/// Appends what is found, in a layout.
+fn put_laid_out(
+    out: &mut Vec<u8>,
+    alloc: Global,
+    layout: &Layout,
+    warn: bool,
+    said: &[Report],
+) -> Result<(), NoMemory>
+    ensures { OnOk result (out.new.items ≡ out.old.items ++ laid_out layout.now warn said.now) }
+{
+    match layout {
+        Layout::Gcc => put_lines(out, said),
+        Layout::Json => put_objects(out, warn, said),
+        Layout::Sarif(version) => put_document(out, alloc, version, said),
+    }
+}
+
+/// Appends the last line.
+fn put_sums(out: &mut Vec<u8>, said: &[Report]) -> Result<(), NoMemory>
+    ensures { OnOk result (out.new.items ≡ out.old.items ++ sums_line said.now) }
+{
+    let mut digits = Buffer::new();
+    let count = count_refused(said);
+    put_all(out, &[b"refused ", digits.format(count).as_bytes(), b"\n"])
+}
+
+/// Returns what is told of files that were looked at.
+fn report_text(
+    alloc: Global,
+    layout: &Layout,
+    warn: bool,
+    said: &[Report],
+) -> Result<Vec<u8>, NoMemory>
+    ensures { IfOk result (λ text. text.items ≡ laid_out layout.now warn said.now ++ sums_line said.now) }
+{
+    let mut text = Vec::new(alloc);
+    put_laid_out(&mut text, alloc, layout, warn, said)?;
+    put_sums(&mut text, said)?;
+    Ok(text)
+}
+
+/// Returns the reply to files that were looked at.
+fn reply_of(alloc: Global, layout: &Layout, warn: bool, said: &[Report]) -> Result<Reply, NoMemory>
+    ensures { IfOk result (λ r. (r.text.items ≡ laid_out layout.now warn said.now ++ sums_line said.now) × (r.status ≡ call_status said.now)) }
+{
+    Ok(Reply {
+        text: report_text(alloc, layout, warn, said)?,
+        status: status_of(said),
+    })
+}
+
+/// Returns the reply to an input that does not name files.
+fn refusal(alloc: Global) -> Result<Reply, NoMemory>
+    ensures { IfOk result (λ r. (r.text.items ≡ refused_input) × (r.status ≡ Status.Refused)) }
+{
+    refused(Vec::from_slice(alloc, b"refused input")?)
+}
+
+/// Looks at a file, and says what there is to say of it.
+fn look_at(
     alloc: Global,
     options: CheckOptions,
-    bytes: &[u8],
-    teller: &mut T,
-    output: &mut O,
-) -> Status
-    ensures { Speaks T.tells T.breaks (SaysOfFiles options.warn bytes.now) (at O.written O.failures teller.old output.old)
-        (at O.written O.failures teller.new output.new) result }
+    arena: &mut Bump,
+    said: &mut Vec<Report>,
+    entry: Entry,
+) -> Result<(), NoMemory>
+    ensures { OnOk result ((one : AnyReport) × IsReport options.warn entry one × (said.new.items ≡ said.old.items ++ one ∷ [])) }
+{
+    said.push(report_of(alloc, options, arena, entry)?)?;
+    Ok(())
+}
+
+/// Looks at each file of an input in memory, in turn.
+fn look_at_files(alloc: Global, options: CheckOptions, input: &mut MemoryInput<'_>) -> Looked
+    ensures { IsLooked options.warn input.old result }
 {
     let mut arena = Bump::new(alloc);
-    let mut input = MemoryInput::new(bytes);
-    let mut refused = false;
+    let mut said = Vec::new(alloc);
     loop {
-        match next_file(alloc, &mut input) {
-            Next::File { name, bytes } => {
-                match tell_file(alloc, options, &mut arena, &name, &bytes, teller, output) {
-                    Told::Answered(is_refusal) => refused |= is_refusal,
-                    Told::OutOfMemory => return tell_last(
-                        teller,
-                        output,
-                        Said::NoMemory,
-                        Status::Memory,
-                    ),
-                    Told::Broken => return Status::Device,
-                }
-            }
-            Next::End => return status_of(refused),
-            Next::NoFile => return Status::Refused,
-            Next::OutOfMemory => return tell_last(teller, output, Said::NoMemory, Status::Memory),
+        match next_entry(alloc, input) {
+            Next::Entry(entry) => match look_at(alloc, options, &mut arena, &mut said, entry) {
+                Ok(()) => {}
+                Err(_) => return Looked::OutOfMemory,
+            },
+            Next::End => return Looked::Whole(said),
+            Next::NoEntry => return Looked::NoFile,
+            Next::OutOfMemory => return Looked::OutOfMemory,
         }
     }
 }
 
-/// Tells of each text of the files of an input, each of which comes as two messages, its name and its bytes: an object of
-/// JSON, as a text. After a file that does not come so nothing more is told, and the status is that of a refusal.
-///
-/// After a read that failed nothing is told; after a write that failed, no more.
-pub fn report_engine<I: Input, O: Output, T: Teller>(
-    alloc: Global,
-    options: CheckOptions,
-    input: &mut I,
-    teller: &mut T,
-    output: &mut O,
-) -> Status
-    ensures { Answers T.tells T.breaks (SaysOfAny (SaysOfFiles options.warn)) (I.rest input.old) (I.failures input.old) (I.failures input.new)
-        (at O.written O.failures teller.old output.old)
-        (at O.written O.failures teller.new output.new) result }
+/// Returns the reply to an input.
+fn answer(alloc: Global, options: CheckOptions, bytes: &[u8]) -> Result<Reply, NoMemory>
+    ensures { IfOk result (λ r. SaysOfFiles options.warn bytes.now r.text.items r.status) }
 {
-    match read_whole(alloc, input, MAX_INPUT) {
-        Ok(bytes) => report_files(alloc, options, &bytes, teller, output),
-        Err(ReadFault::TooLong) => tell_last(teller, output, Said::TooLong, Status::Refused),
-        Err(ReadFault::Memory) => tell_last(teller, output, Said::NoMemory, Status::Memory),
-        Err(ReadFault::Device) => Status::Device,
+    let mut input = MemoryInput::new(bytes);
+    let layout = match first_layout(alloc, &mut input) {
+        First::Layout(layout) => layout,
+        First::NoLayout => return refusal(alloc),
+        First::OutOfMemory => return Err(NoMemory),
+    };
+    match look_at_files(alloc, options, &mut input) {
+        Looked::Whole(said) => reply_of(alloc, &layout, options.warn, &said),
+        Looked::NoFile => refusal(alloc),
+        Looked::OutOfMemory => Err(NoMemory),
     }
 }
 
-/// Writes what `report_engine` tells.
+/// Writes what is found in the files of an input, which names a layout and then each file by two messages: all in this
+/// layout, and then how many files have a refused text. Of an input that does not name files only that is told.
 ///
 /// After a read that failed nothing is written; after a write that failed, a first part.
 pub fn write_reports<I: Input, O: Output>(
@@ -246,13 +223,16 @@ pub fn write_reports<I: Input, O: Output>(
     output: &mut O,
 ) -> Status
     ensures text { IfSome (I.rest input.old) (λ bytes.
-        Tells (Written (text_of Form.Lines) (SaysOfAny (SaysOfFiles options.warn)) bytes) (O.written output.old) (O.written output.new) result) }
+        Tells (SaysOfReports options.warn bytes) (O.written output.old) (O.written output.new) result) }
     ensures faults { TellsFaults
         (record { reads = I.failures input.old; writes = O.failures output.old; written = O.written output.old })
         (record { reads = I.failures input.new; writes = O.failures output.new; written = O.written output.new })
         result }
 {
-    let mut voice = Voice::new(alloc, Form::Lines);
-    let given = report_engine(alloc, options, input, &mut voice, output);
-    voice.finish(output, given)
+    match read_whole(alloc, input, MAX_FILES) {
+        Ok(bytes) => tell(alloc, answer(alloc, options, &bytes), output),
+        Err(ReadFault::TooLong) => tell(alloc, refusal(alloc), output),
+        Err(ReadFault::Memory) => tell(alloc, Err(NoMemory), output),
+        Err(ReadFault::Device) => Status::Device,
+    }
 }

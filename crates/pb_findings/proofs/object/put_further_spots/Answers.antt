@@ -1,7 +1,8 @@
 use Rattle.std.proofs.Common.{◌≡◌, ◌+◌, ◌++◌, ◌∷◌, [], List, arith, subst, sym, take}
 use Rattle.std.specs.List.{flat_map}
 use Rattle.std.proofs.lemmas.List.{take_more}
-use Rattle.pb_findings.specs.Objects.{further, spot_text}
+use Rattle.pb_findings.specs.Objects.{spot_text}
+use Rattle.pb_findings.specs.Strings.{further}
 use Rattle.pb_findings.specs.declared.spot.Spot.{Spot}
 use Rattle.pb_findings.proofs.ObjectLemmas.{one_further}
 use Rattle.pb_findings.proofs.object.put_further_spots.Goals as goal

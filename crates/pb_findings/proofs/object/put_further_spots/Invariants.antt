@@ -1,6 +1,7 @@
 use Rattle.std.proofs.Common.{◌≡◌, ◌++◌, take}
 use Rattle.std.specs.List.{flat_map}
-use Rattle.pb_findings.specs.Objects.{further, spot_text}
+use Rattle.pb_findings.specs.Objects.{spot_text}
+use Rattle.pb_findings.specs.Strings.{further}
 use Rattle.pb_findings.proofs.object.put_further_spots.Given as goal
 
 abbrev pub invariant-loop-spot : goal.invariant-loop-spot

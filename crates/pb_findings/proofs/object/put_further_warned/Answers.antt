@@ -1,7 +1,8 @@
 use Rattle.std.proofs.Common.{◌≡◌, ◌+◌, ◌++◌, ◌∷◌, [], List, arith, subst, sym, take}
 use Rattle.std.specs.List.{flat_map}
 use Rattle.std.proofs.lemmas.List.{take_more}
-use Rattle.pb_findings.specs.Objects.{further, warned_text}
+use Rattle.pb_findings.specs.Objects.{warned_text}
+use Rattle.pb_findings.specs.Strings.{further}
 use Rattle.pb_findings.specs.declared.warned.Warned.{Warned}
 use Rattle.pb_findings.proofs.ObjectLemmas.{one_further}
 use Rattle.pb_findings.proofs.object.put_further_warned.Goals as goal

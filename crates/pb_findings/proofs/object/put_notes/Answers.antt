@@ -1,5 +1,5 @@
 use Rattle.std.proofs.Common.{List, ℕ, ◌++◌, codes}
-use Rattle.pb_findings.specs.Objects.{list_member, words_text}
+use Rattle.pb_findings.specs.Strings.{list_member, words_text}
 use Rattle.std.specs.Prelude.{string_bytes}
 use Rattle.pb_findings.proofs.ObjectLemmas.{on_ok, then}
 use Rattle.pb_findings.proofs.object.put_notes.Goals as goal

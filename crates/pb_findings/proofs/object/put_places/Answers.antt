@@ -1,5 +1,7 @@
 use Rattle.std.proofs.Common.{List, ℕ, ◌++◌, codes}
-use Rattle.pb_findings.specs.Objects.{first_text, items_text, offset_member, spot_text, spots_of}
+use Rattle.pb_findings.specs.Objects.{first_text, offset_member, spot_text}
+use Rattle.pb_findings.specs.Spots.{spots_of}
+use Rattle.pb_findings.specs.Strings.{items_text}
 use Rattle.pb_findings.specs.declared.spot.Spot.{Spot}
 use Rattle.pb_findings.proofs.ObjectLemmas.{on_ok, then}
 use Rattle.pb_findings.proofs.object.put_places.Goals as goal

@@ -1,7 +1,8 @@
 use Rattle.std.proofs.Common.{List, ℕ, ◌++◌, codes}
 use Rattle.std.specs.Prelude.{string_bytes}
 use Rattle.pb_options.specs.Codes.{code_name}
-use Rattle.pb_findings.specs.Objects.{words_member, place_members}
+use Rattle.pb_findings.specs.Objects.{place_members}
+use Rattle.pb_findings.specs.Strings.{words_member}
 use Rattle.pb_findings.proofs.ObjectLemmas.{on_ok, then}
 use Rattle.pb_findings.proofs.object.put_warned.Goals as goal
 

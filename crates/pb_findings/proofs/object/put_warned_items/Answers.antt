@@ -1,6 +1,7 @@
 use Rattle.std.proofs.Common.{◌++◌, ◌-◌, ◌∙◌, List, ℕ, ap, drop, length, sym, take}
 use Rattle.std.specs.List.{flat_map}
-use Rattle.pb_findings.specs.Objects.{further, warned_text}
+use Rattle.pb_findings.specs.Objects.{warned_text}
+use Rattle.pb_findings.specs.Strings.{further}
 use Rattle.pb_findings.proofs.ObjectLemmas.{first_item, on_ok, then}
 use Rattle.pb_findings.proofs.object.put_warned_items.Goals as goal
 

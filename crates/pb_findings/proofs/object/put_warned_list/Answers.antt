@@ -1,5 +1,6 @@
 use Rattle.std.proofs.Common.{List, ℕ, ◌++◌, codes}
-use Rattle.pb_findings.specs.Objects.{items_text, warned_text}
+use Rattle.pb_findings.specs.Objects.{warned_text}
+use Rattle.pb_findings.specs.Strings.{items_text}
 use Rattle.pb_findings.proofs.ObjectLemmas.{on_ok, then}
 use Rattle.pb_findings.proofs.object.put_warned_list.Goals as goal
 

@@ -1,33 +1,30 @@
-use Rattle.std.proofs.Common.{ap}
-use Rattle.pb_findings.specs.Reports.{SaysOfFiles}
-use Rattle.pb_accept.specs.Claims.{SaysOfAny}
-use Rattle.pb_voice.specs.Inputs.{nothing}
-use Rattle.pb_accept.specs.Objects.{text_of}
-use Rattle.pb_voice.specs.Held.{Held, at}
-use Rattle.pb_voice.specs.declared.form.Form.TheVariants.{Lines}
-use Rattle.pb_voice.proofs.EndLemmas.{faults_as_told, written_in}
+use Rattle.pb_command_io.specs.declared.status.Status.TheVariants.{Refused, Memory}
+use Rattle.pb_findings.specs.Reports.{SaysOfReports, nothing, out_of_memory, read, refused_input, too_long}
+use Rattle.pb_findings.proofs.TellingLemmas.{all_some, if_ok, if_read, if_some, says_same, tells_nothing, tells_reply}
 use Rattle.pb_findings.proofs.report.write_reports.Goals as goal
 
-pub returns-clause-text : goal.returns-clause-text
-returns-clause-text g c =
-    written_in text_of Lines (at g.O.Output.written g.O.Output.failures c.new-voice.result c.args.output.now)
-    (at g.O.Output.written g.O.Output.failures c.report_engine-given.new.teller c.report_engine-given.new.output)
-    c.report_engine-given.result c.finish.result (g.O.Output.written c.finish.new.output) (g.O.Output.failures c.finish.new.output)
-    c.new-voice.ensures c.finish.ensures.text c.finish.ensures.faults
-    (λ device. let kept = c.finish.ensures.device device in
-    (ap g.O.Output.written kept.0, ap g.O.Output.failures kept.0, kept.1))
-    (SaysOfAny (SaysOfFiles c.args.options.warn)) (λ bytes. nothing)
-    (g.I.Input.rest c.args.input.now) (g.I.Input.failures c.args.input.now) (g.I.Input.failures c.report_engine-given.new.input)
-    c.report_engine-given.ensures
+pub returns-in-Ok-clause-text : goal.returns-in-Ok-clause-text
+returns-in-Ok-clause-text g c =
+    let short = c.in-Ok.ensures.fits in
+    let says = rw c.deref.ensures.value at c.answer.ensures in
+    if_read _ (g.I.Input.rest c.args.input.now) c.in-Ok.bytes.items c.in-Ok.ensures.bytes
+    (tells_reply (SaysOfReports c.args.options.warn c.in-Ok.bytes.items) (g.O.Output.written c.args.output.now) (g.O.Output.written c.tell.new.output)
+    c.answer.result c.tell.result (if_ok c.answer.result (λ r files. read r.text.items r.status short files) says) out_of_memory
+    c.tell.ensures.said c.tell.ensures.memory)
 
-pub returns-clause-faults : goal.returns-clause-faults
-returns-clause-faults g c =
-    faults_as_told text_of (at g.O.Output.written g.O.Output.failures c.new-voice.result c.args.output.now)
-    (at g.O.Output.written g.O.Output.failures c.report_engine-given.new.teller c.report_engine-given.new.output)
-    c.report_engine-given.result c.finish.result (g.O.Output.written c.finish.new.output) (g.O.Output.failures c.finish.new.output)
-    (ap (λ (h : Held). h.waits) c.new-voice.ensures) c.finish.ensures.text c.finish.ensures.faults
-    (λ device. let kept = c.finish.ensures.device device in
-    (ap g.O.Output.written kept.0, ap g.O.Output.failures kept.0, kept.1))
-    (SaysOfAny (SaysOfFiles c.args.options.warn)) (λ bytes. nothing)
-    (g.I.Input.rest c.args.input.now) (g.I.Input.failures c.args.input.now) (g.I.Input.failures c.report_engine-given.new.input)
-    c.report_engine-given.ensures
+pub returns-in-Err-TooLong-clause-text : goal.returns-in-Err-TooLong-clause-text
+returns-in-Err-TooLong-clause-text g c =
+    if_some (g.I.Input.rest c.args.input.now)
+    (λ bytes long. tells_reply (SaysOfReports c.args.options.warn bytes) (g.O.Output.written c.args.output.now)
+    (g.O.Output.written c.tell-in-Err-TooLong.new.output) c.refusal.result c.tell-in-Err-TooLong.result
+    (if_ok c.refusal.result (λ r both. says_same (SaysOfReports c.args.options.warn bytes) refused_input r.text.items Refused r.status both.0 both.1 (too_long long))
+    c.refusal.ensures) out_of_memory c.tell-in-Err-TooLong.ensures.said c.tell-in-Err-TooLong.ensures.memory)
+    (c.in-Err-TooLong.ensures.long c.in-Err-TooLong.field-0-is)
+
+pub returns-in-Err-Memory-clause-text : goal.returns-in-Err-Memory-clause-text
+returns-in-Err-Memory-clause-text g c =
+    all_some (g.I.Input.rest c.args.input.now) (λ bytes. (_, Memory, out_of_memory, c.tell-in-Err-Memory.ensures.memory))
+
+pub returns-in-Err-Device-clause-text : goal.returns-in-Err-Device-clause-text
+returns-in-Err-Device-clause-text g c =
+    all_some (g.I.Input.rest c.args.input.now) (λ bytes. tells_nothing (SaysOfReports c.args.options.warn bytes) (g.O.Output.written c.args.output.now) nothing)

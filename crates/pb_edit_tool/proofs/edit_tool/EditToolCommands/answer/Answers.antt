@@ -7,3 +7,9 @@ pub returns-in-Lsp-clause-text : goal.returns-in-Lsp-clause-text
 returns-in-Lsp-clause-text g c =
     tells_as (g.I.Input.rest c.args.input.now) (g.I.Input.rest c.args.input.now) (g.O.Output.written c.args.output.now)
     (g.O.Output.written c.server_engine.new.output) c.server_engine.result c.args.options option.Lsp c.in-Lsp.is (says c.args._form) c.server_engine.ensures.text
+
+pub returns-in-Findings-clause-text : goal.returns-in-Findings-clause-text
+returns-in-Findings-clause-text g c =
+    tells_as (g.I.Input.rest c.args.input.now) (g.I.Input.rest c.args.input.now) (g.O.Output.written c.args.output.now)
+    (g.O.Output.written c.write_reports.new.output) c.write_reports.result c.args.options (option.Findings c.in-Findings.numbers) c.in-Findings.is
+    (says c.args._form) c.write_reports.ensures.text
