@@ -25,11 +25,11 @@ abbrev pub jobs_of : BankerState → List Bool → Jobs
 jobs_of s marks = record { marks = marks; count = processes s }
 
 -- what is said of a reason; of a request that is allowed it is given
-abbrev pub reason_said : (allowed : Said) → BankerState → Reason → Said
-reason_said allowed s Allowed = allowed
-reason_said allowed s (OverClaim r) = told.OverClaim r
-reason_said allowed s (OverCash r) = told.WaitCash r (cash s r)
-reason_said allowed s (Rest slots) = told.WaitRest (jobs_of s slots)
+abbrev pub reason_said : (when_allowed : Said) → BankerState → Reason → Said
+reason_said when_allowed s Allowed = when_allowed
+reason_said _ s (OverClaim r) = told.OverClaim r
+reason_said _ s (OverCash r) = told.WaitCash r (cash s r)
+reason_said _ s (Rest slots) = told.WaitRest (jobs_of s slots)
 
 -- a reason names a resource that is there
 abbrev pub IsReasonAmong : ℕ → Reason → Type 0
