@@ -1,0 +1,6 @@
+pub mod Carried
+pub mod JournalLemmas
+pub mod KeptLemmas
+pub mod LastRequests
+pub mod SessionPlaces
+pub mod WordFronts

@@ -1,0 +1,5 @@
+pub mod Applies
+pub mod Journals
+pub mod Refusals
+pub mod Services
+pub mod Sessions
