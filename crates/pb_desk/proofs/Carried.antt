@@ -1,11 +1,12 @@
 -- What a command comes to, from the steps of carrying it out.
 use Rattle.std.proofs.Common.{Vec, Global, ◌≡◌, ℕ, ◌++◌, Bool, true, false, List, [], ◌∷◌, map, length, Option, Some, None, refl, sym, ap, ◌∙◌, subst, append_assoc}
 use Rattle.std.proofs.lemmas.List.{length-map}
-use Rattle.pb_base.specs.Lines.{NameTable, names_view}
+use Rattle.std.specs.Prelude.{codes}
+use Rattle.pb_base.specs.Lines.{NameTable, name_of, names_view}
 use Rattle.pb_base.specs.declared.names.Names.{Names}
 use Rattle.pb_bank.specs.Desks.{DeskValue}
 use Rattle.pb_bank.specs.declared.said.Said.{Said}
-use Rattle.pb_desk.specs.Applies.{AnswersOnce, CarriesOut, Commands, Says, done_of, is_done, kept_text, of_wishes}
+use Rattle.pb_desk.specs.Applies.{CarriesOut, LeavesSlot, Says, of_wishes}
 use Rattle.pb_desk.specs.Refusals.{refusal_of, refusal_text}
 use Rattle.pb_desk.specs.Services.{ServiceValue, after_each, all_notices, answer_text, answer_to, notices_of_all, owners_below, with_desk}
 use Rattle.pb_desk.specs.Sessions.{SessionValue, answered, changed, text_of}
@@ -62,37 +63,26 @@ carried v id number line said d text owners first second out out1 out2 says is o
           ∙ ap (λ (o : List ℕ). out ++ (answer_to id number whole ∷ notices_of_all o d.names v.sessions told)) owned),
     )
 
--- ---- a command
+-- ---- a job that leaves
 
-pub to_nobody : (o : Option SessionValue) (v : ServiceValue) (id number : ℕ) (by : Bool) (line : List ℕ) (out next : List Told)
-    → done_of o number ≡ None → next ≡ out ++ answer_to id number (refusal_text NoSession) ∷ []
-    → (all : List Told) × Commands o v id number by line all v × (next ≡ out ++ all)
-to_nobody None v id number by line out next none is = (answer_to id number (refusal_text NoSession) ∷ [], (refl, refl), is)
-to_nobody (Some s) v id number by line out next none is = absurd (cc)
-
-pub again : (o : Option SessionValue) (v : ServiceValue) (id number : ℕ) (by : Bool) (line text : List ℕ) (out next : List Told)
-    → done_of o number ≡ Some true → ((s : SessionValue) → o ≡ Some s → text ≡ kept_text (text_of s.answers number))
-    → next ≡ out ++ answer_to id number text ∷ []
-    → (all : List Told) × Commands o v id number by line all v × (next ≡ out ++ all)
-again None v id number by line text out next done kept is = absurd (cc)
-again (Some s) v id number by line text out next done kept is =
-    let yes : true ≡ is_done s number = cc in
-    let words = kept s refl in (
-      answer_to id number text ∷ [],
-      subst (λ (b : Bool). AnswersOnce b s v id number by line (answer_to id number text ∷ []) v) yes
-          (ap (λ (t : List ℕ). answer_to id number t ∷ []) words, refl),
-      is,
-    )
-
-pub new : (o : Option SessionValue) (v end : ServiceValue) (id number : ℕ) (by : Bool) (line : List ℕ) (r : Option Refusal) (out next : List Told)
-    → done_of o number ≡ Some false → r ≡ refusal_of v id by line
-    → (all : List Told) × CarriesOut r v id number line all end × (next ≡ out ++ all)
-    → (all : List Told) × Commands o v id number by line all end × (next ≡ out ++ all)
-new None v end id number by line r out next done is says = absurd (cc)
-new (Some s) v end id number by line r out next done is says =
-    let no : false ≡ is_done s number = cc in (
-      says.0,
-      subst (λ (b : Bool). AnswersOnce b s v id number by line says.0 end) no
-          (subst (λ (x : Option Refusal). CarriesOut x v id number line says.0 end) is says.1),
-      says.2,
+pub left_slot : (v : ServiceValue) (p : ℕ) (line : List ℕ) (said : List Said) (d : DeskValue) (owners : List ℕ) (first : List SessionValue)
+    (out out1 : List Told) → line ≡ codes "leave " ++ name_of v.desk.names.processes p → Says v.desk line said d
+    → owners ≡ owners_below d.names.processes v.owners 0 (length d.names.processes)
+    → first ≡ after_each owners d.names v.sessions said
+    → out1 ≡ out ++ notices_of_all owners d.names v.sessions said
+    → (all : List Told) × LeavesSlot v p all (record { desk = d; owners = owners; sessions = first; newest = v.newest })
+    × (out1 ≡ out ++ all)
+left_slot v p line said d owners first out out1 is says owned after notices =
+    let all-owners = owners_below d.names.processes v.owners 0 (length d.names.processes) in (
+      all_notices (with_desk v 0 d) said,
+      (
+        said,
+        d,
+        subst (λ (l : List ℕ). Says v.desk l said d) is says,
+        refl,
+        ap (λ (o : List ℕ). record { desk = d; owners = o; sessions = first; newest = v.newest }) owned
+            ∙ ap (λ (ss : List SessionValue). record { desk = d; owners = all-owners; sessions = ss; newest = v.newest })
+            (after ∙ ap (λ (o : List ℕ). after_each o d.names v.sessions said) owned),
+      ),
+      notices ∙ ap (λ (o : List ℕ). out ++ notices_of_all o d.names v.sessions said) owned,
     )

@@ -8,10 +8,10 @@ use Rattle.pb_base.specs.Lines.{NameTable}
 use Rattle.pb_bank.specs.declared.said.Said.{Said}
 use Rattle.pb_bank.specs.declared.said.Said.TheVariants as told
 use Rattle.pb_desk.specs.Applies.{EntryValue, Begin, End, Command, Declare, Applies, AnswersOnce, Begins, CarriesOut, Commands, Declares, Ends}
-use Rattle.pb_desk.specs.Applies.{Leaves, LeavesSlot, nothing, leaves, stays, is_done, of_wishes}
+use Rattle.pb_desk.specs.Applies.{Leaves, LeavesIf, LeavesSlot, nothing, one_more, is_done, of_wishes}
 use Rattle.pb_desk.specs.Journals.{InTwo, Runs, JobsOfOthersStay, JournalsGoOn, JournalsPart, RequestsAreCarriedOutOnce}
 use Rattle.pb_desk.specs.Refusals.{is_another, is_reserved, owner_of, refusal_of, subject_of, verb_of}
-use Rattle.pb_desk.specs.Services.{ServiceValue, after_all, after_each, after_one, granted_text, with_answer, with_desk}
+use Rattle.pb_desk.specs.Services.{ServiceValue, owner_at, after_all, after_each, after_one, granted_text, with_answer, with_desk}
 use Rattle.pb_desk.specs.Sessions.{SessionValue, answered, fresh, noted, others, session_of, with_one}
 use Rattle.pb_desk.specs.declared.refusal.Refusal.{Refusal}
 use Rattle.pb_desk.specs.declared.refusal.Refusal.TheVariants.{OfAnother, OfOperators, Reserved}
@@ -246,11 +246,14 @@ slot_grows v p all next c =
     stays_by v next (ap (λ (s : ServiceValue). s.newest) c.4)
     (λ id. ap (λ (s : ServiceValue). last_in s id) c.4 ∙ all_last with' c.0 id)
 
+if_grows : (b : Bool) (v : ServiceValue) (p : ℕ) (all : List Told) (next : ServiceValue) → LeavesIf b v p all next → Grows v next
+if_grows true v p all next c = slot_grows v p all next c
+if_grows false v p all next c = grows_same v next c.1
+
 leaves_grow : (id : ℕ) (v : ServiceValue) → Bounded v → (n : ℕ) (all : List Told) (next : ServiceValue) → Leaves id v n all next → Grows v next
 leaves_grow id v bound n all next nothing = grows_same v v refl
-leaves_grow id v bound n all next (leaves m first more mid end before owner leaving) =
-    grows_two v mid end bound (leaves_grow id v bound m first mid before) (slot_grows mid m more end leaving)
-leaves_grow id v bound n all next (stays m first mid before owner) = leaves_grow id v bound m first mid before
+leaves_grow id v bound n all next (one_more m first more mid end before leaving) =
+    grows_two v mid end bound (leaves_grow id v bound m first mid before) (if_grows (eqb (owner_at mid m) id) mid m more end leaving)
 
 ends_grow : (o : Option SessionValue) (v next : ServiceValue) (id : ℕ) (all : List Told) → Bounded v → Ends o v id all next → Grows v next
 ends_grow None v next id all bound c = grows_same v next c.1

@@ -12,49 +12,66 @@ abbrev pub mapped : (ℕ → ℕ) → Option ℕ → Option ℕ
 mapped to None = None
 mapped to (Some n) = Some (to n)
 
-nothing : (to : ℕ → ℕ) (b : Bool) → None ≡ cond b (mapped to None) None
-nothing to true = refl
-nothing to false = refl
-
 gone : (b : Bool) (o : Option ℕ) → o ≡ None → o ≡ cond b None o
 gone true o e = e
 gone false o e = refl
 
 -- ---- a change
 
-change_step : (to : ℕ → ℕ) (s t : SessionValue) (ss cs : List SessionValue) (id0 id : ℕ) (a b c : Bool)
-    → eqb s.id id0 ≡ a → eqb s.id id ≡ b → eqb id0 id ≡ c → t.id ≡ s.id → t.last ≡ to s.last
-    → last_of (session_of cs id) ≡ cond c (mapped to (last_of (session_of ss id))) (last_of (session_of ss id))
-    → last_of (session_of (cond a (t ∷ ss) (s ∷ cs)) id)
-    ≡ cond c (mapped to (last_of (cond b (Some s) (session_of ss id)))) (last_of (cond b (Some s) (session_of ss id)))
-change_step to s t ss cs id0 id true true true ea eb ec same last ih =
-    let e : eqb t.id id ≡ true = ap (λ k. eqb k id) same ∙ eb in
-    ap (λ (x : Bool). last_of (cond x (Some t) (session_of ss id))) e ∙ ap (λ n. Some n) last
-change_step to s t ss cs id0 id true true false ea eb ec same last ih =
-    absurd (eqb-false id0 id ec (sym (eqb-true s.id id0 ea) ∙ eqb-true s.id id eb))
-change_step to s t ss cs id0 id true false true ea eb ec same last ih =
-    absurd (eqb-false s.id id eb (eqb-true s.id id0 ea ∙ eqb-true id0 id ec))
-change_step to s t ss cs id0 id true false false ea eb ec same last ih =
-    let e : eqb t.id id ≡ false = ap (λ k. eqb k id) same ∙ eb in
-    ap (λ (x : Bool). last_of (cond x (Some t) (session_of ss id))) e
-change_step to s t ss cs id0 id false true true ea eb ec same last ih =
-    absurd (eqb-false s.id id0 ea (eqb-true s.id id eb ∙ sym (eqb-true id0 id ec)))
-change_step to s t ss cs id0 id false true false ea eb ec same last ih =
-    ap (λ (x : Bool). last_of (cond x (Some s) (session_of cs id))) eb
-change_step to s t ss cs id0 id false false true ea eb ec same last ih =
-    ap (λ (x : Bool). last_of (cond x (Some s) (session_of cs id))) eb ∙ ih
-change_step to s t ss cs id0 id false false false ea eb ec same last ih =
-    ap (λ (x : Bool). last_of (cond x (Some s) (session_of cs id))) eb ∙ ih
+-- the session, changed
+abbrev pub changed_one : (SessionValue → SessionValue) → Option SessionValue → Option SessionValue
+changed_one to None = None
+changed_one to (Some s) = Some (to s)
 
--- the last request of a session that has changed, and those of the others
+change_step : (to : SessionValue → SessionValue) (s : SessionValue) (ss cs : List SessionValue) (id0 id : ℕ) (a b c : Bool)
+    → eqb s.id id0 ≡ a → eqb s.id id ≡ b → eqb id0 id ≡ c → (to s).id ≡ s.id
+    → session_of cs id ≡ cond c (changed_one to (session_of ss id)) (session_of ss id)
+    → session_of (cond a (to s ∷ ss) (s ∷ cs)) id
+    ≡ cond c (changed_one to (cond b (Some s) (session_of ss id))) (cond b (Some s) (session_of ss id))
+change_step to s ss cs id0 id true true true ea eb ec same ih =
+    let e : eqb (to s).id id ≡ true = ap (λ k. eqb k id) same ∙ eb in
+    ap (λ (x : Bool). cond x (Some (to s)) (session_of ss id)) e
+change_step to s ss cs id0 id true true false ea eb ec same ih =
+    absurd (eqb-false id0 id ec (sym (eqb-true s.id id0 ea) ∙ eqb-true s.id id eb))
+change_step to s ss cs id0 id true false true ea eb ec same ih =
+    absurd (eqb-false s.id id eb (eqb-true s.id id0 ea ∙ eqb-true id0 id ec))
+change_step to s ss cs id0 id true false false ea eb ec same ih =
+    let e : eqb (to s).id id ≡ false = ap (λ k. eqb k id) same ∙ eb in
+    ap (λ (x : Bool). cond x (Some (to s)) (session_of ss id)) e
+change_step to s ss cs id0 id false true true ea eb ec same ih =
+    absurd (eqb-false s.id id0 ea (eqb-true s.id id eb ∙ sym (eqb-true id0 id ec)))
+change_step to s ss cs id0 id false true false ea eb ec same ih =
+    ap (λ (x : Bool). cond x (Some s) (session_of cs id)) eb
+change_step to s ss cs id0 id false false true ea eb ec same ih =
+    ap (λ (x : Bool). cond x (Some s) (session_of cs id)) eb ∙ ih
+change_step to s ss cs id0 id false false false ea eb ec same ih =
+    ap (λ (x : Bool). cond x (Some s) (session_of cs id)) eb ∙ ih
+
+no_change : (to : SessionValue → SessionValue) (b : Bool) → None ≡ cond b (changed_one to None) None
+no_change to true = refl
+no_change to false = refl
+
+-- a session that has changed, and the others
+pub session_changed : (to : SessionValue → SessionValue) → ((s : SessionValue) → (to s).id ≡ s.id) → (sessions : List SessionValue) (id0 id : ℕ)
+    → session_of (changed to sessions id0) id ≡ cond (eqb id0 id) (changed_one to (session_of sessions id)) (session_of sessions id)
+session_changed to ids [] id0 id = no_change to (eqb id0 id)
+session_changed to ids (s ∷ ss) id0 id =
+    change_step to s ss (changed to ss id0) id0 id (eqb s.id id0) (eqb s.id id) (eqb id0 id) refl refl refl (ids s)
+    (session_changed to ids ss id0 id)
+
+last_step : (to : SessionValue → SessionValue) (last : ℕ → ℕ) → ((s : SessionValue) → (to s).last ≡ last s.last) → (b : Bool)
+    (o : Option SessionValue) → last_of (cond b (changed_one to o) o) ≡ cond b (mapped last (last_of o)) (last_of o)
+last_step to last lasts true None = refl
+last_step to last lasts true (Some s) = ap (λ n. Some n) (lasts s)
+last_step to last lasts false o = refl
+
+-- its last request, and those of the others
 pub last_changed : (to : SessionValue → SessionValue) (last : ℕ → ℕ) → ((s : SessionValue) → (to s).id ≡ s.id)
     → ((s : SessionValue) → (to s).last ≡ last s.last) → (sessions : List SessionValue) (id0 id : ℕ)
     → last_of (session_of (changed to sessions id0) id)
     ≡ cond (eqb id0 id) (mapped last (last_of (session_of sessions id))) (last_of (session_of sessions id))
-last_changed to last ids lasts [] id0 id = nothing last (eqb id0 id)
-last_changed to last ids lasts (s ∷ ss) id0 id =
-    change_step last s (to s) ss (changed to ss id0) id0 id (eqb s.id id0) (eqb s.id id) (eqb id0 id) refl refl refl (ids s) (lasts s)
-    (last_changed to last ids lasts ss id0 id)
+last_changed to last ids lasts sessions id0 id =
+    ap last_of (session_changed to ids sessions id0 id) ∙ last_step to last lasts (eqb id0 id) (session_of sessions id)
 
 -- ---- the others
 

@@ -2,5 +2,6 @@ pub mod Carried
 pub mod JournalLemmas
 pub mod KeptLemmas
 pub mod LastRequests
+pub mod NoticeLemmas
 pub mod SessionPlaces
 pub mod WordFronts

@@ -1,5 +1,5 @@
 -- What an entry of the journal does, and what is told of it.
-use Rattle.std.specs.Prelude.{◌≡◌, ◌≢◌, ℕ, suc, ◌||◌, ◌&&◌, ◌==◌, not, Bool, true, false, cond, nat_lt, List, [], ◌∷◌, ◌++◌, codes}
+use Rattle.std.specs.Prelude.{◌≡◌, ℕ, suc, ◌||◌, ◌&&◌, ◌==◌, not, Bool, true, false, cond, nat_lt, List, [], ◌∷◌, ◌++◌, codes}
 use Rattle.std.specs.Prelude.{length, Option, Some, None}
 use Rattle.std.specs.Str.{bytes_eq}
 use Rattle.std.specs.Fmt.{decimal}
@@ -94,13 +94,16 @@ LeavesSlot v p all next =
     (said : List Said) × (d : DeskValue) × Says v.desk (codes "leave " ++ name_of v.desk.names.processes p) said d
     × (all ≡ all_notices (with_desk v 0 d) said) × (next ≡ after_all (with_desk v 0 d) said)
 
+-- so it does, if it is one of the session's
+abbrev pub LeavesIf : Bool → ServiceValue → ℕ → List Told → ServiceValue → Type 0
+LeavesIf true v p all next = LeavesSlot v p all next
+LeavesIf false v p all next = (all ≡ []) × (next ≡ v)
+
 -- of the first n slots the jobs of a session leave
 pub data Leaves (id : ℕ) (v : ServiceValue) : ℕ → List Told → ServiceValue → Type 0 where
   nothing : Leaves id v 0 [] v
-  leaves : (n : ℕ) (all more : List Told) (mid next : ServiceValue)
-      → Leaves id v n all mid → owner_at mid n ≡ id → LeavesSlot mid n more next → Leaves id v (suc n) (all ++ more) next
-  stays : (n : ℕ) (all : List Told) (mid : ServiceValue)
-      → Leaves id v n all mid → owner_at mid n ≢ id → Leaves id v (suc n) all mid
+  one_more : (n : ℕ) (all more : List Told) (mid next : ServiceValue)
+      → Leaves id v n all mid → LeavesIf (owner_at mid n == id) mid n more next → Leaves id v (suc n) (all ++ more) next
 
 -- a session ends, if it is there: it is gone, and then its jobs leave, in the order of their slots
 abbrev pub Ends : Option SessionValue → ServiceValue → (id : ℕ) → List Told → ServiceValue → Type 0

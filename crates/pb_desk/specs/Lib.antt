@@ -1,5 +1,6 @@
 pub mod Applies
 pub mod Journals
+pub mod Notices
 pub mod Refusals
 pub mod Services
 pub mod Sessions

@@ -70,7 +70,7 @@ pub(crate) fn tell_refusal(
 
 impl Service {
     /// Returns whether the request with a number was carried out, of a session that is there.
-    fn is_done(&self, id: u64, number: u64) -> Option<bool>
+    pub(crate) fn is_done(&self, id: u64, number: u64) -> Option<bool>
         ensures { result ≡ spec.done_of (session_of self.now.sessions id) number }
     {
         done_of(&self.sessions, id, number)

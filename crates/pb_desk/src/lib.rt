@@ -5,6 +5,7 @@
 mod answers;
 mod begin;
 mod commands;
+mod end;
 mod kept;
 pub mod laws;
 mod notices;

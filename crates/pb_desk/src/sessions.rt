@@ -90,3 +90,10 @@ pub(crate) fn put_answer_of(
     };
     sessions[p].put_answer(out, number)
 }
+
+/// Removes a session.
+pub(crate) fn remove(sessions: &mut Vec<Session>, id: u64)
+    ensures { sessions.new.items ≡ spec.others sessions.old.items id }
+{
+    sessions.retain(|session| !session.is_of(id));
+}
