@@ -1,4 +1,5 @@
 pub mod Carried
+pub mod FieldLemmas
 pub mod JournalLemmas
 pub mod KeptLemmas
 pub mod LastRequests

@@ -8,20 +8,14 @@ use Rattle.pb_bank.specs.Answers.{AnswersLine, line_words}
 use Rattle.pb_bank.specs.Desks.{DeskValue}
 use Rattle.pb_bank.specs.Sayings.{sayings_of}
 use Rattle.pb_bank.specs.declared.said.Said.{Said}
+pub use Rattle.pb_desk.specs.Entries.{EntryValue, Begin, End, Command, Declare}
+use Rattle.pb_desk.specs.Entries.{entry_of}
 use Rattle.pb_desk.specs.Refusals.{refusal_of, refusal_text, verb_of}
 use Rattle.pb_desk.specs.Services.{ServiceValue, owner_at, with_desk, answer_text, answer_to, with_answer, all_notices, after_all}
 use Rattle.pb_desk.specs.Sessions.{SessionValue, session_of, text_of, others, fresh}
 use Rattle.pb_desk.specs.declared.refusal.Refusal.{Refusal}
 use Rattle.pb_desk.specs.declared.refusal.Refusal.TheVariants.{OfOperators, NoSession, NotKept}
 use Rattle.pb_desk.specs.declared.told.Told.{Told}
-
--- an entry of the journal: a session begins, with a key and the seconds of its lease; it ends; a command of a session, with the
--- number of the request, which is 0 if the answer is not to be kept, and whether it is an operator's; a resource of the first start
-pub data EntryValue : Type 0 where
-  Begin : (id : ℕ) → (key : List ℕ) → (lease : ℕ) → EntryValue
-  End : (id : ℕ) → EntryValue
-  Command : (id number : ℕ) → (by_operator : Bool) → (line : List ℕ) → EntryValue
-  Declare : (line : List ℕ) → EntryValue
 
 -- the desk answers a line, and says so much
 abbrev pub Says : DeskValue → (line : List ℕ) → List Said → DeskValue → Type 0
@@ -130,3 +124,11 @@ Applies v (End id) all next = Ends (session_of v.sessions id) v id all next
 Applies v (Command id number by_operator line) all next =
     Commands (session_of v.sessions id) v id number by_operator line all next
 Applies v (Declare line) all next = Declares (bytes_eq (verb_of line) (codes "resource")) v line all next
+
+-- so does a line that spells one; any other line does nothing
+abbrev pub AppliesIf : Option EntryValue → ServiceValue → List Told → ServiceValue → Type 0
+AppliesIf None v all next = (all ≡ []) × (next ≡ v)
+AppliesIf (Some entry) v all next = Applies v entry all next
+
+abbrev pub AppliesLine : ServiceValue → (line : List ℕ) → List Told → ServiceValue → Type 0
+AppliesLine v line all next = AppliesIf (entry_of line) v all next

@@ -1,4 +1,5 @@
 pub mod Applies
+pub mod Entries
 pub mod Journals
 pub mod Notices
 pub mod Refusals

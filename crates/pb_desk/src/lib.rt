@@ -3,9 +3,11 @@
 #![tactic(auto)]
 
 mod answers;
+mod apply;
 mod begin;
 mod commands;
 mod end;
+mod entry;
 mod kept;
 pub mod laws;
 mod notices;
@@ -17,6 +19,7 @@ mod sessions;
 mod told;
 mod words;
 
+pub use entry::{Entry, entry_of};
 pub use refusal::Refusal;
 pub use service::Service;
 pub use session::Session;

@@ -40,7 +40,7 @@ fn word_length(text: &[u8]) -> usize
 }
 
 /// Returns the first bytes of a text.
-fn front<'t>(text: &'t [u8], count: usize) -> &'t [u8]
+pub(crate) fn front<'t>(text: &'t [u8], count: usize) -> &'t [u8]
     requires { count ≤ length text.now }
     ensures { result.now ≡ take count text.now }
 {
@@ -49,7 +49,7 @@ fn front<'t>(text: &'t [u8], count: usize) -> &'t [u8]
 }
 
 /// Returns a text without its first bytes.
-fn back<'t>(text: &'t [u8], count: usize) -> &'t [u8]
+pub(crate) fn back<'t>(text: &'t [u8], count: usize) -> &'t [u8]
     requires { count ≤ length text.now }
     ensures { result.now ≡ drop count text.now }
 {
