@@ -1,5 +1,5 @@
 -- What a command comes to, from the steps of carrying it out.
-use Rattle.std.proofs.Common.{Vec, Global, ◌≡◌, ℕ, ◌++◌, Bool, true, false, List, [], ◌∷◌, map, length, Option, Some, None, refl, sym, ap, ◌∙◌, subst, append_assoc}
+use Rattle.std.proofs.Common.{Vec, Global, ◌≡◌, ℕ, ◌++◌, List, [], ◌∷◌, map, length, None, refl, sym, ap, ◌∙◌, subst, append_assoc}
 use Rattle.std.proofs.lemmas.List.{length-map}
 use Rattle.std.specs.Prelude.{codes}
 use Rattle.pb_base.specs.Lines.{NameTable, name_of, names_view}
@@ -7,11 +7,8 @@ use Rattle.pb_base.specs.declared.names.Names.{Names}
 use Rattle.pb_bank.specs.Desks.{DeskValue}
 use Rattle.pb_bank.specs.declared.said.Said.{Said}
 use Rattle.pb_desk.specs.Applies.{CarriesOut, LeavesSlot, Says, of_wishes}
-use Rattle.pb_desk.specs.Refusals.{refusal_of, refusal_text}
 use Rattle.pb_desk.specs.Services.{ServiceValue, after_each, all_notices, answer_text, answer_to, notices_of_all, owners_below, with_desk}
-use Rattle.pb_desk.specs.Sessions.{SessionValue, answered, changed, text_of}
-use Rattle.pb_desk.specs.declared.refusal.Refusal.{Refusal}
-use Rattle.pb_desk.specs.declared.refusal.Refusal.TheVariants.{NoSession}
+use Rattle.pb_desk.specs.Sessions.{SessionValue, answered, changed}
 use Rattle.pb_desk.specs.declared.told.Told.{Told}
 
 -- the names of the slots, in a table of bytes

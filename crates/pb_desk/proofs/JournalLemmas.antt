@@ -7,12 +7,12 @@ use Rattle.std.specs.Str.{bytes_eq}
 use Rattle.pb_base.specs.Lines.{NameTable}
 use Rattle.pb_bank.specs.declared.said.Said.{Said}
 use Rattle.pb_bank.specs.declared.said.Said.TheVariants as told
-use Rattle.pb_desk.specs.Applies.{EntryValue, Begin, End, Command, Declare, Applies, AnswersOnce, Begins, CarriesOut, Commands, Declares, Ends}
+use Rattle.pb_desk.specs.Applies.{EntryValue, Begin, End, Command, Declare, Applies, AnswersOnce, BeginsSession, CarriesOut, Commands, Declares, Ends}
 use Rattle.pb_desk.specs.Applies.{Leaves, LeavesIf, LeavesSlot, nothing, one_more, is_done, of_wishes}
-use Rattle.pb_desk.specs.Journals.{InTwo, Runs, JobsOfOthersStay, JournalsGoOn, JournalsPart, RequestsAreCarriedOutOnce}
+use Rattle.pb_desk.specs.Journals.{JournalInTwo, Runs, JobsOfOthersStay, JournalsGoOn, JournalsPart, RequestsAreCarriedOutOnce}
 use Rattle.pb_desk.specs.Refusals.{is_another, is_reserved, owner_of, refusal_of, subject_of, verb_of}
 use Rattle.pb_desk.specs.Services.{ServiceValue, owner_at, after_all, after_each, after_one, granted_text, with_answer, with_desk}
-use Rattle.pb_desk.specs.Sessions.{SessionValue, answered, fresh, noted, others, session_of, with_one}
+use Rattle.pb_desk.specs.Sessions.{SessionValue, answered, just_begun, noted, sessions_but, session_of, with_one}
 use Rattle.pb_desk.specs.declared.refusal.Refusal.{Refusal}
 use Rattle.pb_desk.specs.declared.refusal.Refusal.TheVariants.{OfAnother, OfOperators, Reserved}
 use Rattle.pb_desk.specs.declared.told.Told.{Told}
@@ -34,7 +34,7 @@ journals_go_on v mid next (entry ∷ entries) later all more runs after = (
 )
 
 in_two : (v next : ServiceValue) (entries later : List EntryValue) (all : List Told) → Runs v (entries ++ later) all next
-    → InTwo v entries later all next
+    → JournalInTwo v entries later all next
 in_two v next [] later all runs = ([], all, v, (refl, refl), runs, refl)
 in_two v next (entry ∷ entries) later all runs =
     let r = in_two runs.2 next entries later runs.1 runs.4 in (
@@ -214,7 +214,7 @@ begin_case None false last a c i new is = absurd (cc)
 begin_case (Some k) b last a c i new is = let y : k ≡ last = cc in omega arith
 
 begins_grow : (b : Bool) (v next : ServiceValue) (id : ℕ) (key : List ℕ) (lease : ℕ) (all : List Told) → ltb v.newest id ≡ b
-    → Begins b v id key lease all next → Grows v next
+    → BeginsSession b v id key lease all next → Grows v next
 begins_grow false v next id key lease all test c = grows_same v next c.1
 begins_grow true v next id key lease all test c =
     let lt = ltb-true v.newest id test in
@@ -223,7 +223,7 @@ begins_grow true v next id key lease all test c =
       newest = omega arith;
       each = λ i last at.
           let of : or_new (last_in v i) (eqb id i) 0 ≡ Some last =
-          sym (ap (λ (s : ServiceValue). last_in s i) c.1 ∙ last_more v.sessions (fresh id key lease) i) ∙ at in
+          sym (ap (λ (s : ServiceValue). last_in s i) c.1 ∙ last_more v.sessions (just_begun id key lease) i) ∙ at in
           begin_case (last_in v i) (eqb id i) last v.newest next.newest i
           (λ own. let who : id ≡ i = eqb-true id i own in (omega arith, omega arith)) of;
     }
@@ -233,7 +233,7 @@ gone_case true o last a c i is = absurd (cc)
 gone_case false None last a c i is = absurd (cc)
 gone_case false (Some k) last a c i is = let y : k ≡ last = cc in omega arith
 
-gone_grows : (v : ServiceValue) (id : ℕ) → Grows v (record v { sessions = others v.sessions id })
+gone_grows : (v : ServiceValue) (id : ℕ) → Grows v (record v { sessions = sessions_but v.sessions id })
 gone_grows v id = record {
   newest = omega arith;
   each = λ i last at.
@@ -258,7 +258,7 @@ leaves_grow id v bound n all next (one_more m first more mid end before leaving)
 ends_grow : (o : Option SessionValue) (v next : ServiceValue) (id : ℕ) (all : List Told) → Bounded v → Ends o v id all next → Grows v next
 ends_grow None v next id all bound c = grows_same v next c.1
 ends_grow (Some s) v next id all bound c =
-    let gone : ServiceValue = record v { sessions = others v.sessions id } in
+    let gone : ServiceValue = record v { sessions = sessions_but v.sessions id } in
     let first = gone_grows v id in
     grows_two v gone next bound first (leaves_grow id gone (bounded_next v gone bound first) (length v.owners) c.0 next c.1)
 
@@ -376,11 +376,13 @@ refused : (v : ServiceValue) (id : ℕ) (by : Bool) (line : List ℕ) → bytes_
     → (x : Refusal) × (refusal_of v id by line ≡ Some x)
 refused v id by line job capital another =
     let r = refused_by (bytes_eq (verb_of line) (codes "resource")) (bytes_eq (verb_of line) (codes "capital"))
-    (bytes_eq (verb_of line) (codes "job")) by (is_reserved (subject_of line)) capital job in
-    (r.0, ap (λ (t : Bool). cond (bytes_eq (verb_of line) (codes "resource")) (Some OfOperators) (
-    cond (bytes_eq (verb_of line) (codes "capital")) (cond by None (Some OfOperators)) (
-    cond (bytes_eq (verb_of line) (codes "job")) (cond (is_reserved (subject_of line)) (Some Reserved) None) (
-    cond t (Some OfAnother) None)))) another ∙ r.1)
+    (bytes_eq (verb_of line) (codes "job")) by (is_reserved (subject_of line)) capital job in (
+      r.0,
+      ap (λ (t : Bool). cond (bytes_eq (verb_of line) (codes "resource")) (Some OfOperators) (
+          cond (bytes_eq (verb_of line) (codes "capital")) (cond by None (Some OfOperators)) (
+          cond (bytes_eq (verb_of line) (codes "job")) (cond (is_reserved (subject_of line)) (Some Reserved) None) (
+          cond t (Some OfAnother) None)))) another ∙ r.1,
+    )
 
 same_by : (b : Bool) (s : SessionValue) (v next : ServiceValue) (id number : ℕ) (by : Bool) (line : List ℕ) (all : List Told) (x : Refusal)
     → refusal_of v id by line ≡ Some x → AnswersOnce b s v id number by line all next → (next.desk ≡ v.desk) × (next.owners ≡ v.owners)

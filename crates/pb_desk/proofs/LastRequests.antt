@@ -1,7 +1,7 @@
 -- The last requests of the sessions.
 use Rattle.std.proofs.Common.{◌≡◌, ℕ, eqb, not, Bool, true, false, cond, List, [], ◌∷◌, ◌++◌, Option, Some, None, refl, sym, ap, ◌∙◌}
 use Rattle.std.proofs.lemmas.Bool.{eqb-true, eqb-false}
-use Rattle.pb_desk.specs.Sessions.{SessionValue, changed, others, session_of}
+use Rattle.pb_desk.specs.Sessions.{SessionValue, changed, sessions_but, session_of}
 
 -- the number of the last request
 abbrev pub last_of : Option SessionValue → Option ℕ
@@ -94,10 +94,10 @@ others_step s ss fs id0 id false false false ea eb ec ih =
 
 -- a session that has gone has none, and the others keep theirs
 pub last_others : (sessions : List SessionValue) (id0 id : ℕ)
-    → last_of (session_of (others sessions id0) id) ≡ cond (eqb id0 id) None (last_of (session_of sessions id))
+    → last_of (session_of (sessions_but sessions id0) id) ≡ cond (eqb id0 id) None (last_of (session_of sessions id))
 last_others [] id0 id = gone (eqb id0 id) None refl
 last_others (s ∷ ss) id0 id =
-    others_step s ss (others ss id0) id0 id (eqb s.id id0) (eqb s.id id) (eqb id0 id) refl refl refl (last_others ss id0 id)
+    others_step s ss (sessions_but ss id0) id0 id (eqb s.id id0) (eqb s.id id) (eqb id0 id) refl refl refl (last_others ss id0 id)
 
 -- ---- one more
 

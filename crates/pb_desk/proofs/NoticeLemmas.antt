@@ -9,13 +9,13 @@ use Rattle.pb_bank.specs.declared.request.Request.{Request}
 use Rattle.pb_bank.specs.declared.said.Said.{Said}
 use Rattle.pb_bank.specs.declared.said.Said.TheVariants as told
 use Rattle.pb_desk.specs.Applies.{AnswersOnce, CarriesOut, Commands, Says, is_done, of_wishes}
-use Rattle.pb_desk.specs.Notices.{GrantsAreToldOnce, TellsGrants, TellsNobody, granted_to, notices_to, numbered}
+use Rattle.pb_desk.specs.Notices.{GrantsAreToldOnce, TellsGrants, TellsNobody, granted_to, notices_to, numbered_from}
 use Rattle.pb_desk.specs.Refusals.{refusal_of}
-use Rattle.pb_desk.specs.Services.{ServiceValue, after_one, granted_text, notice_to, notices_of_all, with_desk}
+use Rattle.pb_desk.specs.Services.{ServiceValue, granted_text, notice_to, notices_of_all, with_desk}
 use Rattle.pb_desk.specs.Sessions.{KeptValue, SessionValue, changed, noted, session_of}
 use Rattle.pb_desk.specs.declared.refusal.Refusal.{Refusal}
 use Rattle.pb_desk.specs.declared.told.Told.{Told}
-use Rattle.pb_desk.specs.declared.told.Told.TheVariants.{Answer, Notice}
+use Rattle.pb_desk.specs.declared.told.Told.TheVariants.{Answer}
 use Rattle.pb_desk.proofs.LastRequests.{changed_one, session_changed}
 
 id_by : (one : SessionValue) (sessions : List SessionValue) (id : ℕ) (s : SessionValue) → (session_of sessions id ≡ Some s → s.id ≡ id)
@@ -51,10 +51,10 @@ own_step sessions text owner id s rest later own at is =
 grant_step : (owners : List ℕ) (names : NameTable) (sessions : List SessionValue) (w : Request) (said : List Said) (id : ℕ) (s : SessionValue)
     → ((t : SessionValue) → session_of (changed (λ x. noted x (granted_text names w)) sessions (slice_index_or owners w.job 0)) id ≡ Some t
     → notices_to id (notices_of_all owners names (changed (λ x. noted x (granted_text names w)) sessions (slice_index_or owners w.job 0)) said)
-    ≡ numbered (t.noted + 1) (map (granted_text names) (granted_to owners id said)))
+    ≡ numbered_from (t.noted + 1) (map (granted_text names) (granted_to owners id said)))
     → session_of sessions id ≡ Some s → (b : Bool) → eqb (slice_index_or owners w.job 0) id ≡ b
     → notices_to id (notices_of_all owners names sessions (told.Granted w ∷ said))
-    ≡ numbered (s.noted + 1)
+    ≡ numbered_from (s.noted + 1)
     (map (granted_text names) (cond b (w ∷ granted_to owners id said) (granted_to owners id said)))
 grant_step owners names sessions w said id s ih at true own =
     let text = granted_text names w in
@@ -81,7 +81,7 @@ grant_step owners names sessions w said id s ih at false own =
 grants : (owners : List ℕ) (names : NameTable) (sessions : List SessionValue) (said : List Said) (id : ℕ) (s : SessionValue)
     → session_of sessions id ≡ Some s
     → notices_to id (notices_of_all owners names sessions said)
-    ≡ numbered (s.noted + 1) (map (granted_text names) (granted_to owners id said))
+    ≡ numbered_from (s.noted + 1) (map (granted_text names) (granted_to owners id said))
 grants owners names sessions [] id s at = refl
 grants owners names sessions (told.Granted w ∷ said) id s at =
     grant_step owners names sessions w said id s
@@ -111,8 +111,8 @@ carried_tells None v next id number line all c =
       λ k s at.
           ap (notices_to k) c.3
           ∙ (grants with'.owners d.names v.sessions told k s at
-          ∙ (ap (λ (o : List ℕ). numbered (s.noted + 1) (map (granted_text d.names) (granted_to o k told))) (sym owners)
-          ∙ ap (λ (e : DeskValue). numbered (s.noted + 1) (map (granted_text e.names) (granted_to next.owners k told))) (sym desk))),
+          ∙ (ap (λ (o : List ℕ). numbered_from (s.noted + 1) (map (granted_text d.names) (granted_to o k told))) (sym owners)
+          ∙ ap (λ (e : DeskValue). numbered_from (s.noted + 1) (map (granted_text e.names) (granted_to next.owners k told))) (sym desk))),
     )
 
 once_tells : (b : Bool) (s : SessionValue) (v next : ServiceValue) (id number : ℕ) (by : Bool) (line : List ℕ) (all : List Told)

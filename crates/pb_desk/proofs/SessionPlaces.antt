@@ -9,16 +9,16 @@ use Rattle.pb_bank.specs.declared.request.Request.{Request}
 use Rattle.pb_bank.specs.declared.said.Said.{Said}
 use Rattle.pb_bank.specs.declared.said.Said.TheVariants as told
 use Rattle.pb_desk.specs.Services.{after_one, notice_to, notices_of}
-use Rattle.pb_desk.specs.Sessions.{SessionValue, changed, place_from, session_of}
+use Rattle.pb_desk.specs.Sessions.{SessionValue, changed, session_place, session_of}
 use Rattle.pb_desk.specs.declared.told.Told.TheVariants.{Notice}
 
 -- the next session has the number, or one of those after it
 pub place_next : (sessions : List SessionValue) (id i : ℕ) (s : SessionValue) (b : Bool) → i < length sessions → s ≡ get_or sessions i s
-    → eqb s.id id ≡ b → place_from i (drop i sessions) id ≡ cond b (Some i) (place_from (i + 1) (drop (i + 1) sessions) id)
+    → eqb s.id id ≡ b → session_place i (drop i sessions) id ≡ cond b (Some i) (session_place (i + 1) (drop (i + 1) sessions) id)
 place_next sessions id i s b lt is same =
     let n : suc i ≡ i + 1 = omega arith in
-    let later : ℕ → Option ℕ = λ k. place_from k (drop k sessions) id in
-    ap (λ (ss : List SessionValue). place_from i ss id) (drop-cons sessions i s lt)
+    let later : ℕ → Option ℕ = λ k. session_place k (drop k sessions) id in
+    ap (λ (ss : List SessionValue). session_place i ss id) (drop-cons sessions i s lt)
     ∙ (ap (λ (m : SessionValue). cond (eqb m.id id) (Some i) (later (suc i))) (sym is)
     ∙ (ap (λ (t : Bool). cond t (Some i) (later (suc i))) same ∙ ap (λ k. cond b (Some i) (later k)) n))
 
@@ -32,8 +32,8 @@ pub record FoundAt (sessions : List SessionValue) (id i p : ℕ) : Type 0 where
   pub is : (d : SessionValue) → (get_or sessions place d).id ≡ id
 
 found_by : (s : SessionValue) (sessions : List SessionValue) (id i p : ℕ)
-    → (place_from (suc i) sessions id ≡ Some p → FoundAt sessions id (suc i) p) → (b : Bool) → eqb s.id id ≡ b
-    → cond b (Some i) (place_from (suc i) sessions id) ≡ Some p → FoundAt (s ∷ sessions) id i p
+    → (session_place (suc i) sessions id ≡ Some p → FoundAt sessions id (suc i) p) → (b : Bool) → eqb s.id id ≡ b
+    → cond b (Some i) (session_place (suc i) sessions id) ≡ Some p → FoundAt (s ∷ sessions) id i p
 found_by s sessions id i p further true same at =
     let n : i ≡ p = cc in
     record {
@@ -56,7 +56,7 @@ found_by s sessions id i p further false same at =
       is = λ d. later.is d;
     }
 
-pub found : (sessions : List SessionValue) (id i p : ℕ) → place_from i sessions id ≡ Some p → FoundAt sessions id i p
+pub found : (sessions : List SessionValue) (id i p : ℕ) → session_place i sessions id ≡ Some p → FoundAt sessions id i p
 found [] id i p at = absurd (cc)
 found (s ∷ sessions) id i p at = found_by s sessions id i p (found sessions id (suc i) p) (eqb s.id id) refl at
 
@@ -66,8 +66,8 @@ pub record Missing (sessions : List SessionValue) (id : ℕ) : Type 0 where
   pub same : (to : SessionValue → SessionValue) → changed to sessions id ≡ sessions
 
 missing_by : (s : SessionValue) (sessions : List SessionValue) (id i : ℕ)
-    → (place_from (suc i) sessions id ≡ None → Missing sessions id) → (b : Bool) → eqb s.id id ≡ b
-    → cond b (Some i) (place_from (suc i) sessions id) ≡ None → Missing (s ∷ sessions) id
+    → (session_place (suc i) sessions id ≡ None → Missing sessions id) → (b : Bool) → eqb s.id id ≡ b
+    → cond b (Some i) (session_place (suc i) sessions id) ≡ None → Missing (s ∷ sessions) id
 missing_by s sessions id i further true same at = absurd (cc)
 missing_by s sessions id i further false same at =
     let later = further at in
@@ -78,7 +78,7 @@ missing_by s sessions id i further false same at =
           ∙ ap (λ (ss : List SessionValue). s ∷ ss) (later.same to);
     }
 
-pub missing : (sessions : List SessionValue) (id i : ℕ) → place_from i sessions id ≡ None → Missing sessions id
+pub missing : (sessions : List SessionValue) (id i : ℕ) → session_place i sessions id ≡ None → Missing sessions id
 missing [] id i at = record { none = refl; same = λ to. refl }
 missing (s ∷ sessions) id i at = missing_by s sessions id i (missing sessions id (suc i)) (eqb s.id id) refl at
 
@@ -86,7 +86,7 @@ missing (s ∷ sessions) id i at = missing_by s sessions id i (missing sessions 
 
 -- the session at the place of one has changed
 pub changed_at : (to : SessionValue → SessionValue) (sessions : List SessionValue) (id p : ℕ) (d new : SessionValue)
-    → place_from 0 sessions id ≡ Some p → d ≡ get_or sessions p d → new ≡ to d → set sessions p new ≡ changed to sessions id
+    → session_place 0 sessions id ≡ Some p → d ≡ get_or sessions p d → new ≡ to d → set sessions p new ≡ changed to sessions id
 changed_at to sessions id p d new at here is =
     let f = found sessions id 0 p at in
     let n : p ≡ 0 + f.place = f.number in
@@ -96,7 +96,7 @@ changed_at to sessions id p d new at here is =
 
 -- and a notice to it has its number
 pub told_at : (sessions : List SessionValue) (id p : ℕ) (d : SessionValue) (number : ℕ) (text : List ℕ)
-    → place_from 0 sessions id ≡ Some p → d ≡ get_or sessions p d → number ≡ d.noted + 1
+    → session_place 0 sessions id ≡ Some p → d ≡ get_or sessions p d → number ≡ d.noted + 1
     → notice_to (session_of sessions id) text ≡ Notice (record { session = id; number = number; text = text }) ∷ []
 told_at sessions id p d number text at here is =
     let f = found sessions id 0 p at in
@@ -108,7 +108,7 @@ told_at sessions id p d number text at here is =
     ∙ (ap (λ k. Notice (record { session = k; number = d.noted + 1; text = text }) ∷ []) who
     ∙ ap (λ k. Notice (record { session = id; number = k; text = text }) ∷ []) (sym is))
 
-pub here_at : (sessions : List SessionValue) (id p : ℕ) (d : SessionValue) → place_from 0 sessions id ≡ Some p → d ≡ get_or sessions p d
+pub here_at : (sessions : List SessionValue) (id p : ℕ) (d : SessionValue) → session_place 0 sessions id ≡ Some p → d ≡ get_or sessions p d
     → session_of sessions id ≡ Some d
 here_at sessions id p d at here =
     let f = found sessions id 0 p at in

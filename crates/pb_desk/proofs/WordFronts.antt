@@ -1,5 +1,5 @@
 -- The first word of a text.
-use Rattle.std.proofs.Common.{◌≡◌, ℕ, ◌<◌, ◌≤◌, List, [], ◌∷◌, length, take, refl, sym, ap, ◌∙◌, arith}
+use Rattle.std.proofs.Common.{◌≡◌, ℕ, ◌<◌, ◌≤◌, ◌||◌, Bool, true, false, List, [], ◌∷◌, length, take, refl, sym, ap, ◌∙◌, arith}
 use Rattle.std.proofs.lemmas.List.{length-take-le, nil_from_length}
 use Rattle.pb_bank.specs.Answers.{first_of}
 use Rattle.pb_bank.specs.Words.{before, words_of}
@@ -18,3 +18,7 @@ front_first text word n words some le is are =
 
 pub none_first : (text : List ℕ) → length text ≡ 0 → text ≡ first_of (words_of text)
 none_first text empty = nil_from_length text empty ∙ sym (ap first_of (no_words text empty))
+
+pub neither : (a b : Bool) → a || b ≡ false → (a ≡ false) × (b ≡ false)
+neither true b e = absurd (cc)
+neither false b e = (refl, e)

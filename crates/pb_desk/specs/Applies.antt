@@ -9,10 +9,10 @@ use Rattle.pb_bank.specs.Desks.{DeskValue}
 use Rattle.pb_bank.specs.Sayings.{sayings_of}
 use Rattle.pb_bank.specs.declared.said.Said.{Said}
 pub use Rattle.pb_desk.specs.Entries.{EntryValue, Begin, End, Command, Declare}
-use Rattle.pb_desk.specs.Entries.{entry_of}
+use Rattle.pb_desk.specs.Entries.{entry_in}
 use Rattle.pb_desk.specs.Refusals.{refusal_of, refusal_text, verb_of}
 use Rattle.pb_desk.specs.Services.{ServiceValue, owner_at, with_desk, answer_text, answer_to, with_answer, all_notices, after_all}
-use Rattle.pb_desk.specs.Sessions.{SessionValue, session_of, text_of, others, fresh}
+use Rattle.pb_desk.specs.Sessions.{SessionValue, session_of, text_of, sessions_but, just_begun}
 use Rattle.pb_desk.specs.declared.refusal.Refusal.{Refusal}
 use Rattle.pb_desk.specs.declared.refusal.Refusal.TheVariants.{OfOperators, NoSession, NotKept}
 use Rattle.pb_desk.specs.declared.told.Told.{Told}
@@ -51,14 +51,14 @@ done_of None number = None
 done_of (Some s) number = Some (is_done s number)
 
 -- the answer that is kept
-abbrev pub kept_text : Option (List ℕ) → List ℕ
-kept_text None = refusal_text NotKept
-kept_text (Some text) = text
+abbrev pub text_again : Option (List ℕ) → List ℕ
+text_again None = refusal_text NotKept
+text_again (Some text) = text
 
 -- a request that was carried out is answered again, and changes nothing
 abbrev pub AnswersOnce : Bool → SessionValue → ServiceValue → (id number : ℕ) → (by_operator : Bool) → (line : List ℕ) → List Told → ServiceValue → Type 0
 AnswersOnce true s v id number by_operator line all next =
-    (all ≡ answer_to id number (kept_text (text_of s.answers number)) ∷ []) × (next ≡ v)
+    (all ≡ answer_to id number (text_again (text_of s.answers number)) ∷ []) × (next ≡ v)
 AnswersOnce false s v id number by_operator line all next =
     CarriesOut (refusal_of v id by_operator line) v id number line all next
 
@@ -76,11 +76,11 @@ session_text id key lease =
     line (codes "session " ++ decimal id ++ codes " " ++ key ++ codes " " ++ decimal lease) ++ line (codes "ready")
 
 -- a session begins whose number is higher than any before
-abbrev pub Begins : Bool → ServiceValue → (id : ℕ) → (key : List ℕ) → (lease : ℕ) → List Told → ServiceValue → Type 0
-Begins false v id key lease all next = (all ≡ answer_to id 0 (refusal_text NoSession) ∷ []) × (next ≡ v)
-Begins true v id key lease all next =
+abbrev pub BeginsSession : Bool → ServiceValue → (id : ℕ) → (key : List ℕ) → (lease : ℕ) → List Told → ServiceValue → Type 0
+BeginsSession false v id key lease all next = (all ≡ answer_to id 0 (refusal_text NoSession) ∷ []) × (next ≡ v)
+BeginsSession true v id key lease all next =
     (all ≡ answer_to id 0 (session_text id key lease) ∷ [])
-    × (next ≡ record v { sessions = v.sessions ++ fresh id key lease ∷ []; newest = id })
+    × (next ≡ record v { sessions = v.sessions ++ just_begun id key lease ∷ []; newest = id })
 
 -- the job of a slot leaves, and each session whose job has a wish granted is told so
 abbrev pub LeavesSlot : ServiceValue → ℕ → List Told → ServiceValue → Type 0
@@ -103,7 +103,7 @@ pub data Leaves (id : ℕ) (v : ServiceValue) : ℕ → List Told → ServiceVal
 abbrev pub Ends : Option SessionValue → ServiceValue → (id : ℕ) → List Told → ServiceValue → Type 0
 Ends None v id all next = (all ≡ answer_to id 0 (refusal_text NoSession) ∷ []) × (next ≡ v)
 Ends (Some s) v id all next =
-    (notices : List Told) × Leaves id (record v { sessions = others v.sessions id }) (length v.owners) notices next
+    (notices : List Told) × Leaves id (record v { sessions = sessions_but v.sessions id }) (length v.owners) notices next
     × (all ≡ answer_to id 0 (line (codes "ready")) ∷ notices)
 
 -- ---- resources
@@ -119,7 +119,7 @@ Declares true v line all next =
 
 -- what an entry does
 abbrev pub Applies : ServiceValue → EntryValue → List Told → ServiceValue → Type 0
-Applies v (Begin id key lease) all next = Begins (nat_lt v.newest id) v id key lease all next
+Applies v (Begin id key lease) all next = BeginsSession (nat_lt v.newest id) v id key lease all next
 Applies v (End id) all next = Ends (session_of v.sessions id) v id all next
 Applies v (Command id number by_operator line) all next =
     Commands (session_of v.sessions id) v id number by_operator line all next
@@ -131,4 +131,4 @@ AppliesIf None v all next = (all ≡ []) × (next ≡ v)
 AppliesIf (Some entry) v all next = Applies v entry all next
 
 abbrev pub AppliesLine : ServiceValue → (line : List ℕ) → List Told → ServiceValue → Type 0
-AppliesLine v line all next = AppliesIf (entry_of line) v all next
+AppliesLine v line all next = AppliesIf (entry_in line) v all next

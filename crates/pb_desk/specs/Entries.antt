@@ -57,16 +57,16 @@ command_from by_operator None number line = None
 command_from by_operator (Some id) None line = None
 command_from by_operator (Some id) (Some number) line = Some (Command id number by_operator line)
 
-abbrev pub command_of : (by_operator : Bool) → List ℕ → Option EntryValue
-command_of by_operator text =
+abbrev pub command_entry : (by_operator : Bool) → List ℕ → Option EntryValue
+command_entry by_operator text =
     command_from by_operator (number_of (field_of text)) (number_of (field_of (after_field text))) (after_field (after_field text))
 
 -- the entry that a line spells, by its first field: `O S KEY T` begins a session, `E S` ends it, `C S N COMMAND` is a command of it,
 -- `P S N COMMAND` one of an operator, and `A COMMAND` is of the first start
-abbrev pub entry_of : List ℕ → Option EntryValue
-entry_of line =
-    cond (bytes_eq (field_of line) (codes "C")) (command_of false (after_field line)) (
-    cond (bytes_eq (field_of line) (codes "P")) (command_of true (after_field line)) (
+abbrev pub entry_in : List ℕ → Option EntryValue
+entry_in line =
+    cond (bytes_eq (field_of line) (codes "C")) (command_entry false (after_field line)) (
+    cond (bytes_eq (field_of line) (codes "P")) (command_entry true (after_field line)) (
     cond (bytes_eq (field_of line) (codes "O")) (begin_of (after_field line)) (
     cond (bytes_eq (field_of line) (codes "E")) (end_from (number_of (after_field line))) (
     cond (bytes_eq (field_of line) (codes "A")) (Some (Declare (after_field line))) None))))

@@ -23,8 +23,8 @@ JournalsGoOn =
     → Runs v entries all mid → Runs mid later more next → Runs v (entries ++ later) (all ++ more) next
 
 -- the entries before one and those after it
-abbrev pub InTwo : ServiceValue → List EntryValue → List EntryValue → List Told → ServiceValue → Type 0
-InTwo v entries later all next =
+abbrev pub JournalInTwo : ServiceValue → List EntryValue → List EntryValue → List Told → ServiceValue → Type 0
+JournalInTwo v entries later all next =
     (first : List Told) × (second : List Told) × (mid : ServiceValue)
     × Runs v entries first mid × Runs mid later second next × (all ≡ first ++ second)
 
@@ -32,7 +32,7 @@ InTwo v entries later all next =
 abbrev pub JournalsPart : Type 0
 JournalsPart =
     (v next : ServiceValue) (entries later : List EntryValue) (all : List Told)
-    → Runs v (entries ++ later) all next → InTwo v entries later all next
+    → Runs v (entries ++ later) all next → JournalInTwo v entries later all next
 
 -- a request with a number is carried out once: once it was answered, to a session that is there, then whatever else happens, it
 -- changes nothing when it comes again

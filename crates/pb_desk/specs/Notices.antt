@@ -1,5 +1,5 @@
 -- Which notices come of a command.
-use Rattle.std.specs.Prelude.{◌≡◌, ◌⊎◌, ℕ, ◌+◌, ◌==◌, Bool, cond, List, [], ◌∷◌, map, slice_index_or, Option, Some}
+use Rattle.std.specs.Prelude.{◌≡◌, ◌⊎◌, ℕ, ◌+◌, ◌==◌, Bool, cond, List, [], ◌∷◌, map, slice_index_or, Some}
 use Rattle.pb_bank.specs.declared.request.Request.{Request}
 use Rattle.pb_bank.specs.declared.said.Said.{Said}
 use Rattle.pb_bank.specs.declared.said.Said.TheVariants as told
@@ -24,9 +24,9 @@ granted_to owners id (told.Granted w ∷ said) =
 granted_to owners id (one ∷ said) = granted_to owners id said
 
 -- texts with numbers that go up from one
-abbrev pub numbered : ℕ → List (List ℕ) → List KeptValue
-numbered from [] = []
-numbered from (text ∷ texts) = record { number = from; text = text } ∷ numbered (from + 1) texts
+abbrev pub numbered_from : ℕ → List (List ℕ) → List KeptValue
+numbered_from from [] = []
+numbered_from from (text ∷ texts) = record { number = from; text = text } ∷ numbered_from (from + 1) texts
 
 -- each session that is there is told each wish of its jobs that the bank has granted, once, in the order in which it granted them,
 -- and is told nothing else
@@ -34,7 +34,7 @@ abbrev pub TellsGrants : ServiceValue → (line : List ℕ) → List Told → Se
 TellsGrants v line all next =
     (said : List Said) × Says v.desk line said next.desk
     × ((id : ℕ) (s : SessionValue) → session_of v.sessions id ≡ Some s
-    → notices_to id all ≡ numbered (s.noted + 1) (map (granted_text next.desk.names) (granted_to next.owners id (of_wishes line said))))
+    → notices_to id all ≡ numbered_from (s.noted + 1) (map (granted_text next.desk.names) (granted_to next.owners id (of_wishes line said))))
 
 -- the bank is not asked, and nobody is sent a notice
 abbrev pub TellsNobody : ServiceValue → List Told → ServiceValue → Type 0

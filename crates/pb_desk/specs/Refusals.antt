@@ -44,13 +44,13 @@ refusal_of v id by_operator line =
 -- ---- texts
 
 -- the words of a refusal
-abbrev pub refusal_words : Refusal → List ℕ
-refusal_words OfAnother = codes "refused S3 the job belongs to another session"
-refusal_words OfOperators = codes "refused S4 only an operator changes the capital, and resources are declared at the first start"
-refusal_words NoSession = codes "refused S5 no such session, or not its key"
-refusal_words NotKept = codes "refused S6 the answer to this request is no longer kept"
-refusal_words Reserved = codes "refused S11 names that begin with -hole- are the server's"
+abbrev pub words_of_refusal : Refusal → List ℕ
+words_of_refusal OfAnother = codes "refused S3 the job belongs to another session"
+words_of_refusal OfOperators = codes "refused S4 only an operator changes the capital, and resources are declared at the first start"
+words_of_refusal NoSession = codes "refused S5 no such session, or not its key"
+words_of_refusal NotKept = codes "refused S6 the answer to this request is no longer kept"
+words_of_refusal Reserved = codes "refused S11 names that begin with -hole- are the server's"
 
 -- the text of an answer that is a refusal
 abbrev pub refusal_text : Refusal → List ℕ
-refusal_text refusal = line (refusal_words refusal) ++ line (codes "ready")
+refusal_text refusal = line (words_of_refusal refusal) ++ line (codes "ready")

@@ -24,8 +24,8 @@ pub record SessionValue : Type 0 where
   pub notices : List KeptValue
 
 -- a session that has just begun
-abbrev pub fresh : (id : ℕ) → (key : List ℕ) → (lease : ℕ) → SessionValue
-fresh id key lease = record { id = id; key = key; lease = lease; last = 0; answers = []; noted = 0; notices = [] }
+abbrev pub just_begun : (id : ℕ) → (key : List ℕ) → (lease : ℕ) → SessionValue
+just_begun id key lease = record { id = id; key = key; lease = lease; last = 0; answers = []; noted = 0; notices = [] }
 
 -- ---- what is kept
 
@@ -56,9 +56,9 @@ session_of [] id = None
 session_of (s ∷ sessions) id = cond (s.id == id) (Some s) (session_of sessions id)
 
 -- its place, where the first of all has the place i
-abbrev pub place_from : ℕ → List SessionValue → (id : ℕ) → Option ℕ
-place_from i [] id = None
-place_from i (s ∷ sessions) id = cond (s.id == id) (Some i) (place_from (suc i) sessions id)
+abbrev pub session_place : ℕ → List SessionValue → (id : ℕ) → Option ℕ
+session_place i [] id = None
+session_place i (s ∷ sessions) id = cond (s.id == id) (Some i) (session_place (suc i) sessions id)
 
 -- the sessions of which this one has changed
 abbrev pub changed : (SessionValue → SessionValue) → List SessionValue → (id : ℕ) → List SessionValue
@@ -66,5 +66,5 @@ changed to [] id = []
 changed to (s ∷ sessions) id = cond (s.id == id) (to s ∷ sessions) (s ∷ changed to sessions id)
 
 -- the others
-abbrev pub others : List SessionValue → (id : ℕ) → List SessionValue
-others sessions id = filter (λ s. not (s.id == id)) sessions
+abbrev pub sessions_but : List SessionValue → (id : ℕ) → List SessionValue
+sessions_but sessions id = filter (λ s. not (s.id == id)) sessions

@@ -34,7 +34,12 @@ fn put_lines(out: &mut Vec<u8>, names: &Names, text: &[u8], all: &[Said]) -> Res
 }
 
 /// Returns the text of what the desk said of a line.
-pub(crate) fn text_of(desk: &Desk, alloc: Global, line: &[u8], said: &[Said]) -> Result<Vec<u8>, NoMemory>
+pub(crate) fn text_of(
+    desk: &Desk,
+    alloc: Global,
+    line: &[u8],
+    said: &[Said],
+) -> Result<Vec<u8>, NoMemory>
     ensures { IfOk result (λ text. text.items ≡ answer_text desk.now line.now said.now) }
 {
     let mut text = Vec::new(alloc);

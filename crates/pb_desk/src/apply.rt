@@ -5,8 +5,8 @@ ghost use Rattle.pb_desk.specs.Applies as spec;
 ghost use Rattle.pb_desk.specs.Entries.{entry_view};
 ghost use Rattle.pb_desk.specs.declared.told.Told.{Told};
 
-use crate::entry::{Entry, entry_of};
 use crate::answers::copy_of;
+use crate::entry::{Entry, entry_in};
 use crate::service::Service;
 use crate::told::Told;
 use pb_base::NoMemory;
@@ -38,7 +38,7 @@ impl Service {
         ensures { OnOk result ((all : List Told) × spec.AppliesLine self.old line.now all self.new
             × (out.new.items ≡ out.old.items ++ all)) }
     {
-        match entry_of(line) {
+        match entry_in(line) {
             Some(entry) => self.apply_entry(out, entry),
             None => Ok(()),
         }

@@ -64,7 +64,8 @@ impl Service {
         let mut text = Vec::new(self.alloc);
         put_session(&mut text, id, &key, lease)?;
         tell_answer(out, self.alloc, id, 0, &text)?;
-        self.sessions.push(Session::new(self.alloc, id, key, lease))?;
+        self.sessions
+            .push(Session::new(self.alloc, id, key, lease))?;
         self.newest = id;
         Ok(())
     }

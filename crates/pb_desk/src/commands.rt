@@ -79,7 +79,7 @@ impl Service {
     /// Returns the answer to a request that was carried out.
     fn kept_answer(&self, id: u64, number: u64) -> Result<Vec<u8>, NoMemory>
         ensures { IfOk result (λ text. (s : SessionValue) → session_of self.now.sessions id ≡ Some s
-            → text.items ≡ spec.kept_text (text_of s.answers number)) }
+            → text.items ≡ spec.text_again (text_of s.answers number)) }
     {
         let mut text = Vec::new(self.alloc);
         put_answer_of(&self.sessions, &mut text, id, number)?;

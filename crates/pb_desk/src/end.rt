@@ -4,7 +4,7 @@ ghost use Rattle.std.specs.Prelude.{◌≡◌, ◌==◌, ◌++◌, List, codes, 
 ghost use Rattle.pb_base.specs.Lines.{name_of};
 ghost use Rattle.pb_desk.specs.Applies as spec;
 ghost use Rattle.pb_desk.specs.Services.{owner_at};
-ghost use Rattle.pb_desk.specs.Sessions.{others};
+ghost use Rattle.pb_desk.specs.Sessions.{sessions_but};
 ghost use Rattle.pb_desk.specs.declared.told.Told.{Told};
 
 use crate::answers::ask;
@@ -16,26 +16,18 @@ use crate::service::Service;
 use crate::sessions::remove;
 use crate::told::Told;
 use pb_base::NoMemory;
-use pb_base::writing::put_name;
+use pb_base::writing::put;
 use std::alloc::Global;
-
-/// Returns the name with a number, which is empty if there is none.
-fn name_at<'t>(names: &'t [Vec<u8>], number: usize) -> &'t [u8]
-    ensures { result.now ≡ name_of (map (λ name. name.items) names.now) number }
-{
-    if number < names.len() {
-        names[number].as_slice()
-    } else {
-        b""
-    }
-}
 
 /// Returns the command by which the job of a slot leaves.
 fn leave_line(alloc: Global, names: &[Vec<u8>], p: usize) -> Result<Vec<u8>, NoMemory>
     ensures { IfOk result (λ line. line.items ≡ codes "leave " ++ name_of (map (λ name. name.items) names.now) p) }
 {
     let mut line = Vec::new(alloc);
-    put_name(&mut line, b"leave ", name_at(names, p))?;
+    put(&mut line, b"leave ")?;
+    if p < names.len() {
+        put(&mut line, names[p].as_slice())?;
+    }
     Ok(line)
 }
 
@@ -92,7 +84,7 @@ impl Service {
 
     /// Removes a session and returns the number of slots that it may have jobs in.
     fn forget(&mut self, id: u64) -> usize
-        ensures after { self.new ≡ record self.old { sessions = others self.old.sessions id } }
+        ensures after { self.new ≡ record self.old { sessions = sessions_but self.old.sessions id } }
         ensures slots { result ≡ length self.old.owners }
     {
         remove(&mut self.sessions, id);

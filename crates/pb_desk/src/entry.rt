@@ -100,8 +100,8 @@ fn end_of<'t>(text: &'t [u8]) -> Option<Entry<'t>>
 }
 
 /// Returns the entry of a command.
-fn command_of<'t>(by_operator: bool, text: &'t [u8]) -> Option<Entry<'t>>
-    ensures { option_map entry_view result ≡ spec.command_of by_operator text.now }
+fn command_entry<'t>(by_operator: bool, text: &'t [u8]) -> Option<Entry<'t>>
+    ensures { option_map entry_view result ≡ spec.command_entry by_operator text.now }
 {
     let session = cut(text);
     let request = cut(session.rest);
@@ -122,15 +122,15 @@ fn is(word: &[u8], text: &str) -> bool
 }
 
 /// Returns the entry that a line spells.
-pub fn entry_of<'t>(line: &'t [u8]) -> Option<Entry<'t>>
-    ensures { option_map entry_view result ≡ spec.entry_of line.now }
+pub fn entry_in<'t>(line: &'t [u8]) -> Option<Entry<'t>>
+    ensures { option_map entry_view result ≡ spec.entry_in line.now }
 {
     let kind = cut(line);
     if is(kind.first, "C") {
-        return command_of(false, kind.rest);
+        return command_entry(false, kind.rest);
     }
     if is(kind.first, "P") {
-        return command_of(true, kind.rest);
+        return command_entry(true, kind.rest);
     }
     if is(kind.first, "O") {
         return begin_of(kind.rest);

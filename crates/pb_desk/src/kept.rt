@@ -1,7 +1,7 @@
 //! Texts that are kept with their numbers.
 
 ghost use Rattle.std.specs.Prelude.{◌≡◌, ◌++◌, OnOk};
-ghost use Rattle.pb_desk.specs.Applies.{kept_text};
+ghost use Rattle.pb_desk.specs.Applies.{text_again};
 ghost use Rattle.pb_desk.specs.Sessions.{text_of, with_one};
 
 use crate::refusal::{Refusal, put_refusal};
@@ -40,7 +40,7 @@ pub(crate) fn keep(kept: &mut Vec<Kept>, one: Kept) -> Result<(), NoMemory>
 
 /// Appends the text with a number to `out`, or that it is no longer kept.
 pub(crate) fn put_kept(out: &mut Vec<u8>, kept: &[Kept], number: u64) -> Result<(), NoMemory>
-    ensures { OnOk result (out.new.items ≡ out.old.items ++ kept_text (text_of kept.now number)) }
+    ensures { OnOk result (out.new.items ≡ out.old.items ++ text_again (text_of kept.now number)) }
 {
     for one in kept {
         if one.number == number {

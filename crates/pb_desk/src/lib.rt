@@ -19,7 +19,7 @@ mod sessions;
 mod told;
 mod words;
 
-pub use entry::{Entry, entry_of};
+pub use entry::{Entry, entry_in};
 pub use refusal::Refusal;
 pub use service::Service;
 pub use session::Session;

@@ -23,11 +23,12 @@ pub enum Refusal {
 
 /// Returns the words of a refusal.
 fn words_of(refusal: Refusal) -> &'static [u8]
-    ensures { result.now ≡ spec.refusal_words refusal }
+    ensures { result.now ≡ spec.words_of_refusal refusal }
 {
     match refusal {
         Refusal::OfAnother => b"refused S3 the job belongs to another session",
-        Refusal::OfOperators => b"refused S4 only an operator changes the capital, and resources are declared at the first start",
+        Refusal::OfOperators =>
+            b"refused S4 only an operator changes the capital, and resources are declared at the first start",
         Refusal::NoSession => b"refused S5 no such session, or not its key",
         Refusal::NotKept => b"refused S6 the answer to this request is no longer kept",
         Refusal::Reserved => b"refused S11 names that begin with -hole- are the server's",

@@ -32,10 +32,10 @@ impl Model for Service {
     ghost Value = { ServiceValue };
 
     ghost view = { λ v. record {
-        desk = v.desk;
-        owners = v.owners.items;
-        sessions = v.sessions.items;
-        newest = v.newest;
+      desk = v.desk;
+      owners = v.owners.items;
+      sessions = v.sessions.items;
+      newest = v.newest;
     } };
 }
 
@@ -69,12 +69,24 @@ impl Service {
             return Some(Refusal::OfOperators);
         }
         if begins_with(line, "capital") {
-            return if by_operator { None } else { Some(Refusal::OfOperators) };
+            return if by_operator {
+                None
+            } else {
+                Some(Refusal::OfOperators)
+            };
         }
         if begins_with(line, "job") {
-            return if is_reserved(subject(line)) { Some(Refusal::Reserved) } else { None };
+            return if is_reserved(subject(line)) {
+                Some(Refusal::Reserved)
+            } else {
+                None
+            };
         }
-        if self.is_of_another(id, subject(line)) { Some(Refusal::OfAnother) } else { None }
+        if self.is_of_another(id, subject(line)) {
+            Some(Refusal::OfAnother)
+        } else {
+            None
+        }
     }
 }
 

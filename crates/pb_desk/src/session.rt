@@ -1,7 +1,7 @@
 //! A session.
 
 ghost use Rattle.std.specs.Prelude.{◌≡◌, ◌+◌, ◌==◌, ◌++◌, IfOk, OnOk};
-ghost use Rattle.pb_desk.specs.Applies.{is_done, kept_text};
+ghost use Rattle.pb_desk.specs.Applies.{is_done, text_again};
 ghost use Rattle.pb_desk.specs.Sessions as spec;
 
 use crate::kept::{Kept, keep, put_kept};
@@ -27,20 +27,20 @@ impl Model for Session {
     ghost Value = { SessionValue };
 
     ghost view = { λ s. record {
-        id = s.id;
-        key = s.key.items;
-        lease = s.lease;
-        last = s.last;
-        answers = s.answers.items;
-        noted = s.noted;
-        notices = s.notices.items;
+      id = s.id;
+      key = s.key.items;
+      lease = s.lease;
+      last = s.last;
+      answers = s.answers.items;
+      noted = s.noted;
+      notices = s.notices.items;
     } };
 }
 
 impl Session {
     /// Returns a session that has just begun.
     pub(crate) fn new(alloc: Global, id: u64, key: Vec<u8>, lease: u64) -> Session
-        ensures { result ≡ spec.fresh id key.items lease }
+        ensures { result ≡ spec.just_begun id key.items lease }
     {
         Session {
             id,
@@ -69,7 +69,7 @@ impl Session {
 
     /// Appends the answer to a request that was carried out to `out`, or that it is no longer kept.
     pub(crate) fn put_answer(&self, out: &mut Vec<u8>, number: u64) -> Result<(), NoMemory>
-        ensures { OnOk result (out.new.items ≡ out.old.items ++ kept_text (spec.text_of self.now.answers number)) }
+        ensures { OnOk result (out.new.items ≡ out.old.items ++ text_again (spec.text_of self.now.answers number)) }
     {
         put_kept(out, &self.answers, number)
     }

@@ -14,7 +14,7 @@ use std::alloc::Global;
 
 /// Returns the place of the session with a number.
 pub(crate) fn place_of(sessions: &[Session], id: u64) -> Option<usize>
-    ensures place { result ≡ spec.place_from 0 sessions.now id }
+    ensures place { result ≡ spec.session_place 0 sessions.now id }
     ensures within { IfSome result (λ p. p < length sessions.now) }
 {
     for i in 0..sessions.len() {
@@ -83,7 +83,7 @@ pub(crate) fn put_answer_of(
     number: u64,
 ) -> Result<(), NoMemory>
     ensures { OnOk result ((s : SessionValue) → spec.session_of sessions.now id ≡ Some s
-        → out.new.items ≡ out.old.items ++ applies.kept_text (spec.text_of s.answers number)) }
+        → out.new.items ≡ out.old.items ++ applies.text_again (spec.text_of s.answers number)) }
 {
     let Some(p) = place_of(sessions, id) else {
         return Ok(());
@@ -93,7 +93,7 @@ pub(crate) fn put_answer_of(
 
 /// Removes a session.
 pub(crate) fn remove(sessions: &mut Vec<Session>, id: u64)
-    ensures { sessions.new.items ≡ spec.others sessions.old.items id }
+    ensures { sessions.new.items ≡ spec.sessions_but sessions.old.items id }
 {
     sessions.retain(|session| !session.is_of(id));
 }

@@ -8,37 +8,6 @@ ghost use Rattle.pb_desk.specs.Refusals.{subject_of, verb_of};
 
 use pb_bank::{after_command, is_blank};
 
-/// Returns the number of blanks that a text begins with.
-#[tactic(auto, using(pb_bank::proofs::WordLemmas::skip_blank, pb_bank::proofs::WordLemmas::trim_blank, pb_bank::proofs::WordLemmas::trim_ends, pb_bank::proofs::WordLemmas::trim_nothing))]
-fn blanks(text: &[u8]) -> usize
-    ensures bound { result ≤ length text.now }
-    ensures words { spec.words_of (drop result text.now) ≡ spec.words_of text.now }
-    ensures trimmed { spec.trimmed text.now ≡ drop result text.now }
-    ensures ends { result < length text.now → spec.is_blank (slice_index text.now result) ≡ false }
-{
-    for i in 0..text.len() {
-        if !is_blank(text[i]) {
-            return i;
-        }
-    }
-    text.len()
-}
-
-/// Returns the number of bytes before the first blank or comma.
-#[tactic(auto, using(pb_bank::proofs::WordLemmas::word_more, pb_bank::proofs::WordLemmas::starts))]
-fn word_length(text: &[u8]) -> usize
-    ensures bound { result ≤ length text.now }
-    ensures words { spec.words_of text.now ≡ spec.cut_words (take result text.now) (drop result text.now) }
-    ensures ends { result < length text.now → spec.ends_word (slice_index text.now result) ≡ true }
-{
-    for i in 0..text.len() {
-        if is_blank(text[i]) || text[i] == b',' {
-            return i;
-        }
-    }
-    text.len()
-}
-
 /// Returns the first bytes of a text.
 pub(crate) fn front<'t>(text: &'t [u8], count: usize) -> &'t [u8]
     requires { count ≤ length text.now }
@@ -57,19 +26,29 @@ pub(crate) fn back<'t>(text: &'t [u8], count: usize) -> &'t [u8]
     rest
 }
 
+/// Returns whether a byte ends a word.
+fn ends_word(b: u8) -> bool
+    ensures { result ≡ spec.ends_word b }
+{
+    is_blank(b) || b == b','
+}
+
 /// Returns the first word of a text that does not begin with a blank.
 fn word_at_once<'t>(text: &'t [u8]) -> &'t [u8]
     requires { 0 < length text.now → spec.is_blank (slice_index text.now 0) ≡ false }
     ensures { result.now ≡ first_of (spec.words_of text.now) }
 {
-    if text.is_empty() {
-        return text;
+    for i in 0..text.len() {
+        let ends = ends_word(text[i]);
+        if ends {
+            // A comma is a word.
+            if i == 0 {
+                return front(text, 1);
+            }
+            return front(text, i);
+        }
     }
-    let length = word_length(text);
-    if length == 0 {
-        return front(text, 1);
-    }
-    front(text, length)
+    text
 }
 
 /// Returns the first word of a text, which is empty if there is none.
@@ -77,9 +56,12 @@ fn first_word<'t>(text: &'t [u8]) -> &'t [u8]
     ensures first { result.now ≡ first_of (spec.words_of text.now) }
     ensures trimmed { spec.words_of (spec.trimmed text.now) ≡ spec.words_of text.now }
 {
-    let count = blanks(text);
-    let rest = back(text, count);
-    word_at_once(rest)
+    for i in 0..text.len() {
+        if !is_blank(text[i]) {
+            return word_at_once(back(text, i));
+        }
+    }
+    back(text, text.len())
 }
 
 /// Returns the word that a line begins with.

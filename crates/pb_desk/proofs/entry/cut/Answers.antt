@@ -1,7 +1,5 @@
-use Rattle.std.proofs.Common.{◌≡◌, ◌++◌, List, ℕ, [], eqb, true, false, take, drop, length, get_or, sym, ap, ◌∙◌, arith, append-nil}
+use Rattle.std.proofs.Common.{◌≡◌, eqb, true, false, get_or, sym, ◌∙◌, arith}
 use Rattle.std.proofs.lemmas.Bool.{eq-eqb, ne_eqb}
-use Rattle.std.proofs.lemmas.List.{drop_all, take_all}
-use Rattle.pb_desk.specs.Entries.{after_field, field_of}
 use Rattle.pb_desk.proofs.FieldLemmas.{after_ends, after_more, field_ends, field_more}
 use Rattle.pb_desk.proofs.entry.cut.Goals as goal
 

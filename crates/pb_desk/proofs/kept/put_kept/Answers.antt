@@ -2,7 +2,7 @@ use Rattle.std.proofs.Common.{◌≡◌, ◌++◌, ℕ, List, Option, Some, None
 use Rattle.std.proofs.lemmas.Bool.{eq-eqb}
 use Rattle.std.proofs.lemmas.List.{drop_all}
 use Rattle.pb_base.proofs.Results.{on_ok}
-use Rattle.pb_desk.specs.Applies.{kept_text}
+use Rattle.pb_desk.specs.Applies.{text_again}
 use Rattle.pb_desk.specs.Sessions.{KeptValue, text_of}
 use Rattle.pb_desk.proofs.KeptLemmas.{text_next}
 use Rattle.pb_desk.proofs.kept.put_kept.Goals as goal
@@ -18,7 +18,7 @@ returns-then-one-number c =
     let text : c.deref.result.now ≡ one.text = c.deref.ensures.value ∙ ap (λ (k : KeptValue). k.text) c.one.view_is in
     on_ok c.put.result _ _ c.put.ensures
     (λ p. p ∙ (ap (λ (o : List ℕ). o ++ c.deref.result.now) c.loop-one.invariant.out
-    ∙ ap (λ (t : List ℕ). c.args.out.now.items ++ t) (text ∙ sym (ap kept_text found))))
+    ∙ ap (λ (t : List ℕ). c.args.out.now.items ++ t) (text ∙ sym (ap text_again found))))
 
 pub returns : goal.returns
 returns c =
@@ -27,5 +27,5 @@ returns c =
     c.loop-one.invariant.same
     ∙ ap (λ (k : List KeptValue). text_of k c.args.number) (drop_all c.loop-one.one-index kept (omega arith)) in
     on_ok c.put_refusal.result _ _ c.put_refusal.ensures
-    (λ p. p ∙ (ap (λ (o : List ℕ). o ++ kept_text None) c.loop-one.invariant.out
-    ∙ sym (ap (λ (t : Option (List ℕ)). c.args.out.now.items ++ kept_text t) none)))
+    (λ p. p ∙ (ap (λ (o : List ℕ). o ++ text_again None) c.loop-one.invariant.out
+    ∙ sym (ap (λ (t : Option (List ℕ)). c.args.out.now.items ++ text_again t) none)))

@@ -1,6 +1,6 @@
 use Rattle.std.proofs.Common.{◌≡◌, eqb, List, true, false, sym, ap, ◌∙◌, arith}
 use Rattle.std.proofs.lemmas.List.{drop_all}
-use Rattle.pb_desk.specs.Sessions.{SessionValue, place_from}
+use Rattle.pb_desk.specs.Sessions.{SessionValue, session_place}
 use Rattle.pb_desk.proofs.SessionPlaces.{place_next}
 use Rattle.pb_desk.proofs.sessions.place_of.Goals as goal
 
@@ -19,4 +19,4 @@ loop-i-preserved c =
 pub returns-clause-place : goal.returns-clause-place
 returns-clause-place c =
     sym (c.loop-i.invariant
-    ∙ ap (λ (ss : List SessionValue). place_from c.loop-i.i ss c.args.id) (drop_all c.loop-i.i c.args.sessions.now (omega arith)))
+    ∙ ap (λ (ss : List SessionValue). session_place c.loop-i.i ss c.args.id) (drop_all c.loop-i.i c.args.sessions.now (omega arith)))

@@ -1,6 +1,6 @@
 use Rattle.std.proofs.Common.{◌≡◌, ◌++◌, None, Some, sym, ap, ◌∙◌}
 use Rattle.pb_base.proofs.Results.{on_ok}
-use Rattle.pb_desk.specs.Applies.{kept_text}
+use Rattle.pb_desk.specs.Applies.{text_again}
 use Rattle.pb_desk.specs.Sessions.{SessionValue, text_of}
 use Rattle.pb_desk.proofs.SessionPlaces.{here_at, missing}
 use Rattle.pb_desk.proofs.sessions.put_answer_of.Goals as goal
@@ -18,4 +18,4 @@ returns c =
     on_ok c.put_answer.result _ _ c.put_answer.ensures (λ is s there.
     let both : Some d ≡ Some s = sym here ∙ there in
     let same : d ≡ s = cc in
-    is ∙ ap (λ (x : SessionValue). c.args.out.now.items ++ kept_text (text_of x.answers c.args.number)) same)
+    is ∙ ap (λ (x : SessionValue). c.args.out.now.items ++ text_again (text_of x.answers c.args.number)) same)

@@ -1,27 +1,42 @@
-use Rattle.std.proofs.Common.{◌≡◌, ◌<◌, length, get_or, sym, ap, ◌∙◌, arith}
-use Rattle.std.proofs.lemmas.Bool.{eqb-true, eqb-false}
+use Rattle.std.proofs.Common.{◌≡◌, ◌<◌, length, get_or, sym, ap, ◌∙◌, arith, inl, inr}
+use Rattle.std.proofs.lemmas.Bool.{cases_lt}
+use Rattle.std.proofs.lemmas.List.{take_all}
 use Rattle.pb_bank.specs.Words.{ends_word}
-use Rattle.pb_bank.proofs.WordLemmas.{comma_first, word_ends}
-use Rattle.pb_desk.proofs.WordFronts.{front_first, none_first}
+use Rattle.pb_bank.proofs.WordLemmas.{comma_first, starts, word_ends, word_more}
+use Rattle.pb_desk.proofs.WordFronts.{front_first, neither, none_first}
 use Rattle.pb_desk.proofs.words.word_at_once.Goals as goal
 
-pub returns-then-is_empty : goal.returns-then-is_empty
-returns-then-is_empty c =
-    none_first c.args.text.now (eqb-true (length c.args.text.now) 0 (sym c.is_empty.ensures ∙ c.if-is_empty.true))
+pub loop-i-init : goal.loop-i-init
+loop-i-init c = starts c.args.text.now
 
-pub returns-then-length-eq0 : goal.returns-then-length-eq0
-returns-then-length-eq0 c =
+pub loop-i-preserved : goal.loop-i-preserved
+loop-i-preserved c =
+    let parts = neither _ _ (sym c.ends_word-ends.ensures ∙ c.if-ends.false) in
+    c.loop-i.invariant ∙ word_more c.args.text.now c.loop-i.i (omega arith) parts.0 parts.1
+
+pub returns-then-i-eq0 : goal.returns-then-i-eq0
+returns-then-i-eq0 c =
     let text = c.args.text.now in
-    let some' : length text ≡ 0 → ⊥ = eqb-false (length text) 0 (sym c.is_empty.ensures ∙ c.if-is_empty.false) in
-    let some : 0 < length text = omega (arith, some') in
-    let none : c.word_length-length.result ≡ 0 = omega arith in
-    let ends = c.word_length-length.ensures.ends (omega (arith, some, none)) in
+    let some : 0 < length text = omega arith in
+    let none : c.loop-i.i ≡ 0 = omega arith in
     front_first text c.front.result.now 1 _ (omega arith) (omega (arith, some)) c.front.ensures
-    (comma_first text some (c.requires some) (ap (λ n. ends_word (get_or text n 0)) (sym none) ∙ ends))
+    (comma_first text some (c.requires some)
+    (ap (λ n. ends_word (get_or text n 0)) (sym none) ∙ (sym c.ends_word-ends.ensures ∙ c.if-ends.true)))
+
+pub returns-then-ends : goal.returns-then-ends
+returns-then-ends c =
+    let text = c.args.text.now in
+    front_first text c.front-then-ends.result.now c.loop-i.i _ (omega arith) (omega arith) c.front-then-ends.ensures
+    (word_ends text c.loop-i.i (omega arith) c.loop-i.invariant (λ lt. sym c.ends_word-ends.ensures ∙ c.if-ends.true))
 
 pub returns : goal.returns
 returns c =
     let text = c.args.text.now in
-    front_first text c.front-2.result.now c.word_length-length.result _ (omega arith) c.word_length-length.ensures.bound c.front-2.ensures
-    (word_ends text c.word_length-length.result c.word_length-length.ensures.bound c.word_length-length.ensures.words
-    c.word_length-length.ensures.ends)
+    let n = c.loop-i.i in
+    let end : length text ≡ n = omega arith in
+    elim (cases_lt 0 (length text)) [
+      | inl some ↦
+          front_first text text n _ (omega (arith, some, end)) (omega arith) (sym (take_all n text (omega arith)))
+          (word_ends text n (omega arith) c.loop-i.invariant (λ lt. absurd (omega arith)))
+      | inr none ↦ none_first text (omega (arith, none))
+    ]

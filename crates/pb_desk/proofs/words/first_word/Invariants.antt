@@ -1,6 +1,6 @@
 use Rattle.std.proofs.Common.{◌≡◌, drop}
 use Rattle.pb_bank.specs.Words.{trimmed, words_of}
-use Rattle.pb_desk.proofs.words.blanks.Given as goal
+use Rattle.pb_desk.proofs.words.first_word.Given as goal
 
 abbrev pub invariant-loop-i : goal.invariant-loop-i
 invariant-loop-i l = record {
