@@ -12,20 +12,26 @@ use pb_words::Options;
 /// A file with a program, a line `%%` and a text that is refused, with its name, in each layout.
 const AS_JSON: &[u8] =
     b"Content-Length: 4\r\n\r\njsonContent-Length: 9\r\n\r\nfile a.pbContent-Length: 55\r\n\r\nprocess p begin skip end\n%%\nprocess q begin print y end";
+
 const AS_GCC: &[u8] =
     b"Content-Length: 3\r\n\r\ngccContent-Length: 9\r\n\r\nfile a.pbContent-Length: 55\r\n\r\nprocess p begin skip end\n%%\nprocess q begin print y end";
+
 const AS_SARIF: &[u8] =
     b"Content-Length: 9\r\n\r\nsarif 1.0Content-Length: 9\r\n\r\nfile a.pbContent-Length: 55\r\n\r\nprocess p begin skip end\n%%\nprocess q begin print y end";
 
 /// What is told of them, or how it begins.
 const JSON: &[u8] =
     b"{\"file\": \"a.pb\", \"text\": 1, \"accepted\": true}\n{\"file\": \"a.pb\", \"text\": 2, \"accepted\": false, \"code\": \"N3\", \"refusal\": \"refused N3 at 22\", \"message\": \"integer y is not declared in process q\", \"offset\": 50, \"line\": 3, \"column\": 23";
+
 const GCC: &[u8] = b"a.pb:3:23: error: N3: integer y is not declared in process q\n";
+
 const SARIF: &[u8] =
     b"{\n  \"$schema\": \"https://json.schemastore.org/sarif-2.1.0.json\",\n  \"version\": \"2.1.0\",\n  \"runs\": [\n    {\n      \"tool\": {\n        \"driver\": {\n          \"name\": \"parbegin\",\n          \"rules\": [\n            {\n              \"id\": \"N3\"";
 
 /// A file that cannot be read and one that is too long, as JSON.
-const UNREAD: &[u8] = b"Content-Length: 4\r\n\r\njsonContent-Length: 8\r\n\r\nunread aContent-Length: 4\r\n\r\ngoneContent-Length: 6\r\n\r\nlong bContent-Length: 0\r\n\r\n";
+const UNREAD: &[u8] =
+    b"Content-Length: 4\r\n\r\njsonContent-Length: 8\r\n\r\nunread aContent-Length: 4\r\n\r\ngoneContent-Length: 6\r\n\r\nlong bContent-Length: 0\r\n\r\n";
+
 const OF_UNREAD: &[u8] =
     b"{\"file\": \"a\", \"accepted\": false, \"read\": false, \"message\": \"gone\"}\n{\"file\": \"b\", \"text\": 1, \"accepted\": false, \"code\": \"input\", \"refusal\": \"refused input\", \"message\": \"the input is longer than 4194304 bytes\", \"places\": [], \"expected\": [], \"hints\": [], \"notes\": []}\nrefused 1\n";
 
