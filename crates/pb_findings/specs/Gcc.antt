@@ -33,13 +33,13 @@ note_gcc name place kind words = place_gcc name place ++ ((codes "note: " ++ kin
 -- ---- places
 
 -- the line and the column of a place
-abbrev pub place_at : Spot → At
-place_at spot = record { line = spot.line; column = spot.column }
+abbrev pub start_of_spot : Spot → At
+start_of_spot spot = record { line = spot.line; column = spot.column }
 
 -- those of the first of some; of none the begin of the file
-abbrev pub begin_of : List Spot → At
-begin_of [] = record { line = 1; column = 1 }
-begin_of (first ∷ others) = place_at first
+abbrev pub first_start : List Spot → At
+first_start [] = record { line = 1; column = 1 }
+first_start (first ∷ others) = start_of_spot first
 
 -- what there is to say of a place that is not the first
 abbrev pub what_else : (what : List ℕ) → List ℕ
@@ -48,7 +48,7 @@ what_else (b ∷ bytes) = b ∷ bytes
 
 -- the note of such a place
 abbrev pub further_gcc : (name : List ℕ) → Spot → List ℕ
-further_gcc name spot = note_gcc name (place_at spot) [] (what_else (string_bytes spot.what))
+further_gcc name spot = note_gcc name (start_of_spot spot) [] (what_else (string_bytes spot.what))
 
 -- the note of the first one, if there is more to say of it than the message
 abbrev pub first_gcc : (name : List ℕ) → At → (what : List ℕ) → List ℕ
@@ -58,22 +58,22 @@ first_gcc name place (b ∷ bytes) = note_gcc name place [] (b ∷ bytes)
 -- the notes of places
 abbrev pub spots_gcc : (name : List ℕ) → List Spot → List ℕ
 spots_gcc name [] = []
-spots_gcc name (first ∷ others) = first_gcc name (place_at first) (string_bytes first.what) ++ flat_map (further_gcc name) others
+spots_gcc name (first ∷ others) = first_gcc name (start_of_spot first) (string_bytes first.what) ++ flat_map (further_gcc name) others
 
 -- ---- findings
 
 -- a refusal: where and what it is, its other places, and what else there is to say
 abbrev pub refusal_gcc : (name : List ℕ) → Refusal → List ℕ
 refusal_gcc name r =
-    head_gcc name (begin_of (spots_of r)) (codes "error") (rule_name r.rule) (string_bytes r.message)
+    head_gcc name (first_start (spots_of r)) (codes "error") (rule_name r.rule) (string_bytes r.message)
     ++ (spots_gcc name (spots_of r)
-    ++ (flat_map (λ words. note_gcc name (begin_of (spots_of r)) [] (string_bytes words)) r.notes.items
-    ++ (flat_map (λ words. note_gcc name (begin_of (spots_of r)) (codes "expected: ") (string_bytes words)) r.expected.items
-    ++ flat_map (λ words. note_gcc name (begin_of (spots_of r)) (codes "hint: ") (string_bytes words)) r.hints.items)))
+    ++ (flat_map (λ words. note_gcc name (first_start (spots_of r)) [] (string_bytes words)) r.notes.items
+    ++ (flat_map (λ words. note_gcc name (first_start (spots_of r)) (codes "expected: ") (string_bytes words)) r.expected.items
+    ++ flat_map (λ words. note_gcc name (first_start (spots_of r)) (codes "hint: ") (string_bytes words)) r.hints.items)))
 
 -- a warning
 abbrev pub warned_gcc : (name : List ℕ) → Warned → List ℕ
-warned_gcc name w = head_gcc name (place_at w.spot) (codes "warning") (code_name w.code) (string_bytes w.message)
+warned_gcc name w = head_gcc name (start_of_spot w.spot) (codes "warning") (code_name w.code) (string_bytes w.message)
 
 -- what comes of a text: of one that is accepted its warnings
 abbrev pub verdict_gcc : (name : List ℕ) → Verdict → List ℕ

@@ -7,7 +7,7 @@ use Rattle.pb_command_io.specs.Answers.{memory_line}
 use Rattle.pb_command_io.specs.Parts.{IsCutAt, IsMarkAt}
 use Rattle.pb_command_io.specs.declared.status.Status.{Status}
 use Rattle.pb_command_io.specs.declared.status.Status.TheVariants as status
-use Rattle.pb_findings.specs.Entries.{IsEntry, IsLayout, IsNoEntry, IsNoLayout}
+use Rattle.pb_findings.specs.Entries.{IsFileEntry, NamesLayout, IsNoEntry, IsNoLayout}
 use Rattle.pb_findings.specs.Findings.{IsFound, IsWhole}
 use Rattle.pb_findings.specs.Gcc.{report_gcc}
 use Rattle.pb_findings.specs.Objects.{report_json}
@@ -55,11 +55,11 @@ pub data IsLong : List Found → Type 0 where
   long : (one : Found) → one.number ≡ 1 → IsLongVerdict one.verdict → IsLong (one ∷ [])
 
 -- what there is to say of a file
-abbrev pub IsReport : (warn : Bool) → Entry → Report → Type 0
-IsReport warn (entry.File name bytes) (report.Texts told found) = (told.items ≡ name.items) × AreAllFound warn bytes.items found.items
-IsReport warn (entry.Unread name reason) (report.Unread told why) = (told.items ≡ name.items) × (why.items ≡ reason.items)
-IsReport warn (entry.Long name) (report.Texts told found) = (told.items ≡ name.items) × IsLong found.items
-IsReport warn _ _ = ⊥
+abbrev pub IsFileReport : (warn : Bool) → Entry → Report → Type 0
+IsFileReport warn (entry.File name bytes) (report.Texts told found) = (told.items ≡ name.items) × AreAllFound warn bytes.items found.items
+IsFileReport warn (entry.Unread name reason) (report.Unread told why) = (told.items ≡ name.items) × (why.items ≡ reason.items)
+IsFileReport warn (entry.Long name) (report.Texts told found) = (told.items ≡ name.items) × IsLong found.items
+IsFileReport warn _ _ = ⊥
 
 -- ---- all files
 
@@ -67,8 +67,8 @@ IsReport warn _ _ = ⊥
 pub data AreReported (warn : Bool) (bytes : List ℕ) : (left : List ℕ) → List Report → Type 0 where
   none : AreReported warn bytes bytes []
   more : (left head mid content rest : List ℕ) (said : List Report) (entry : Entry) (one : Report)
-      → AreReported warn bytes left said → IsFrame left head mid → IsFrame mid content rest → IsEntry head content entry
-      → IsReport warn entry one → AreReported warn bytes rest (said ++ one ∷ [])
+      → AreReported warn bytes left said → IsFrame left head mid → IsFrame mid content rest → IsFileEntry head content entry
+      → IsFileReport warn entry one → AreReported warn bytes rest (said ++ one ∷ [])
 
 -- ---- what is written
 
@@ -108,11 +108,11 @@ IsLooked warn bytes looked.OutOfMemory = ⊤
 
 -- what is said of an input: all that is found, in the layout that it names; or that it does not name files
 pub data SaysOfFiles (warn : Bool) (bytes : List ℕ) : List ℕ → Status → Type 0 where
-  reported : (named rest : List ℕ) (layout : Layout) (said : List Report) → IsFrame bytes named rest → IsLayout named layout
+  reported : (named rest : List ℕ) (layout : Layout) (said : List Report) → IsFrame bytes named rest → NamesLayout named layout
       → AreReported warn rest [] said
       → SaysOfFiles warn bytes (laid_out layout warn said ++ sums_line said) (call_status said)
   no_layout : IsNoLayout bytes → SaysOfFiles warn bytes refused_input status.Refused
-  no_file : (named rest left : List ℕ) (layout : Layout) (said : List Report) → IsFrame bytes named rest → IsLayout named layout
+  no_file : (named rest left : List ℕ) (layout : Layout) (said : List Report) → IsFrame bytes named rest → NamesLayout named layout
       → AreReported warn rest left said → IsNoEntry left → SaysOfFiles warn bytes refused_input status.Refused
   no_memory : SaysOfFiles warn bytes memory_line status.Memory
 

@@ -13,6 +13,6 @@ abbrev pub spots_of : Refusal → List Spot
 spots_of r = all_spots r.first r.others.items
 
 -- the same places, if there are some, as a list
-abbrev pub listed : Option Spots → List Spot
-listed None = []
-listed (Some s) = s.first.now ∷ s.others.now
+abbrev pub spots_listed : Option Spots → List Spot
+spots_listed None = []
+spots_listed (Some s) = s.first.now ∷ s.others.now

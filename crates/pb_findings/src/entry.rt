@@ -1,7 +1,7 @@
 //! What an input names: a layout, and then files, each by two messages.
 
 ghost use Rattle.std.specs.Prelude.{◌≡◌, ◌≢◌, ◌++◌, ℕ, List, IfOk, MatchOption};
-ghost use Rattle.pb_findings.specs.Entries.{IsEntry, IsFirstLayout, IsLayout, IsNextContent, IsNextEntry, fault_next};
+ghost use Rattle.pb_findings.specs.Entries.{IsFileEntry, IsFirstLayout, NamesLayout, IsNextContent, IsNextEntry, fault_next};
 ghost use Rattle.pb_findings.specs.declared.entry.Entry.{Entry as AnyEntry};
 ghost use Rattle.pb_findings.specs.declared.entry.Layout.{Layout as AnyLayout};
 
@@ -65,7 +65,7 @@ fn after<'t>(text: &'t [u8], start: &[u8]) -> Option<&'t [u8]>
 
 /// Returns the layout that a message names.
 fn layout_of(alloc: Global, named: &[u8]) -> Result<Option<Layout>, NoMemory>
-    ensures { IfOk result (λ layout. MatchOption layout ((one : AnyLayout) → ¬ IsLayout named.now one) (IsLayout named.now)) }
+    ensures { IfOk result (λ layout. MatchOption layout ((one : AnyLayout) → ¬ NamesLayout named.now one) (NamesLayout named.now)) }
 {
     if named == b"gcc".as_slice() {
         return Ok(Some(Layout::Gcc));
@@ -81,8 +81,8 @@ fn layout_of(alloc: Global, named: &[u8]) -> Result<Option<Layout>, NoMemory>
 
 /// Returns what two messages say of a file.
 fn entry_of(alloc: Global, head: &[u8], content: Vec<u8>) -> Result<Option<Entry>, NoMemory>
-    ensures { IfOk result (λ entry. MatchOption entry ((one : AnyEntry) → ¬ IsEntry head.now content.items one)
-        (IsEntry head.now content.items)) }
+    ensures { IfOk result (λ entry. MatchOption entry ((one : AnyEntry) → ¬ IsFileEntry head.now content.items one)
+        (IsFileEntry head.now content.items)) }
 {
     if let Some(name) = after(head, b"file ") {
         return Ok(Some(Entry::File {

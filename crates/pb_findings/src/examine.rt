@@ -5,7 +5,7 @@ ghost use Rattle.pb_accept.specs.Refusals.{IsAcceptedText};
 ghost use Rattle.pb_accept.specs.Warned.{AreToldFor};
 ghost use Rattle.pb_codegen.specs.Compiled.{IsRefused};
 ghost use Rattle.pb_findings.specs.Findings.{IsFound, IsVerdict};
-ghost use Rattle.pb_findings.specs.Reports.{AreAllFound, IsLong, IsReport};
+ghost use Rattle.pb_findings.specs.Reports.{AreAllFound, IsLong, IsFileReport};
 ghost use Rattle.pb_warnings.specs.Warnings.{warning};
 
 use crate::entry::Entry;
@@ -130,7 +130,7 @@ pub fn report_of(
     arena: &mut Bump,
     entry: Entry,
 ) -> Result<Report, NoMemory>
-    ensures { IfOk result (IsReport options.warn entry) }
+    ensures { IfOk result (IsFileReport options.warn entry) }
 {
     match entry {
         Entry::File { name, bytes } => Ok(Report::Texts {

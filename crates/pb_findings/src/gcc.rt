@@ -2,7 +2,7 @@
 
 ghost use Rattle.std.specs.Prelude.{◌≡◌, ◌++◌, OnOk, string_bytes};
 ghost use Rattle.std.specs.List.{flat_map};
-ghost use Rattle.pb_findings.specs.Gcc.{begin_of, first_gcc, found_gcc, further_gcc, head_gcc, note_gcc, place_at, place_gcc};
+ghost use Rattle.pb_findings.specs.Gcc.{first_start, first_gcc, found_gcc, further_gcc, head_gcc, note_gcc, start_of_spot, place_gcc};
 ghost use Rattle.pb_findings.specs.Gcc.{refusal_gcc, report_gcc, spots_gcc, verdict_gcc, warned_gcc, what_else};
 ghost use Rattle.pb_findings.specs.Spots.{spots_of};
 
@@ -83,7 +83,7 @@ fn put_notes(
 
 /// Returns the line and the column of a place.
 fn place_of(spot: &Spot) -> At
-    ensures { result ≡ place_at spot.now }
+    ensures { result ≡ start_of_spot spot.now }
 {
     At {
         line: spot.line,
@@ -93,7 +93,7 @@ fn place_of(spot: &Spot) -> At
 
 /// Returns the line and the column of the first place of a refusal, or those of the begin of the file.
 fn begin(refusal: &Refusal) -> At
-    ensures { result ≡ begin_of (spots_of refusal.now) }
+    ensures { result ≡ first_start (spots_of refusal.now) }
 {
     match places(refusal) {
         Some(spots) => place_of(spots.first),

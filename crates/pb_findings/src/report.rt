@@ -5,7 +5,7 @@ ghost use Rattle.std.specs.List.{count_by, list_any};
 ghost use Rattle.pb_command_io.specs.Answers.{Tells};
 ghost use Rattle.pb_command_io.specs.Faults.{TellsFaults};
 ghost use Rattle.pb_findings.specs.Reports as spec;
-ghost use Rattle.pb_findings.specs.Reports.{IsLooked, IsReport, SaysOfFiles, SaysOfReports, call_status, files_message, laid_out};
+ghost use Rattle.pb_findings.specs.Reports.{IsLooked, IsFileReport, SaysOfFiles, SaysOfReports, call_status, files_message, laid_out};
 ghost use Rattle.pb_findings.specs.Reports.{refused_input, sums_line};
 ghost use Rattle.pb_findings.specs.declared.said.Report.{Report as AnyReport};
 
@@ -170,7 +170,7 @@ fn look_at(
     said: &mut Vec<Report>,
     entry: Entry,
 ) -> Result<(), NoMemory>
-    ensures { OnOk result ((one : AnyReport) × IsReport options.warn entry one × (said.new.items ≡ said.old.items ++ one ∷ [])) }
+    ensures { OnOk result ((one : AnyReport) × IsFileReport options.warn entry one × (said.new.items ≡ said.old.items ++ one ∷ [])) }
 {
     said.push(report_of(alloc, options, arena, entry)?)?;
     Ok(())
@@ -216,7 +216,7 @@ fn answer(alloc: Global, options: CheckOptions, bytes: &[u8]) -> Result<Reply, N
 /// layout, and then how many files have a refused text. Of an input that does not name files only that is told.
 ///
 /// After a read that failed nothing is written; after a write that failed, a first part.
-pub fn write_reports<I: Input, O: Output>(
+pub fn findings_engine<I: Input, O: Output>(
     alloc: Global,
     options: CheckOptions,
     input: &mut I,

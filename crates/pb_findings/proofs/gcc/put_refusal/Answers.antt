@@ -1,6 +1,6 @@
 use Rattle.std.proofs.Common.{List, ℕ, [], ◌++◌, codes, string_bytes}
 use Rattle.std.specs.List.{flat_map}
-use Rattle.pb_findings.specs.Gcc.{begin_of, head_gcc, note_gcc, spots_gcc}
+use Rattle.pb_findings.specs.Gcc.{first_start, head_gcc, note_gcc, spots_gcc}
 use Rattle.pb_findings.specs.declared.gcc.At.{At}
 use Rattle.pb_findings.specs.Rules.{rule_name}
 use Rattle.pb_findings.specs.Spots.{spots_of}
@@ -9,7 +9,7 @@ use Rattle.pb_findings.proofs.gcc.put_refusal.Goals as goal
 
 pub returns : goal.returns
 returns c =
-    let place : At = begin_of (spots_of c.args.refusal.now) in
+    let place : At = first_start (spots_of c.args.refusal.now) in
     let x0 : List ℕ = head_gcc c.args.name.now place (codes "error") (rule_name c.args.refusal.now.rule) (string_bytes c.args.refusal.now.message) in
     let x1 : List ℕ = spots_gcc c.args.name.now (spots_of c.args.refusal.now) in
     let x2 : List ℕ = flat_map (λ words. note_gcc c.args.name.now place [] (string_bytes words)) c.args.refusal.now.notes.items in
