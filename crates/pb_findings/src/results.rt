@@ -5,7 +5,7 @@ ghost use Rattle.std.specs.List.{flat_map};
 ghost use Rattle.pb_findings.specs.Sarif.{address_sarif, comma_before, found_sarif, location_members, message_sarif, note_sarif, others_sarif};
 ghost use Rattle.pb_findings.specs.Sarif.{place_sarif, refusal_sarif, region_sarif, related_from, related_members, related_sarif, report_sarif, said_sarif, some_related};
 ghost use Rattle.pb_findings.specs.Sarif.{result_head, result_places, verdict_sarif, warned_sarif, what_sarif};
-ghost use Rattle.pb_findings.specs.Spots.{listed};
+ghost use Rattle.pb_findings.specs.Spots.{spots_listed};
 
 use crate::refusal::Refusal;
 use crate::said::{Found, Report, Verdict};
@@ -89,7 +89,7 @@ fn put_file(out: &mut Vec<u8>, name: &[u8]) -> Result<(), NoMemory>
 
 /// Appends the members of the first place of some, or of the file if there are none.
 fn put_location(out: &mut Vec<u8>, name: &[u8], spots: Option<Spots<'_>>) -> Result<(), NoMemory>
-    ensures { OnOk result (out.new.items ≡ out.old.items ++ location_members name.now (listed spots.entry)) }
+    ensures { OnOk result (out.new.items ≡ out.old.items ++ location_members name.now (spots_listed spots.entry)) }
 {
     match spots {
         Some(spots) => put_place(out, name, spots.first),
@@ -153,7 +153,7 @@ fn put_others(out: &mut Vec<u8>, name: &[u8], spots: &[Spot]) -> Result<(), NoMe
 
 /// Appends the member with the places after the first, if there are some.
 fn put_related(out: &mut Vec<u8>, name: &[u8], spots: Option<Spots<'_>>) -> Result<(), NoMemory>
-    ensures { OnOk result (out.new.items ≡ out.old.items ++ related_members name.now (listed spots.entry)) }
+    ensures { OnOk result (out.new.items ≡ out.old.items ++ related_members name.now (spots_listed spots.entry)) }
 {
     match spots {
         Some(spots) => put_others(out, name, spots.others),
@@ -179,7 +179,7 @@ fn put_head(out: &mut Vec<u8>, level: &[u8], code: &[u8]) -> Result<(), NoMemory
 
 /// Appends what comes after the inside of a message.
 fn put_places(out: &mut Vec<u8>, name: &[u8], spots: Option<Spots<'_>>) -> Result<(), NoMemory>
-    ensures { OnOk result (out.new.items ≡ out.old.items ++ result_places name.now (listed spots.entry)) }
+    ensures { OnOk result (out.new.items ≡ out.old.items ++ result_places name.now (spots_listed spots.entry)) }
 {
     put(
         out,

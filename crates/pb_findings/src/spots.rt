@@ -1,7 +1,7 @@
 //! The places of a refusal.
 
 ghost use Rattle.std.specs.Prelude.{◌≡◌};
-ghost use Rattle.pb_findings.specs.Spots.{listed, spots_of};
+ghost use Rattle.pb_findings.specs.Spots.{spots_listed, spots_of};
 
 use crate::refusal::Refusal;
 use crate::spot::Spot;
@@ -17,7 +17,7 @@ pub struct Spots<'r> {
 
 /// Returns the first place, and those after it.
 fn spots_in(places: &[Spot]) -> Option<Spots<'_>>
-    ensures { listed result ≡ places.now }
+    ensures { spots_listed result ≡ places.now }
 {
     match places {
         [first, others @ ..] => Some(Spots { first, others }),
@@ -27,7 +27,7 @@ fn spots_in(places: &[Spot]) -> Option<Spots<'_>>
 
 /// Returns the places of a refusal: that of its offset comes first, if it has one.
 pub fn places(refusal: &Refusal) -> Option<Spots<'_>>
-    ensures { listed result ≡ spots_of refusal.now }
+    ensures { spots_listed result ≡ spots_of refusal.now }
 {
     match &refusal.first {
         Some(first) => Some(Spots {
