@@ -1,5 +1,5 @@
-use Rattle.pb_call.proofs.CallLemmas.{tells_as}
-use Rattle.pb_edit_tool.specs.Edit.{says}
+use Rattle.pb_call.proofs.CallLemmas.{leaves_as, tells_as}
+use Rattle.pb_edit_tool.specs.Edit.{leaves, says}
 use Rattle.pb_words.specs.declared.words.Options.TheVariants as option
 use Rattle.pb_edit_tool.proofs.edit_tool.EditToolCommands.answer.Goals as goal
 
@@ -7,3 +7,9 @@ pub returns-in-Lsp-clause-text : goal.returns-in-Lsp-clause-text
 returns-in-Lsp-clause-text g c =
     tells_as (g.I.Input.rest c.args.input.now) (g.I.Input.rest c.args.input.now) (g.O.Output.written c.args.output.now)
     (g.O.Output.written c.server_engine.new.output) c.server_engine.result c.args.options option.Lsp c.in-Lsp.is (says c.args._form) c.server_engine.ensures.text
+
+pub returns-in-Lsp-clause-read : goal.returns-in-Lsp-clause-read
+returns-in-Lsp-clause-read g c = λ failed.
+    leaves_as (g.I.Input.rest c.args.input.now) (g.I.Input.rest c.server_engine.new.input) (g.O.Output.written c.args.output.now)
+    (g.O.Output.written c.server_engine.new.output) c.server_engine.result c.args.options option.Lsp c.in-Lsp.is leaves
+    (c.server_engine.ensures.answered failed).1
