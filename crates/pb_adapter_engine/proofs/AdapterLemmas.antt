@@ -19,7 +19,7 @@ use Rattle.pb_verifier.specs.Verified.{VerifiedCode}
 use Rattle.pb_conversations.specs.declared.conversation.Stop.{Stop}
 use Rattle.pb_conversations.specs.declared.conversation.Stop.TheVariants as stop
 use Rattle.pb_adapter.specs.Sessions.{AnswersIn, Debugged}
-use Rattle.pb_adapter_engine.specs.Adapters.{AnswersMessages, IsEnd, SaysOfAdapter, before_launch, behind_launch, opened, SaysOfLaunched, SaysOfSession, WritesText, stop_status}
+use Rattle.pb_adapter_engine.specs.Adapters.{AnswersMessages, IsEnd, SaysOfAdapter, before_launch, after_launch, opened, SaysOfLaunched, SaysOfSession, WritesText, stop_status}
 use Rattle.pb_adapter_engine.specs.Adapters as says
 use Rattle.pb_adapter_engine.specs.Waiting.{AnswersWaiting, LaunchedText, WaitingValue, nobody}
 use Rattle.pb_adapter_engine.proofs.WaitingLemmas.{launch_is_last}
@@ -167,7 +167,7 @@ module _ (bytes : List ℕ) (left old mid : Option (List ℕ)) (after : WaitingV
         f.front ++ here.0,
         texts t.messages ++ here.1,
         read_to bytes f.front t.rest here.0 here.2.0 left' f.cut here.2.1 here.2.2,
-        behind_launch here.0 t.messages after
+        after_launch here.0 t.messages after
             (record { contents = t.talks.contents; frames = f.frames here.0; conversation = t.talks.conversation }) l is here.1
             (subst (λ (n : ℕ). AnswersRead AnswersIn (λ s. s.over) (opened l) n here.0 here.1) t.numbered here.3),
         here.4 ∙ (ap (λ (o : Option (List ℕ)). appended o here.1) t.written ∙ appended-appended old (texts t.messages) here.1),

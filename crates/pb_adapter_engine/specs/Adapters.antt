@@ -1,8 +1,6 @@
 -- What `dap` says of an input, and with which status.
-use Rattle.std.specs.Prelude.{◌≡◌, ◌≢◌, ◌⊎◌, ◌<◌, ℕ, ◌+◌, List, [], ◌++◌, length, Some, None, Bool, true, false}
+use Rattle.std.specs.Prelude.{◌≡◌, ◌⊎◌, ◌<◌, ℕ, ◌+◌, List, [], ◌++◌, length, Some, None, Bool, true, false}
 use Rattle.serde_json.specs.Data.{Data}
-use Rattle.pb_base.specs.Device.{one_more_failure}
-use Rattle.pb_command_io.specs.Faults.{Devices, NoneFailed, WriteFailed}
 use Rattle.pb_command_io.specs.declared.status.Status.{Status}
 use Rattle.pb_command_io.specs.declared.status.Status.TheVariants as status
 use Rattle.pb_conversations.specs.Conversations.{AnswersRead, IsOfBytes, Talks, broken_data, message_text, texts}
@@ -88,18 +86,7 @@ pub data SaysOfAdapter (bytes : List ℕ) : List ℕ → Status → Type 0 where
 -- in its session
 pub data AnswersMessages (read : List ℕ) : List ℕ → Type 0 where
   before_launch : (text : List ℕ) → AnswersRead AnswersWaiting (λ s. s.over) nobody 1 read text → AnswersMessages read text
-  behind_launch : (rest : List ℕ) (messages : List Data) (after : WaitingValue) → Waits read rest messages after
+  after_launch : (rest : List ℕ) (messages : List Data) (after : WaitingValue) → Waits read rest messages after
       → (l : LaunchedText) → after.launched ≡ Some l
       → (text : List ℕ) → AnswersRead AnswersIn (λ s. s.over) (opened l) (1 + length messages) rest text
       → AnswersMessages read (texts messages ++ text)
-
--- ---- faults
-
--- a read failed, and no write; something may be written
-abbrev pub OneReadFailed : Devices → Devices → Type 0
-OneReadFailed old new = (new.reads ≡ one_more_failure old.reads) × (new.writes ≡ old.writes)
-
--- a device that fails is told: the status is Device exactly if one read or one write failed
-abbrev pub TellsAnyFault : Devices → Devices → Status → Type 0
-TellsAnyFault old new given =
-    (given ≢ status.Device → NoneFailed old new) × (given ≡ status.Device → OneReadFailed old new ⊎ WriteFailed old new)

@@ -1,9 +1,10 @@
 //! The command `dap`, over any input and output.
 
 ghost use Rattle.std.specs.Prelude.{◌≢◌, IfSome};
-ghost use Rattle.pb_adapter_engine.specs.Adapters.{AnswersMessages, SaysOfAdapter, TellsAnyFault};
-ghost use Rattle.pb_conversations.specs.Conversations.{SaysBefore};
+ghost use Rattle.pb_adapter_engine.specs.Adapters.{AnswersMessages, SaysOfAdapter};
+ghost use Rattle.pb_conversations.specs.Conversations.{AnswersBeforeRead};
 ghost use Rattle.pb_command_io.specs.Answers.{Tells};
+ghost use Rattle.pb_command_io.specs.Faults.{TellsAnyFault};
 
 use crate::session::{debug_launched, status_of};
 use crate::waiting::Waiting;
@@ -22,8 +23,9 @@ use std::alloc::Global;
 pub fn adapter_engine<I: Input, O: Output>(alloc: Global, input: &mut I, output: &mut O) -> Status
     ensures text { IfSome (I.rest input.old) (λ bytes.
         Tells (SaysOfAdapter bytes) (O.written output.old) (O.written output.new) result) }
-    ensures answered { I.failures input.new ≢ I.failures input.old → IfSome (I.rest input.old) (λ bytes.
-        SaysBefore AnswersMessages bytes (I.rest input.new) (O.written output.old) (O.written output.new)) }
+    ensures answered { I.failures input.new ≢ I.failures input.old →
+        AnswersBeforeRead AnswersMessages (I.rest input.old) (I.rest input.new)
+        (O.written output.old) (O.written output.new) (O.failures output.old) (O.failures output.new) }
     ensures faults { TellsAnyFault
         (record { reads = I.failures input.old; writes = O.failures output.old; written = O.written output.old })
         (record { reads = I.failures input.new; writes = O.failures output.new; written = O.written output.new })

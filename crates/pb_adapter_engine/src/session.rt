@@ -2,10 +2,11 @@
 
 ghost use Rattle.std.specs.Prelude.{◌≡◌, ◌≢◌, ◌≤◌, ◌^◌, IfSome};
 ghost use Rattle.pb_adapter.specs.Sessions.{AnswersIn};
-ghost use Rattle.pb_conversations.specs.Conversations.{AnswersRead, SaysBefore};
-ghost use Rattle.pb_adapter_engine.specs.Adapters.{opened, SaysOfLaunched, SaysOfSession, TellsAnyFault, stop_status};
+ghost use Rattle.pb_conversations.specs.Conversations.{AnswersBeforeRead, AnswersRead};
+ghost use Rattle.pb_adapter_engine.specs.Adapters.{opened, SaysOfLaunched, SaysOfSession, stop_status};
 ghost use Rattle.pb_adapter_engine.specs.Waiting.{launched_view};
 ghost use Rattle.pb_command_io.specs.Answers.{Tells};
+ghost use Rattle.pb_command_io.specs.Faults.{TellsAnyFault};
 
 use crate::launched::Launched;
 use pb_adapter::{Client, Session};
@@ -37,9 +38,9 @@ fn answer_session<I: Input, O: Output>(
     requires { first ≤ 2 ^ 33 }
     ensures text { IfSome (I.rest input.old) (λ bytes.
         Tells (SaysOfSession session.old first bytes) (O.written output.old) (O.written output.new) result) }
-    ensures answered { I.failures input.new ≢ I.failures input.old → IfSome (I.rest input.old) (λ bytes.
-        SaysBefore (AnswersRead AnswersIn (λ s. s.over) session.old first) bytes (I.rest input.new)
-        (O.written output.old) (O.written output.new)) }
+    ensures answered { I.failures input.new ≢ I.failures input.old →
+        AnswersBeforeRead (AnswersRead AnswersIn (λ s. s.over) session.old first) (I.rest input.old) (I.rest input.new)
+        (O.written output.old) (O.written output.new) (O.failures output.old) (O.failures output.new) }
     ensures faults { TellsAnyFault
         (record { reads = I.failures input.old; writes = O.failures output.old; written = O.written output.old })
         (record { reads = I.failures input.new; writes = O.failures output.new; written = O.written output.new })
@@ -63,9 +64,9 @@ pub fn debug_launched<I: Input, O: Output>(
     requires { first ≤ 2 ^ 33 }
     ensures text { IfSome (I.rest input.old) (λ bytes.
         Tells (SaysOfLaunched (launched_view launched) first bytes) (O.written output.old) (O.written output.new) result) }
-    ensures answered { I.failures input.new ≢ I.failures input.old → IfSome (I.rest input.old) (λ bytes.
-        SaysBefore (AnswersRead AnswersIn (λ s. s.over) (opened (launched_view launched)) first) bytes (I.rest input.new)
-        (O.written output.old) (O.written output.new)) }
+    ensures answered { I.failures input.new ≢ I.failures input.old →
+        AnswersBeforeRead (AnswersRead AnswersIn (λ s. s.over) (opened (launched_view launched)) first) (I.rest input.old) (I.rest input.new)
+        (O.written output.old) (O.written output.new) (O.failures output.old) (O.failures output.new) }
     ensures faults { TellsAnyFault
         (record { reads = I.failures input.old; writes = O.failures output.old; written = O.written output.old })
         (record { reads = I.failures input.new; writes = O.failures output.new; written = O.written output.new })

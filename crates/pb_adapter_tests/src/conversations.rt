@@ -1,7 +1,7 @@
 //! Conversations with the adapter, as bytes.
 
 use pb_adapter_engine::adapter_engine;
-use pb_base::{FaultyInput, MemoryInput, NoMemory};
+use pb_base::{FaultyInput, FaultyOutput, MemoryInput, NoMemory};
 use pb_command_io::Status;
 use pb_conversations::Said;
 use pb_frames::write_frame;
@@ -332,6 +332,38 @@ fn what_was_read_before_a_fault_is_answered(rt: HostRuntime) -> Result<(), NoMem
         assert!(rt; status == Status::Device);
         assert!(rt; said.as_slice() == wanted.as_slice());
     }
+    Ok(())
+}
+
+#[test]
+fn a_failed_write_ends_the_conversation(rt: HostRuntime) -> Result<(), NoMemory> {
+    let asked = framed(rt.alloc(), ASKED)?;
+    let wanted = framed(rt.alloc(), SAID_FIRST)?;
+    let mut input = MemoryInput::new(asked.as_slice());
+    let mut output = FaultyOutput::new(rt.alloc(), 1_000, 1, 1_000)?;
+    let status = adapter_engine(rt.alloc(), &mut input, &mut output);
+    assert!(rt; status == Status::Device);
+    assert!(rt; output.as_slice() == wanted.as_slice());
+    Ok(())
+}
+
+/// The message with which a client goes, and what is said to it.
+const LAST: &[&str] = &["{\"seq\":1,\"type\":\"request\",\"command\":\"disconnect\"}"];
+
+const SAID_LAST: &[&str] = &[
+    "{\"body\":null,\"command\":\"disconnect\",\"request_seq\":1,\"seq\":1,\"success\":true,\"type\":\"response\"}",
+];
+
+#[test]
+fn nothing_is_read_once_the_client_has_gone(rt: HostRuntime) -> Result<(), NoMemory> {
+    let asked = framed(rt.alloc(), LAST)?;
+    let wanted = framed(rt.alloc(), SAID_LAST)?;
+    let passing = asked.as_slice().len() as u64;
+    let mut said = Said::new(rt.alloc());
+    let mut input = FaultyInput::new(asked.as_slice(), passing, 1);
+    let status = adapter_engine(rt.alloc(), &mut input, &mut said);
+    assert!(rt; status == Status::Done);
+    assert!(rt; said.as_slice() == wanted.as_slice());
     Ok(())
 }
 

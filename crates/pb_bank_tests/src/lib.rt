@@ -1,6 +1,7 @@
 //! The table of five processes that textbooks have, as a bank of jobs that come and go.
 #![tactic(auto)]
 
+mod devices;
 mod objects;
 mod sessions;
 

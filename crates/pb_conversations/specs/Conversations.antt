@@ -1,5 +1,5 @@
 -- Conversations: the messages of an input, and what is answered to them in turn.
-use Rattle.std.specs.Prelude.{◌≡◌, ◌⊎◌, ◌<◌, ℕ, ◌+◌, List, [], ◌∷◌, ◌++◌, length, Option, Some, None, Bool, true, false, codes, ⊤}
+use Rattle.std.specs.Prelude.{◌≡◌, ◌⊎◌, ◌<◌, ℕ, ◌+◌, List, [], ◌∷◌, ◌++◌, length, Option, Some, None, Bool, true, false, IfSome, codes, ⊤}
 use Rattle.std.specs.List.{flat_map}
 use Rattle.std.specs.Str.{IsUtf8}
 use Rattle.serde_json.specs.Data.{Data}
@@ -126,7 +126,7 @@ pub record TalksSome {S : Type 0} (Answers : S → ℕ → Asked → List Data �
   pub talks : Talks Answers over s first bytes rest messages after
   pub written : WritesBefore why first rest messages old new
 
--- ---- a read that fails
+-- ---- answered before more is read
 
 -- these are the first of the bytes, and the others are still to come
 abbrev pub IsReadTo : (bytes read : List ℕ) → (left : Option (List ℕ)) → Type 0
@@ -137,14 +137,22 @@ abbrev pub SaysBefore : (Follows : List ℕ → List ℕ → Type 0) → (bytes 
 SaysBefore Follows bytes left old new =
     (read : List ℕ) × (text : List ℕ) × IsReadTo bytes read left × Follows read text × (new ≡ appended old text)
 
--- the text is what answers all messages that are whole in what was read; after them stand at most some first bytes of
--- a further one
+-- what was whole was answered before more was read: when a read failed, all that follows from the bytes read before it was
+-- written, and no write has failed. Any write can fail, so none was made after that read: the answers were written
+-- before it. Which read fails cannot be known before it is made, so they are written before each read
+abbrev pub AnswersBeforeRead : (Follows : List ℕ → List ℕ → Type 0) → (rest left old new : Option (List ℕ)) → (writes writes' : ℕ) → Type 0
+AnswersBeforeRead Follows rest left old new writes writes' =
+    (writes' ≡ writes) × IfSome rest (λ bytes. SaysBefore Follows bytes left old new)
+
+-- the text is what answers all messages that are whole in what was read, none of which led to a last state; after them
+-- stand at most some first bytes of a further one
 pub record AnswersRead {S : Type 0} (Answers : S → ℕ → Asked → List Data → S → Type 0) (over : S → Bool) (s : S) (first : ℕ)
     (read text : List ℕ) : Type 0 where
   pub part : List ℕ
   pub messages : List Data
   pub after : S
   pub talks : Talks Answers over s first read part messages after
+  pub goes_on : over after ≡ false
   pub unfinished : IsFrameFault frame.Early part
   pub said : text ≡ texts messages
 

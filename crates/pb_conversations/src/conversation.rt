@@ -4,7 +4,7 @@ ghost use Rattle.std.specs.Prelude.{◌≡◌, ◌≢◌, ◌≤◌, ◌<◌, �
 ghost use Rattle.serde_json.specs.Data.{Data};
 ghost use Rattle.pb_adapter_requests.specs.Requests.{Asked, request_view};
 ghost use Rattle.pb_adapter_requests.specs.Responses.{failed_data, told_by};
-ghost use Rattle.pb_conversations.specs.Conversations.{AnswersContent, AnswersRead, AreFloatFree, CountsBoth, CountsWrites, SaysBefore, TalksOut, TalksSome, WritesBroken};
+ghost use Rattle.pb_conversations.specs.Conversations.{AnswersBeforeRead, AnswersContent, AnswersRead, AreFloatFree, CountsBoth, CountsWrites, TalksOut, TalksSome, WritesBroken};
 ghost use Rattle.pb_conversations.specs.Conversations.{broken_data, fault_words};
 
 use crate::writer::{messages_in, write_reply};
@@ -154,9 +154,9 @@ pub fn converse<A: Adapter, I: Input, O: Output>(
         adapter.new next)) }
     ensures some { IfErr result (λ e. IfSome (I.rest input.old) (λ bytes.
         TalksSome A.Answers A.over adapter.old first bytes (O.written output.old) (O.written output.new) e)) }
-    ensures answered { IfErr result (λ _. I.failures input.new ≢ I.failures input.old → IfSome (I.rest input.old) (λ bytes.
-        SaysBefore (AnswersRead A.Answers A.over adapter.old first) bytes (I.rest input.new)
-        (O.written output.old) (O.written output.new))) }
+    ensures answered { IfErr result (λ _. I.failures input.new ≢ I.failures input.old →
+        AnswersBeforeRead (AnswersRead A.Answers A.over adapter.old first) (I.rest input.old) (I.rest input.new)
+        (O.written output.old) (O.written output.new) (O.failures output.old) (O.failures output.new)) }
     ensures few { IfOk result (λ next. next ≤ 2 ^ 33) }
     ensures counted_reads { OnOk result (I.failures input.new ≡ I.failures input.old) }
     ensures counted_writes { OnOk result (O.failures output.new ≡ O.failures output.old) }

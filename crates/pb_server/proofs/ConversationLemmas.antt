@@ -68,9 +68,9 @@ module _ (Diagnoses : Diagnosing) (Finds : Finding) (s : Serving) where
     }
 
     -- a read failed, and nothing more is written
-    pub so_far_read : (left' new : Option (List ℕ)) → IfSome left (λ bs. IsPartOfFrame bs left') → new ≡ mid
+    pub so_far_read : (left' new : Option (List ℕ)) → here.over ≡ false → IfSome left (λ bs. IsPartOfFrame bs left') → new ≡ mid
         → SaysBefore (AnswersRead Diagnoses Finds s) bytes left' old new
-    so_far_read left' new part kept =
+    so_far_read left' new on part kept =
         let (read, later, cut, to, early) = known left far.rest (λ bs. IsPartOfFrame bs left') far.coming part in
         let f = front_of bytes far.talks.contents far.rest far.talks.frames in (
           f.front ++ read,
@@ -81,6 +81,7 @@ module _ (Diagnoses : Diagnosing) (Finds : Finding) (s : Serving) where
             messages = far.messages;
             after = here;
             talks = record { contents = far.talks.contents; frames = f.frames read; conversation = far.talks.conversation };
+            goes_on = on;
             unfinished = early;
             said = refl;
           },

@@ -65,13 +65,14 @@ pub record TalksSome (Diagnoses : Diagnosing) (Finds : Finding) (s : Serving) (b
   pub talks : Talks Diagnoses Finds s bytes rest messages after
   pub written : WritesBefore why rest messages old new
 
--- the text is what is said to all messages that are whole in what was read; after them stand at most some first bytes
--- of a further one
+-- the text is what is said to all messages that are whole in what was read, with none of which the client has gone; after
+-- them stand at most some first bytes of a further one
 pub record AnswersRead (Diagnoses : Diagnosing) (Finds : Finding) (s : Serving) (read text : List ℕ) : Type 0 where
   pub part : List ℕ
   pub messages : List Data
   pub after : Serving
   pub talks : Talks Diagnoses Finds s read part messages after
+  pub goes_on : after.over ≡ false
   pub unfinished : IsFrameFault frame.Early part
   pub said : text ≡ texts messages
 

@@ -1,7 +1,7 @@
 //! Conversations with a client.
 
 ghost use Rattle.std.specs.Prelude.{◌≡◌, ◌≢◌, ◌≤◌, ◌<◌, ◌⊎◌, ◌∷◌, [], IfErr, IfOk, IfSome, MatchBool, OnOk, false, true};
-ghost use Rattle.pb_conversations.specs.Conversations.{CountsBoth, CountsWrites, SaysBefore, fault_words};
+ghost use Rattle.pb_conversations.specs.Conversations.{AnswersBeforeRead, CountsBoth, CountsWrites, fault_words};
 ghost use Rattle.pb_server.specs.Responses.{told_by};
 ghost use Rattle.pb_server.specs.Conversations.{AnswersRead, TalksOut, TalksSome, WritesBroken, broken_data};
 
@@ -85,9 +85,9 @@ pub fn converse<L: Language, I: Input, O: Output>(
         TalksOut L.Diagnoses L.Finds session.old bytes (O.written output.old) (O.written output.new) session.new)) }
     ensures some { IfErr result (λ e. IfSome (I.rest input.old) (λ bytes.
         TalksSome L.Diagnoses L.Finds session.old bytes (O.written output.old) (O.written output.new) e)) }
-    ensures answered { IfErr result (λ _. I.failures input.new ≢ I.failures input.old → IfSome (I.rest input.old) (λ bytes.
-        SaysBefore (AnswersRead L.Diagnoses L.Finds session.old) bytes (I.rest input.new)
-        (O.written output.old) (O.written output.new))) }
+    ensures answered { IfErr result (λ _. I.failures input.new ≢ I.failures input.old →
+        AnswersBeforeRead (AnswersRead L.Diagnoses L.Finds session.old) (I.rest input.old) (I.rest input.new)
+        (O.written output.old) (O.written output.new) (O.failures output.old) (O.failures output.new)) }
     ensures counted_reads { OnOk result (I.failures input.new ≡ I.failures input.old) }
     ensures counted_writes { OnOk result (O.failures output.new ≡ O.failures output.old) }
     ensures fault { IfErr result (λ e. CountsBoth e (I.failures input.old) (I.failures input.new)

@@ -1,8 +1,6 @@
 -- What `lsp` says of an input, and with which status.
-use Rattle.std.specs.Prelude.{◌≡◌, ◌≢◌, ◌⊎◌, ℕ, List, codes, ◌∷◌, [], ◌++◌, length}
+use Rattle.std.specs.Prelude.{◌≡◌, ℕ, List, codes, ◌∷◌, [], ◌++◌, length}
 use Rattle.serde_json.specs.Data.{Data, null, string, object, no_members, member}
-use Rattle.pb_base.specs.Device.{one_more_failure}
-use Rattle.pb_command_io.specs.Faults.{Devices, NoneFailed, WriteFailed}
 use Rattle.pb_command_io.specs.declared.status.Status.{Status}
 use Rattle.pb_command_io.specs.declared.status.Status.TheVariants as status
 use Rattle.pb_conversations.specs.Conversations.{IsOfBytes, texts}
@@ -96,14 +94,3 @@ pub data SaysOfServer (bytes : List ℕ) : List ℕ → Status → Type 0 where
 -- the text is what is said to all messages that are whole in what was read
 abbrev pub AnswersMessages : (read text : List ℕ) → Type 0
 AnswersMessages read text = AnswersRead Diagnoses Finds fresh read text
-
--- ---- faults
-
--- a read failed, and no write; something may be written
-abbrev pub OneReadFailed : Devices → Devices → Type 0
-OneReadFailed old new = (new.reads ≡ one_more_failure old.reads) × (new.writes ≡ old.writes)
-
--- a device that fails is told: the status is Device exactly if one read or one write failed
-abbrev pub TellsAnyFault : Devices → Devices → Status → Type 0
-TellsAnyFault old new given =
-    (given ≢ status.Device → NoneFailed old new) × (given ≡ status.Device → OneReadFailed old new ⊎ WriteFailed old new)

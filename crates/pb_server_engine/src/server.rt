@@ -2,8 +2,9 @@
 
 ghost use Rattle.std.specs.Prelude.{◌≡◌, ◌≢◌, IfSome};
 ghost use Rattle.pb_command_io.specs.Answers.{Tells};
-ghost use Rattle.pb_conversations.specs.Conversations.{SaysBefore};
-ghost use Rattle.pb_server_engine.specs.Servers.{AnswersMessages, SaysOfServer, TellsAnyFault, end_status, stop_status};
+ghost use Rattle.pb_command_io.specs.Faults.{TellsAnyFault};
+ghost use Rattle.pb_conversations.specs.Conversations.{AnswersBeforeRead};
+ghost use Rattle.pb_server_engine.specs.Servers.{AnswersMessages, SaysOfServer, end_status, stop_status};
 
 use crate::parbegin::Parbegin;
 use pb_base::{Input, Output};
@@ -42,8 +43,9 @@ fn status_of(stop: Stop) -> Status
 pub fn server_engine<I: Input, O: Output>(alloc: Global, input: &mut I, output: &mut O) -> Status
     ensures text { IfSome (I.rest input.old) (λ bytes.
         Tells (SaysOfServer bytes) (O.written output.old) (O.written output.new) result) }
-    ensures answered { I.failures input.new ≢ I.failures input.old → IfSome (I.rest input.old) (λ bytes.
-        SaysBefore AnswersMessages bytes (I.rest input.new) (O.written output.old) (O.written output.new)) }
+    ensures answered { I.failures input.new ≢ I.failures input.old →
+        AnswersBeforeRead AnswersMessages (I.rest input.old) (I.rest input.new)
+        (O.written output.old) (O.written output.new) (O.failures output.old) (O.failures output.new) }
     ensures faults { TellsAnyFault
         (record { reads = I.failures input.old; writes = O.failures output.old; written = O.written output.old })
         (record { reads = I.failures input.new; writes = O.failures output.new; written = O.written output.new })

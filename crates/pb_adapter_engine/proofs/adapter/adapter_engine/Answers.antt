@@ -42,8 +42,11 @@ returns-in-None-clause-text g c =
 
 pub returns-in-Err-clause-answered : goal.returns-in-Err-clause-answered
 returns-in-Err-clause-answered g c = λ changed.
-    waiting_read c.new-waiting.result (g.I.Input.rest c.args.input.now) (g.I.Input.rest c.converse.new.input) (g.O.Output.written c.args.output.now)
-    (g.O.Output.written c.converse.new.output) c.new-waiting.ensures (c.in-Err.ensures.answered changed)
+    let before = c.in-Err.ensures.answered changed in (
+      before.0,
+      waiting_read c.new-waiting.result (g.I.Input.rest c.args.input.now) (g.I.Input.rest c.converse.new.input) (g.O.Output.written c.args.output.now)
+          (g.O.Output.written c.converse.new.output) c.new-waiting.ensures before.1,
+    )
 
 pub returns-in-Some-clause-answered : goal.returns-in-Some-clause-answered
 returns-in-Some-clause-answered g c = λ changed.
@@ -54,10 +57,13 @@ returns-in-Some-clause-answered g c = λ changed.
     let after = c.converse.new.adapter in
     let is : after.launched ≡ Some (launched_view c.in-Some.launched) =
     sym (ap (λ (s : WaitingValue). s.launched) c.waiting.view_is) ∙ ap (λ (o : Option Launched). option_map launched_view o) c.in-Some.is in
-    IfSome_then (g.I.Input.rest c.args.input.now) c.in-Ok.ensures.all
-    (λ bytes all. launched_read bytes left old mid after c.in-Ok.next
-    (subst (λ (s : WaitingValue). TalksOut AnswersWaiting (λ s. s.over) s 1 bytes left old mid after c.in-Ok.next) c.new-waiting.ensures all)
-    (launched_view c.in-Some.launched) is (g.I.Input.rest c.debug_launched.new.input) new (c.debug_launched.ensures.answered (λ same. changed (same ∙ c.in-Ok.ensures.counted_reads))))
+    let before = c.debug_launched.ensures.answered (λ same. changed (same ∙ c.in-Ok.ensures.counted_reads)) in (
+      before.0 ∙ c.in-Ok.ensures.counted_writes,
+      IfSome_then (g.I.Input.rest c.args.input.now) c.in-Ok.ensures.all
+          (λ bytes all. launched_read bytes left old mid after c.in-Ok.next
+          (subst (λ (s : WaitingValue). TalksOut AnswersWaiting (λ s. s.over) s 1 bytes left old mid after c.in-Ok.next) c.new-waiting.ensures all)
+          (launched_view c.in-Some.launched) is (g.I.Input.rest c.debug_launched.new.input) new before.1),
+    )
 
 pub returns-in-None-clause-answered : goal.returns-in-None-clause-answered
 returns-in-None-clause-answered g c = λ changed. absurd (changed c.in-Ok.ensures.counted_reads)

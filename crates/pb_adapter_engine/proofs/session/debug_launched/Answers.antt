@@ -1,10 +1,10 @@
-use Rattle.std.proofs.Common.{◌≡◌, ◌∙◌, ℕ, List, ap, false, refl, subst, IfSome}
+use Rattle.std.proofs.Common.{◌≡◌, ◌∙◌, ℕ, List, ap, false, refl, subst}
 use Rattle.std.proofs.lemmas.Option.{IfSome_then}
 use Rattle.pb_code.specs.View.{labels_view}
 use Rattle.pb_command_io.proofs.InputLemmas.{IfSome-of}
 use Rattle.pb_debug.specs.Value.{Debugging, IsPosition}
 use Rattle.pb_adapter.specs.Sessions.{AnswersIn, Debugged}
-use Rattle.pb_conversations.specs.Conversations.{AnswersRead, SaysBefore}
+use Rattle.pb_conversations.specs.Conversations.{AnswersBeforeRead, AnswersRead}
 use Rattle.pb_adapter_engine.specs.Adapters.{opened}
 use Rattle.pb_adapter_engine.specs.Waiting.{launched_view}
 use Rattle.pb_adapter_engine.proofs.AdapterLemmas.{launched_known, no_launch, opened_debugger}
@@ -38,9 +38,10 @@ returns-in-Ok-clause-answered g c = λ changed.
     c.new-session.ensures
     ∙ (ap (λ (lines : List ℕ). record { debugger = c.with_source-shown.result; client = record { lines = lines; events = false; path = l.path; counting = l.counting }; over = false }) c.new.ensures.items
     ∙ ap (λ (d : Debugging). record { debugger = d; client = (opened l).client; over = false }) is) in
-    subst (λ (s : Debugged). IfSome (g.I.Input.rest c.args.input.now) (λ bytes.
-    SaysBefore (AnswersRead AnswersIn (λ s. s.over) s c.args.first) bytes (g.I.Input.rest c.answer_session.new.input)
-    (g.O.Output.written c.args.output.now) (g.O.Output.written c.answer_session.new.output))) same (c.answer_session.ensures.answered changed)
+    subst (λ (s : Debugged).
+    AnswersBeforeRead (AnswersRead AnswersIn (λ s. s.over) s c.args.first) (g.I.Input.rest c.args.input.now) (g.I.Input.rest c.answer_session.new.input)
+    (g.O.Output.written c.args.output.now) (g.O.Output.written c.answer_session.new.output) (g.O.Output.failures c.args.output.now)
+    (g.O.Output.failures c.answer_session.new.output)) same (c.answer_session.ensures.answered changed)
 
 pub returns-clause-answered : goal.returns-clause-answered
 returns-clause-answered g c = λ changed. absurd (changed refl)

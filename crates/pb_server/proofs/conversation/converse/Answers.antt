@@ -38,11 +38,14 @@ returns-in-Err-clause-some g c =
 
 pub returns-in-Err-clause-answered : goal.returns-in-Err-clause-answered
 returns-in-Err-clause-answered g c = λ changed. elim (device_or c.in-Err.fault) [
-  | inl is ↦ if_known (g.I.Input.rest c.args.input.now) _ (λ bytes known.
-      so_far_read g.L.Language.Diagnoses g.L.Language.Finds c.args.session.now bytes c.loop-alloc.heard (g.I.Input.rest c.loop-alloc.input)
-      (g.O.Output.written c.args.output.now) (g.O.Output.written c.loop-alloc.output) c.loop-alloc.session
-      (c.loop-alloc.invariant.says bytes known) (g.I.Input.rest c.read_frame.new.input) (g.O.Output.written c.break_off.new.output)
-      (c.in-Err.ensures.part is) (c.break_off.ensures.device is).2)
+  | inl is ↦ (
+    (c.break_off.ensures.device is).1 ∙ c.loop-alloc.invariant.writes,
+    if_known (g.I.Input.rest c.args.input.now) _ (λ bytes known.
+        so_far_read g.L.Language.Diagnoses g.L.Language.Finds c.args.session.now bytes c.loop-alloc.heard (g.I.Input.rest c.loop-alloc.input)
+        (g.O.Output.written c.args.output.now) (g.O.Output.written c.loop-alloc.output) c.loop-alloc.session
+        (c.loop-alloc.invariant.says bytes known) (g.I.Input.rest c.read_frame.new.input) (g.O.Output.written c.break_off.new.output)
+        c.loop-alloc-test.ensures.1 (c.in-Err.ensures.part is) (c.break_off.ensures.device is).2),
+  )
   | inr other ↦ absurd (changed (c.in-Err.ensures.no_fault other ∙ c.loop-alloc.invariant.reads))
 ]
 

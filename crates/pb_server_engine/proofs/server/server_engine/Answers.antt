@@ -15,8 +15,11 @@ returns-in-Ok-clause-answered g c = λ changed. absurd (changed c.in-Ok.ensures.
 
 pub returns-clause-answered : goal.returns-clause-answered
 returns-clause-answered g c = λ changed.
-    read_served c.new-session.result (g.I.Input.rest c.args.input.now) (g.I.Input.rest c.converse.new.input) (g.O.Output.written c.args.output.now)
-    (g.O.Output.written c.converse.new.output) c.new-session.ensures (c.in-Err.ensures.answered changed)
+    let before = c.in-Err.ensures.answered changed in (
+      before.0,
+      read_served c.new-session.result (g.I.Input.rest c.args.input.now) (g.I.Input.rest c.converse.new.input) (g.O.Output.written c.args.output.now)
+          (g.O.Output.written c.converse.new.output) c.new-session.ensures before.1,
+    )
 
 pub returns-clause-text : goal.returns-clause-text
 returns-clause-text g c =

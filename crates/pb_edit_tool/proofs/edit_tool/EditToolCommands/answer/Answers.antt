@@ -1,5 +1,5 @@
-use Rattle.pb_call.proofs.CallLemmas.{tells_as}
-use Rattle.pb_edit_tool.specs.Edit.{says}
+use Rattle.pb_call.proofs.CallLemmas.{leaves_as, tells_as}
+use Rattle.pb_edit_tool.specs.Edit.{leaves, says}
 use Rattle.pb_words.specs.declared.words.Options.TheVariants as option
 use Rattle.pb_edit_tool.proofs.edit_tool.EditToolCommands.answer.Goals as goal
 
@@ -13,3 +13,9 @@ returns-in-Findings-clause-text g c =
     tells_as (g.I.Input.rest c.args.input.now) (g.I.Input.rest c.args.input.now) (g.O.Output.written c.args.output.now)
     (g.O.Output.written c.findings_engine.new.output) c.findings_engine.result c.args.options (option.Findings c.in-Findings.numbers) c.in-Findings.is
     (says c.args._form) c.findings_engine.ensures.text
+
+pub returns-in-Lsp-clause-read : goal.returns-in-Lsp-clause-read
+returns-in-Lsp-clause-read g c = λ failed.
+    leaves_as (g.I.Input.rest c.args.input.now) (g.I.Input.rest c.server_engine.new.input) (g.O.Output.written c.args.output.now)
+    (g.O.Output.written c.server_engine.new.output) c.server_engine.result c.args.options option.Lsp c.in-Lsp.is leaves
+    (c.server_engine.ensures.answered failed).1
