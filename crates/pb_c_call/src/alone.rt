@@ -20,7 +20,7 @@ use pb_debug_tool::debug::debug;
 use pb_draw_engine::write_drawing;
 use pb_engines::write_drawn_record;
 use pb_explain::explain_engine;
-use pb_findings::write_reports;
+use pb_findings::report_engine;
 use pb_options::RecordOptions;
 use pb_search_engine::outcomes_engine;
 use pb_search_tool::plan::plan;
@@ -51,7 +51,7 @@ pub fn answer_alone<I: Input, O: Output>(
         Ok(Options::Draw(options)) => write_drawing(alloc, Form::Lines, options, input, output),
         Ok(Options::Emit(numbers)) => write_emission(alloc, Form::Lines, numbers, input, output),
         Ok(Options::Explain(code)) => explain_engine(alloc, Form::Lines, code, output),
-        Ok(Options::Findings(numbers)) => write_reports(alloc, numbers, input, output),
+        Ok(Options::Findings(numbers)) => report_engine(alloc, numbers, input, output),
         Ok(Options::Lsp) => server_engine(alloc, input, output),
         Ok(Options::Migrate) => write_migration(alloc, Form::Lines, input, output),
         Ok(Options::Outcomes(numbers)) => outcomes_engine(

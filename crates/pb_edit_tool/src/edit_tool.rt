@@ -7,7 +7,7 @@ ghost use Rattle.pb_words.specs.declared.tool.Tool.TheVariants.{Edit};
 use pb_base::{Input, NoMemory, Output};
 use pb_call::Commands;
 use pb_command_io::Status;
-use pb_findings::{input_message, write_reports};
+use pb_findings::{input_message, report_engine};
 use pb_server_engine::server_engine;
 use pb_voice::Form;
 use pb_words::Options;
@@ -44,7 +44,7 @@ impl Commands for EditTool {
         output: &mut O,
     ) -> Option<Status> {
         match options {
-            Options::Findings(numbers) => Some(write_reports(alloc, numbers, input, output)),
+            Options::Findings(numbers) => Some(report_engine(alloc, numbers, input, output)),
             Options::Lsp => Some(server_engine(alloc, input, output)),
             _ => None,
         }

@@ -22,4 +22,4 @@ mod warned;
 mod words;
 
 pub use message::input_message;
-pub use report::write_reports;
+pub use report::report_engine;

@@ -216,7 +216,7 @@ fn answer(alloc: Global, options: CheckOptions, bytes: &[u8]) -> Result<Reply, N
 /// layout, and then how many files have a refused text. Of an input that does not name files only that is told.
 ///
 /// After a read that failed nothing is written; after a write that failed, a first part.
-pub fn write_reports<I: Input, O: Output>(
+pub fn report_engine<I: Input, O: Output>(
     alloc: Global,
     options: CheckOptions,
     input: &mut I,

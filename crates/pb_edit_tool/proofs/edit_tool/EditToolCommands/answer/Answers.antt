@@ -11,5 +11,5 @@ returns-in-Lsp-clause-text g c =
 pub returns-in-Findings-clause-text : goal.returns-in-Findings-clause-text
 returns-in-Findings-clause-text g c =
     tells_as (g.I.Input.rest c.args.input.now) (g.I.Input.rest c.args.input.now) (g.O.Output.written c.args.output.now)
-    (g.O.Output.written c.write_reports.new.output) c.write_reports.result c.args.options (option.Findings c.in-Findings.numbers) c.in-Findings.is
-    (says c.args._form) c.write_reports.ensures.text
+    (g.O.Output.written c.report_engine.new.output) c.report_engine.result c.args.options (option.Findings c.in-Findings.numbers) c.in-Findings.is
+    (says c.args._form) c.report_engine.ensures.text

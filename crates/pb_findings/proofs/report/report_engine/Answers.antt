@@ -1,7 +1,7 @@
 use Rattle.pb_command_io.specs.declared.status.Status.TheVariants.{Refused, Memory}
 use Rattle.pb_findings.specs.Reports.{SaysOfReports, nothing, out_of_memory, read, refused_input, too_long}
 use Rattle.pb_findings.proofs.TellingLemmas.{all_some, if_ok, if_read, if_some, says_same, tells_nothing, tells_reply}
-use Rattle.pb_findings.proofs.report.write_reports.Goals as goal
+use Rattle.pb_findings.proofs.report.report_engine.Goals as goal
 
 pub returns-in-Ok-clause-text : goal.returns-in-Ok-clause-text
 returns-in-Ok-clause-text g c =
