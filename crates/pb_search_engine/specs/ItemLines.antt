@@ -8,6 +8,7 @@ use Rattle.pb_history.specs.declared.counted.CountedPick.{CountedPick}
 use Rattle.pb_search.specs.declared.found.StuckState.{StuckState}
 use Rattle.pb_search.specs.declared.found.StuckState.TheVariants.{Ended, Faulted, Waiting}
 use Rattle.pb_search_engine.specs.Items.{AllEnd, AtDeadlock, Block, Deadlock, Item, More, Others, Outcome, SomeDoNotEnd, Totals}
+use Rattle.pb_search_engine.specs.Items.{Lead, Round}
 use Rattle.pb_search_engine.specs.OutcomeLines.{integer_names, plural, printed_head, runs_text}
 use Rattle.pb_search_engine.specs.declared.item.Bound.{Bound}
 use Rattle.pb_search_engine.specs.declared.item.Bound.TheVariants.{Configurations, FairRuns, Picks}
@@ -85,6 +86,10 @@ abbrev pub some_line : (fair : Bool) → List ℕ
 some_line true = codes "some fair runs do not end\n"
 some_line false = codes "some runs do not end\n"
 
+-- picks of a run that never ends, after what they do
+abbrev pub circle_lines : (heading : List ℕ) → NameTable → List CountedPick → List ℕ
+circle_lines heading names picks = heading ++ flat_map (counted_line names) picks
+
 -- the lines of an item
 abbrev pub item_lines : NameTable → List ProcessLabels → Item → List ℕ
 item_lines names labels (Outcome b) = block_lines (codes "outcome") names labels b
@@ -95,3 +100,5 @@ item_lines names labels AtDeadlock = codes "first deadlock, there may be others\
 item_lines names labels (More bound limit) = more_text bound limit (codes "\n")
 item_lines names labels (AllEnd fair) = all_end_line fair
 item_lines names labels (SomeDoNotEnd fair) = some_line fair
+item_lines names labels (Lead picks) = circle_lines (codes "endless\nreached by\n") names picks
+item_lines names labels (Round picks) = circle_lines (codes "round\n") names picks

@@ -38,6 +38,8 @@ pub data Item : Type 0 where
   More : Bound → (limit : ℕ) → Item
   -- every run ends, or some do not; with `fair` only fair runs count
   AllEnd SomeDoNotEnd : (fair : Bool) → Item
+  -- some run never ends: picks that lead into a circle, and picks that go round it
+  Lead Round : List CountedPick → Item
 
 -- what contracts see of an outcome or a deadlock, and of an item
 abbrev pub given_block_view : GivenBlock → Block
@@ -52,6 +54,8 @@ given_item_view given.AtDeadlock = AtDeadlock
 given_item_view (given.More bound limit) = More bound limit
 given_item_view (given.AllEnd fair) = AllEnd fair
 given_item_view (given.SomeDoNotEnd fair) = SomeDoNotEnd fair
+given_item_view (given.Lead picks) = Lead picks.items
+given_item_view (given.Round picks) = Round picks.items
 
 -- an outcome with its number and picks that lead to it
 abbrev pub outcome_item : ℕ → FoundOutcome → List CountedPick → Item

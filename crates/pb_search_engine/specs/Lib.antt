@@ -14,6 +14,7 @@ pub mod SaysEndless
 pub mod SaysExpected
 pub mod SaysOfAll
 pub mod SaysOfOne
+pub mod SaysOfTexts
 pub mod SaysOutcomes
 pub mod Showing
 pub mod SourceFair

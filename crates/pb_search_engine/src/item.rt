@@ -62,4 +62,8 @@ pub enum Item {
     SomeDoNotEnd {
         fair: bool,
     },
+    /// Picks that lead into a circle of a run that never ends.
+    Lead(Vec<CountedPick>),
+    /// Picks that go round it.
+    Round(Vec<CountedPick>),
 }

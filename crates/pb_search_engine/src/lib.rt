@@ -2,6 +2,7 @@
 #![tactic(auto)]
 
 mod all;
+mod answer;
 mod asked;
 mod counts;
 mod deadlocks;
@@ -19,11 +20,13 @@ mod outcomes;
 mod part;
 mod part_objects;
 mod parts;
+mod pick_lines;
 mod print_lines;
 mod prints;
 mod replies;
 mod requirements;
 mod said;
+mod sought;
 mod teller;
 mod wanted;
 

@@ -23,3 +23,9 @@ returns-in-Others-clause-ok g c = rw c.in-Others.is c.tell_more.ensures.ok
 
 pub returns-in-Others-clause-err : goal.returns-in-Others-clause-err
 returns-in-Others-clause-err g c = rw c.in-Others.is c.tell_more.ensures.err
+
+pub returns-in-Lead-clause-ok : goal.returns-in-Lead-clause-ok
+returns-in-Lead-clause-ok g c = rw c.in-Lead.is (rw (c.deref.ensures.value) at c.tell_circle_lines.ensures.ok)
+
+pub returns-in-Lead-clause-err : goal.returns-in-Lead-clause-err
+returns-in-Lead-clause-err g c = rw c.in-Lead.is (rw (c.deref.ensures.value) at c.tell_circle_lines.ensures.err)

@@ -17,3 +17,9 @@ returns-in-AtDeadlock-clause-ok g c = rw c.in-AtDeadlock.is c.say.ensures.ok
 
 pub returns-in-AtDeadlock-clause-err : goal.returns-in-AtDeadlock-clause-err
 returns-in-AtDeadlock-clause-err g c = rw c.in-AtDeadlock.is c.say.ensures.err
+
+pub returns-in-Round-clause-ok : goal.returns-in-Round-clause-ok
+returns-in-Round-clause-ok g c = rw c.in-Round.is (rw (c.deref-in-Round.ensures.value) at c.tell_circle-in-Round.ensures.ok)
+
+pub returns-in-Round-clause-err : goal.returns-in-Round-clause-err
+returns-in-Round-clause-err g c = rw c.in-Round.is (rw (c.deref-in-Round.ensures.value) at c.tell_circle-in-Round.ensures.err)

@@ -4,7 +4,7 @@ use Rattle.pb_base.specs.Lines.{names_view}
 use Rattle.pb_search_engine.specs.ItemLines.{counted_line}
 use Rattle.pb_voice.specs.Held.{at}
 use Rattle.pb_voice.specs.Voices.{Adds}
-use Rattle.pb_search_engine.proofs.item_lines.tell_picks.Given as goal
+use Rattle.pb_search_engine.proofs.pick_lines.tell_picks.Given as goal
 
 abbrev pub invariant-loop-i : goal.invariant-loop-i
 invariant-loop-i g l =

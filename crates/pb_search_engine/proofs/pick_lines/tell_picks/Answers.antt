@@ -3,7 +3,7 @@ use Rattle.pb_base.specs.Lines.{names_view}
 use Rattle.pb_search_engine.specs.ItemLines.{counted_line}
 use Rattle.pb_voice.specs.Held.{at}
 use Rattle.pb_voice.proofs.VoiceLemmas.{adds_nothing, element_added, element_broken, elements_added}
-use Rattle.pb_search_engine.proofs.item_lines.tell_picks.Goals as goal
+use Rattle.pb_search_engine.proofs.pick_lines.tell_picks.Goals as goal
 
 pub loop-i-init : goal.loop-i-init
 loop-i-init g c = adds_nothing (at g.O.Output.written g.O.Output.failures c.args.voice.now c.args.output.now)
