@@ -13,14 +13,15 @@ use Rattle.pb_accept.specs.Sayings.{NoMemory, Refused}
 use Rattle.pb_options.specs.declared.options.OutcomesOptions.{OutcomesOptions}
 use Rattle.pb_search_engine.specs.Items.{Item, given_item_view}
 use Rattle.pb_search_engine.specs.Sayings.{Finds, Plain, Saying, SaysOfAnyInput}
-use Rattle.pb_search_engine.specs.SaysOfTexts.{SaysOfItems, SaysOfText, accepted, found, no_memory as out_of_memory}
+use Rattle.pb_search_engine.specs.SaysOfTexts.{SaysOfItems, accepted, found, no_memory as out_of_memory}
 use Rattle.pb_search_engine.specs.declared.answer.Answer.{Answer}
 use Rattle.pb_search_engine.specs.declared.item.Item.{Item as GivenItem}
 use Rattle.pb_command_io.specs.Answers.{Tells}
 use Rattle.pb_command_io.specs.Inputs.{SaysOfReading, not_read}
-use Rattle.pb_search_engine.specs.SaysOfAll.{SaysOfTold}
+use Rattle.pb_search_engine.specs.SaysOfAll.{AreCut, SaysOfCode, SaysOfSought, SaysOfTold}
 use Rattle.pb_search_engine.specs.declared.outcomes.Told.{Told}
 use Rattle.pb_search_engine.specs.declared.outcomes.Told.TheVariants as told
+use Rattle.pb_search_engine.specs.declared.sought.Sought.{Sought}
 use Rattle.pb_voice.specs.Inputs.{no_memory, read}
 use Rattle.pb_voice.specs.Tellings.{Ends, Speaks}
 
@@ -52,12 +53,13 @@ module _ {T : Type 0} (tells breaks : T → Saying → T → Type 0) (Says : Lis
       go (inr not) = (Plain (Refused f) ∷ [], status.Refused, read (Plain (Refused f) ∷ []) status.Refused short (may not), other not)
 
 module _ {T : Type 0} (tells breaks : T → Saying → T → Type 0) (old new : T) (given : Status) where
-  -- what is told of its code is told of an accepted text
-  pub code_is_told : (Says : Code → List ProcessLabels → List Saying → Status → Type 0) (bytes : List ℕ) (code : Code) (labels : List ProcessLabels)
-      → length bytes ≤ MAX_INPUT → IsCompiled bytes code labels → Speaks tells breaks (Says code labels) old new given
-      → Speaks tells breaks (SaysOfAnyInput (SaysOfText Says) bytes) old new given
-  code_is_told Says bytes code labels short compiled (said, status, is, ends) =
-      (said, status, read said status short (accepted code labels compiled said status is), ends)
+  -- what is told of its code is told of an input whose text is accepted
+  pub code_is_told : (sought : Sought) (options : OutcomesOptions) (bytes text lines : List ℕ) (code : Code) (labels : List ProcessLabels)
+      → length bytes ≤ MAX_INPUT → AreCut sought bytes text lines → IsCompiled text code labels
+      → Speaks tells breaks (SaysOfCode sought options lines code labels) old new given
+      → Speaks tells breaks (SaysOfAnyInput (SaysOfSought sought options) bytes) old new given
+  code_is_told sought options bytes text lines code labels short cut compiled (said, status, is, ends) =
+      (said, status, read said status short (text, lines, cut, accepted code labels compiled said status is), ends)
 
   -- what is found is told item by item, or out of memory
   pub found_is_told : (AreFound : List Item → Status → Type 0) (names : NameTable) (labels : List ProcessLabels) (answer : Result Answer OutOfMemory)
@@ -80,7 +82,6 @@ as_named items names named labels labelled same same_labels =
 reading_by : (asked : Told) (options : OutcomesOptions) (bytes said : List ℕ) (ending : Status)
     → SaysOfReading bytes said ending → SaysOfTold asked options bytes said ending
 reading_by told.Document options bytes said ending is = not_read is
-reading_by told.Expected options bytes said ending is = not_read is
 reading_by (told.One target) options bytes said ending is = not_read is
 
 pub unread_by : (asked : Told) (options : OutcomesOptions) (rest : Option (List ℕ))

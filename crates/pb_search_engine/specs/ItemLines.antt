@@ -9,6 +9,8 @@ use Rattle.pb_search.specs.declared.found.StuckState.{StuckState}
 use Rattle.pb_search.specs.declared.found.StuckState.TheVariants.{Ended, Faulted, Waiting}
 use Rattle.pb_search_engine.specs.Items.{AllEnd, AtDeadlock, Block, Deadlock, Item, More, Others, Outcome, SomeDoNotEnd, Totals}
 use Rattle.pb_search_engine.specs.Items.{Lead, Round}
+use Rattle.pb_search_engine.specs.Items.{AsExpected, NotAsExpected}
+use Rattle.pb_search_engine.specs.OtherTexts.{other_line, other_text}
 use Rattle.pb_search_engine.specs.OutcomeLines.{integer_names, plural, printed_head, runs_text}
 use Rattle.pb_search_engine.specs.declared.item.Bound.{Bound}
 use Rattle.pb_search_engine.specs.declared.item.Bound.TheVariants.{Configurations, FairRuns, Picks}
@@ -94,6 +96,8 @@ circle_lines heading names picks = heading ++ flat_map (counted_line names) pick
 abbrev pub item_lines : NameTable → List ProcessLabels → Item → List ℕ
 item_lines names labels (Outcome b) = block_lines (codes "outcome") names labels b
 item_lines names labels (Deadlock b) = block_lines (codes "deadlock") names labels b
+item_lines names labels AsExpected = codes "as expected\n"
+item_lines names labels (NotAsExpected other) = other_line (other_text other)
 item_lines names labels (Totals outcomes deadlocks cycles) = totals_line outcomes deadlocks cycles
 item_lines names labels (Others bound limit) = more_text bound limit (codes ", there may be others\n")
 item_lines names labels AtDeadlock = codes "first deadlock, there may be others\n"

@@ -13,6 +13,8 @@ use Rattle.pb_search.specs.declared.found.StuckState.{StuckState}
 use Rattle.pb_search.specs.declared.found.StuckState.TheVariants.{Ended, Faulted, Waiting}
 use Rattle.pb_search_engine.specs.Items.{AllEnd, AtDeadlock, Block, Deadlock, Item, More, Others, Outcome, SomeDoNotEnd, Totals}
 use Rattle.pb_search_engine.specs.Items.{Lead, Round}
+use Rattle.pb_search_engine.specs.Items.{AsExpected, NotAsExpected}
+use Rattle.pb_search_engine.specs.OtherTexts.{other_json, other_text}
 use Rattle.pb_search_engine.specs.OutcomeLines.{integer_names}
 use Rattle.pb_search_engine.specs.Parts.{is_of}
 use Rattle.pb_search_engine.specs.declared.item.Bound.{Bound}
@@ -157,6 +159,8 @@ circle_json kind names picks = circle_head kind ++ (picks_json names picks ++ co
 abbrev pub item_json : NameTable → List ProcessLabels → Item → List ℕ
 item_json names labels (Outcome b) = block_json (codes "outcome") names labels b
 item_json names labels (Deadlock b) = block_json (codes "deadlock") names labels b
+item_json names labels AsExpected = codes "{\"kind\":\"as expected\"}\n"
+item_json names labels (NotAsExpected other) = other_json (other_text other)
 item_json names labels (Totals outcomes deadlocks cycles) = totals_json outcomes deadlocks cycles
 item_json names labels (Others bound limit) = others_json bound limit
 item_json names labels AtDeadlock = codes "{\"kind\":\"others\",\"of\":\"deadlocks\"}\n"

@@ -13,6 +13,7 @@ use Rattle.pb_search_engine.specs.declared.item.Bound.{Bound}
 use Rattle.pb_search_engine.specs.declared.item.Bound.TheVariants.{Configurations, FairRuns, Picks}
 use Rattle.pb_search_engine.specs.declared.item.Item.{Item as GivenItem}
 use Rattle.pb_search_engine.specs.declared.item.Item.TheVariants as given
+use Rattle.pb_search_engine.specs.declared.other.Other.{Other}
 use Rattle.pb_search_engine.specs.declared.part.Part.{Part}
 use Rattle.pb_search_fair.specs.declared.runs.FairRuns.{FairRuns as ToldRuns}
 use Rattle.pb_search_fair.specs.declared.runs.FairRuns.TheVariants as told
@@ -29,6 +30,9 @@ pub record Block : Type 0 where
 -- one thing that is found
 pub data Item : Type 0 where
   Outcome Deadlock : Block → Item
+  -- all runs are as expected; or they are not, for this reason
+  AsExpected : Item
+  NotAsExpected : Other → Item
   -- how many there are, and whether some run never ends
   Totals : (outcomes deadlocks : ℕ) → (cycles : Bool) → Item
   -- there may be others, since there is more than this of something; or since the search ended at the first deadlock
@@ -48,6 +52,8 @@ given_block_view b = record { number = b.number; parts = b.parts.items; prints =
 abbrev pub given_item_view : GivenItem → Item
 given_item_view (given.Outcome b) = Outcome (given_block_view b)
 given_item_view (given.Deadlock b) = Deadlock (given_block_view b)
+given_item_view given.AsExpected = AsExpected
+given_item_view (given.NotAsExpected other) = NotAsExpected other
 given_item_view (given.Totals outcomes deadlocks cycles) = Totals outcomes deadlocks cycles
 given_item_view (given.Others bound limit) = Others bound limit
 given_item_view given.AtDeadlock = AtDeadlock

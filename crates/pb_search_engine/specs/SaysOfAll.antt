@@ -1,13 +1,14 @@
 -- What `outcomes` says of an input by its options.
-use Rattle.std.specs.Prelude.{ℕ, Bool, true, false, List, Option, None, Some}
+use Rattle.std.specs.Prelude.{◌≡◌, ℕ, Bool, true, false, List, [], Option, None, Some}
 use Rattle.pb_code.specs.Whole.{Code, ProcessLabels}
 use Rattle.pb_command_io.specs.Inputs.{SaysOfInput}
+use Rattle.pb_command_io.specs.Parts.{AreTwoParts}
 use Rattle.pb_command_io.specs.declared.status.Status.{Status}
 use Rattle.pb_options.specs.Lends.{lending_for}
 use Rattle.pb_options.specs.declared.options.OutcomesOptions.{OutcomesOptions}
 use Rattle.pb_page_engine.specs.Schedules.{SaysOfSchedules}
 use Rattle.pb_search_engine.specs.SaysEndless.{SaysOfEndlessOf}
-use Rattle.pb_search_engine.specs.SaysExpected.{SaysOfExpected}
+use Rattle.pb_search_engine.specs.SaysExpected.{SaysOfExpectedOf}
 use Rattle.pb_search_engine.specs.SaysOfOne.{SaysOfOne}
 use Rattle.pb_search_engine.specs.SaysOfTexts.{SaysOfText}
 use Rattle.pb_search_engine.specs.SaysOutcomes.{SaysOfOutcomesOf}
@@ -19,7 +20,7 @@ use Rattle.pb_search_engine.specs.declared.outcomes.Told.TheVariants as told
 use Rattle.pb_search_engine.specs.declared.outcomes.Way.{Way}
 use Rattle.pb_search_engine.specs.declared.outcomes.Way.TheVariants.{Seeks, Tells}
 use Rattle.pb_search_engine.specs.declared.sought.Sought.{Sought}
-use Rattle.pb_search_engine.specs.declared.sought.Sought.TheVariants.{All, Endless}
+use Rattle.pb_search_engine.specs.declared.sought.Sought.TheVariants.{All, Endless, Expected}
 use Rattle.pb_voice.specs.Voices.{Written}
 use Rattle.pb_voice.specs.declared.form.Form.{Form}
 
@@ -38,7 +39,7 @@ one_or_all None = Seeks All
 -- never ends; or else a run to one outcome or deadlock; or else all of them
 abbrev pub way_by : (graph expect endless : Bool) → Option Target → Way
 way_by true expect endless target = Tells told.Document
-way_by false true endless target = Tells told.Expected
+way_by false true endless target = Seeks Expected
 way_by false false true target = Seeks Endless
 way_by false false false target = one_or_all target
 
@@ -46,19 +47,26 @@ way_by false false false target = one_or_all target
 abbrev pub way_of : OutcomesOptions → Way
 way_of options = way_by options.graph options.expect options.endless (target_of options.run options.deadlock)
 
--- what is said of code, by what is sought in it
-abbrev pub SaysOfCode : Sought → OutcomesOptions → Code → List ProcessLabels → List Saying → Status → Type 0
-SaysOfCode All = SaysOfOutcomesOf
-SaysOfCode Endless = SaysOfEndlessOf
+-- what is said of code, by what is sought in it, and by the lines after its text
+abbrev pub SaysOfCode : Sought → OutcomesOptions → (lines : List ℕ) → Code → List ProcessLabels → List Saying → Status → Type 0
+SaysOfCode All options lines = SaysOfOutcomesOf options
+SaysOfCode Endless options lines = SaysOfEndlessOf options
+SaysOfCode Expected options lines = SaysOfExpectedOf options lines
 
--- what is said of a text: that, if it is accepted
+-- an input is a text; and there are lines after it if these say what is expected
+abbrev pub AreCut : Sought → (bytes text lines : List ℕ) → Type 0
+AreCut All bytes text lines = (text ≡ bytes) × (lines ≡ [])
+AreCut Endless bytes text lines = (text ≡ bytes) × (lines ≡ [])
+AreCut Expected bytes text lines = AreTwoParts bytes text lines
+
+-- what is said of an input: that, if its text is accepted
 abbrev pub SaysOfSought : Sought → OutcomesOptions → List ℕ → List Saying → Status → Type 0
-SaysOfSought sought options = SaysOfText (SaysOfCode sought options)
+SaysOfSought sought options bytes said status =
+    (text : List ℕ) × (lines : List ℕ) × AreCut sought bytes text lines × SaysOfText (SaysOfCode sought options lines) text said status
 
 -- what may be said of an input as a text
 abbrev pub SaysOfTold : Told → OutcomesOptions → List ℕ → List ℕ → Status → Type 0
 SaysOfTold told.Document options = SaysOfInput (SaysOfSchedules (lending_for options.lend) options.states)
-SaysOfTold told.Expected options = SaysOfInput (SaysOfExpected options.fair options.lend options.any_order options.states)
 SaysOfTold (told.One target) options =
     SaysOfInput (SaysOfOne target options.lend options.first_deadlock options.prints options.states)
 

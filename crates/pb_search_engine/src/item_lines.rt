@@ -15,6 +15,7 @@ ghost use Rattle.pb_voice.specs.Voices.{Adds, Breaks};
 
 use crate::item::{Block, Bound, Item};
 use crate::names::{integers_at, name_at};
+use crate::other::tell_other_line;
 use crate::part::Part;
 use crate::pick_lines::{tell_circle_lines, tell_picks};
 use crate::said::Shown;
@@ -432,6 +433,8 @@ pub fn tell_item_lines<O: Output>(
     match item {
         Item::Outcome(block) => tell_block(voice, output, b"outcome", names, labels, block),
         Item::Deadlock(block) => tell_block(voice, output, b"deadlock", names, labels, block),
+        Item::AsExpected => voice.say(output, b"as expected\n"),
+        Item::NotAsExpected(other) => tell_other_line(voice, output, *other),
         Item::Totals {
             outcomes,
             deadlocks,

@@ -10,6 +10,7 @@ ghost use Rattle.pb_voice.specs.Held.{at};
 ghost use Rattle.pb_voice.specs.Voices.{Adds, Breaks};
 
 use crate::item::{Block, Bound, Item};
+use crate::other::tell_other_object;
 use crate::part_objects::{tell_pick_list, tell_print_list, tell_sections};
 use crate::said::Shown;
 use itoa::Buffer;
@@ -217,6 +218,8 @@ pub fn tell_item_object<O: Output>(
     match item {
         Item::Outcome(block) => tell_block(voice, output, b"outcome", names, labels, block),
         Item::Deadlock(block) => tell_block(voice, output, b"deadlock", names, labels, block),
+        Item::AsExpected => voice.say(output, b"{\"kind\":\"as expected\"}\n"),
+        Item::NotAsExpected(other) => tell_other_object(voice, output, *other),
         Item::Totals {
             outcomes,
             deadlocks,

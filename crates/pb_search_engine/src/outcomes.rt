@@ -8,7 +8,6 @@ ghost use Rattle.pb_search_engine.specs.Sayings.{SaysOfAnyInput, text_of};
 ghost use Rattle.pb_search_engine.specs.SaysOutcomes.{mode_for, until_for};
 ghost use Rattle.pb_voice.specs.Voices.{Written};
 
-use crate::expect::tell_expected;
 use crate::one_run::{Target, tell_one_run};
 use crate::sought::{Sought, sought_engine};
 use pb_base::limits::MAX_INPUT;
@@ -26,8 +25,6 @@ use std::alloc::Global;
 pub enum Told {
     /// The document of all its schedules.
     Document,
-    /// Whether all its runs are as expected.
-    Expected,
     /// A run to one outcome or one deadlock.
     One(Target),
 }
@@ -57,12 +54,12 @@ pub enum Way {
 ///
 /// With `options.run` or `options.deadlock` the text is written with the picks that lead to the one with this
 /// number, as `replay` reads it, or that there is none. With `options.expect` the input is a text and print lines
-/// after it, and it is written whether all runs of the text are as these lines say, as `tell_expected` does. With
+/// after it, and it is written whether all runs of the text are as these lines say. With
 /// `options.endless` a run that never ends is written in place of all outcomes, with picks that lead into a circle and picks that
 /// go round it. With
 /// `options.graph` the document of all its schedules is written in place of all else, as `tell_schedules` does.
 ///
-/// All outcomes and a run that never ends are written in a form, and all else as lines.
+/// All outcomes, a run that never ends and whether all runs are as expected are written in a form, and all else as lines.
 ///
 /// After a read that failed nothing is written; after a write that failed, a prefix of the output.
 pub fn outcomes_engine<I: Input, O: Output>(
@@ -93,7 +90,7 @@ fn way_of(options: OutcomesOptions) -> Way
         return Way::Tells(Told::Document);
     }
     if options.expect {
-        return Way::Tells(Told::Expected);
+        return Way::Seeks(Sought::Expected);
     }
     if options.endless {
         return Way::Seeks(Sought::Endless);
@@ -174,7 +171,6 @@ fn tell_text<O: Output>(
             let lending = options.lend.lending();
             tell_schedules(alloc, lending, options.states, bytes, output)
         }
-        Told::Expected => tell_expected(alloc, options, bytes, output),
         Told::One(target) => tell_one_run(alloc, options, target, bytes, output),
     }
 }

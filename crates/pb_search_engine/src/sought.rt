@@ -3,20 +3,21 @@
 ghost use Rattle.std.specs.Prelude.{◌≤◌, length};
 ghost use Rattle.pb_code.specs.Limits.{AreLabels};
 ghost use Rattle.pb_search_engine.specs.Sayings.{SaysOfAnyInput};
-ghost use Rattle.pb_search_engine.specs.SaysOfAll.{SaysOfCode, SaysOfSought};
+ghost use Rattle.pb_search_engine.specs.SaysOfAll.{AreCut, SaysOfCode, SaysOfSought};
 ghost use Rattle.pb_voice.specs.Held.{at};
 ghost use Rattle.pb_voice.specs.Tellings.{Answers, Speaks};
 
 use crate::all::all_found;
 use crate::answer::tell_answer;
 use crate::endless::endless_found;
+use crate::expect::tell_lines;
 use crate::said::Said;
 use crate::teller::{Teller, tell_fault, tell_last};
 use pb_accept::{Said as PlainSaid, code_of_text};
 use pb_base::limits::MAX_INPUT;
 use pb_base::{Input, Output, ReadFault, read_whole};
 use pb_codegen::Compiled;
-use pb_command_io::Status;
+use pb_command_io::{Status, two_parts};
 use pb_options::OutcomesOptions;
 use std::alloc::Global;
 
@@ -27,6 +28,8 @@ pub enum Sought {
     All,
     /// A run that never ends.
     Endless,
+    /// Whether all runs are as the lines after the text say.
+    Expected,
 }
 
 /// Tells what is found in the text on the input; of a text that is refused, its refusal.
@@ -57,22 +60,23 @@ pub fn sought_engine<I: Input, O: Output, T: Teller>(
     }
 }
 
-/// Tells what is found in a text.
+/// Tells what is found in a text, which may have lines after it.
 fn tell_text<O: Output, T: Teller>(
     alloc: Global,
     sought: Sought,
     options: OutcomesOptions,
-    text: &[u8],
+    bytes: &[u8],
     teller: &mut T,
     output: &mut O,
 ) -> Status
-    requires { length text.now ≤ MAX_INPUT }
-    ensures { Speaks T.tells T.breaks (SaysOfAnyInput (SaysOfSought sought options) text.now) (at O.written O.failures teller.old output.old)
+    requires { length bytes.now ≤ MAX_INPUT }
+    ensures { Speaks T.tells T.breaks (SaysOfAnyInput (SaysOfSought sought options) bytes.now) (at O.written O.failures teller.old output.old)
         (at O.written O.failures teller.new output.new) result }
 {
+    let (text, lines) = cut(sought, bytes);
     match code_of_text(alloc, text) {
         Ok(compiled) => {
-            let status = tell_compiled(alloc, sought, options, &compiled, teller, output);
+            let status = tell_compiled(alloc, sought, options, &compiled, lines, teller, output);
             drop(compiled);
             status
         }
@@ -80,17 +84,28 @@ fn tell_text<O: Output, T: Teller>(
     }
 }
 
-/// Tells what is found in a compiled text.
+/// Returns the text of an input, and the lines after it, of which there are none unless they say what is expected.
+fn cut(sought: Sought, bytes: &[u8]) -> (&[u8], &[u8])
+    ensures { AreCut sought bytes.now result.0.now result.1.now }
+{
+    match sought {
+        Sought::All | Sought::Endless => (bytes, &[]),
+        Sought::Expected => two_parts(bytes),
+    }
+}
+
+/// Tells what is found in a compiled text with these lines after it.
 fn tell_compiled<O: Output, T: Teller>(
     alloc: Global,
     sought: Sought,
     options: OutcomesOptions,
     compiled: &Compiled,
+    lines: &[u8],
     teller: &mut T,
     output: &mut O,
 ) -> Status
     requires { AreLabels compiled.now.verified.code compiled.now.labels }
-    ensures { Speaks T.tells T.breaks (SaysOfCode sought options compiled.now.verified.code compiled.now.labels)
+    ensures { Speaks T.tells T.breaks (SaysOfCode sought options lines.now compiled.now.verified.code compiled.now.labels)
         (at O.written O.failures teller.old output.old) (at O.written O.failures teller.new output.new) result }
 {
     match sought {
@@ -102,5 +117,6 @@ fn tell_compiled<O: Output, T: Teller>(
             let found = endless_found(alloc, options, compiled);
             tell_answer(compiled, found, teller, output)
         }
+        Sought::Expected => tell_lines(alloc, options, compiled, lines, teller, output),
     }
 }
