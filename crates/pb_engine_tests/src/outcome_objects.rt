@@ -28,6 +28,21 @@ const OPTIONS: OutcomesOptions = OutcomesOptions {
     deadlock: None,
 };
 
+/// Whether all runs are as expected.
+const COMPARING: OutcomesOptions = OutcomesOptions {
+    states: 1_000,
+    lend: Lend::Banker,
+    first_deadlock: false,
+    prints: false,
+    fair: false,
+    expect: true,
+    any_order: false,
+    endless: false,
+    graph: false,
+    run: None,
+    deadlock: None,
+};
+
 /// Names that are words of other lines, an integer that a reader might round, a deadlock, and a refused text.
 const CASES: [Case; 3] = [
     Case {
@@ -47,17 +62,49 @@ const CASES: [Case; 3] = [
     },
 ];
 
+/// Texts with what is asked of them: a requirement that is not met, a line that asks for nothing, a fault, and what is as
+/// expected.
+const ASKED: [Case; 4] = [
+    Case {
+        text: b"process p begin skip end\n%%\nclaims at least 3 tape\n",
+        said: b"{\"kind\":\"not as expected\",\"text\":\"claims at least 3 tape\"}\n",
+        status: Status::Unexpected,
+    },
+    Case {
+        text: b"process p begin skip end\n%%\np.0 print 1\np.1 print 1\n",
+        said: b"{\"kind\":\"refused\",\"code\":\"K1\",\"at\":12}\n",
+        status: Status::Refused,
+    },
+    Case {
+        text: b"process p begin print 1; print 1 div 0 end\n%%\np.0 print 1\n",
+        said: b"{\"kind\":\"outcome\",\"number\":1,\"processes\":[{\"kind\":\"faulted\",\"process\":\"p\"}],\"integers\":[],\"holds\":[],\"asks\":[],\"prints\":[{\"kind\":\"print\",\"process\":\"p\",\"arm\":0,\"value\":1}],\"picks\":[{\"kind\":\"picks\",\"process\":\"p\",\"arm\":0,\"count\":5}]}\n{\"kind\":\"not as expected\",\"text\":\"a fault\"}\n",
+        status: Status::Unexpected,
+    },
+    Case {
+        text: b"process p begin skip end\n",
+        said: b"{\"kind\":\"as expected\"}\n",
+        status: Status::Done,
+    },
+];
+
 /// Returns whether this is said of a text.
-fn says(alloc: Global, case: &Case) -> Option<bool> {
+fn says(alloc: Global, options: OutcomesOptions, case: &Case) -> Option<bool> {
     let mut input = MemoryInput::new(case.text);
     let mut output = MemoryOutput::new(alloc, 4_096).ok()?;
-    let status = outcomes_engine(alloc, Form::Objects, OPTIONS, &mut input, &mut output);
+    let status = outcomes_engine(alloc, Form::Objects, options, &mut input, &mut output);
     Some(status == case.status && output.as_slice() == case.said)
 }
 
 #[test]
 fn outcomes_are_objects(rt: HostRuntime) {
     for case in &CASES {
-        assert!(rt; says(rt.alloc(), case) == Some(true));
+        assert!(rt; says(rt.alloc(), OPTIONS, case) == Some(true));
+    }
+}
+
+#[test]
+fn what_is_asked_is_answered_by_objects(rt: HostRuntime) {
+    for case in &ASKED {
+        assert!(rt; says(rt.alloc(), COMPARING, case) == Some(true));
     }
 }

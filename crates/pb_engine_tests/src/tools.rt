@@ -144,6 +144,7 @@ fn commands_that_tell_data_write_objects(rt: HostRuntime) {
     assert!(rt; RunTool.has_objects(&["parbegin", "check", "--heap=1"]));
     assert!(rt; SearchTool.has_objects(&["parbegin", "plan"]));
     assert!(rt; SearchTool.has_objects(&["parbegin", "outcomes", "--fair"]));
+    assert!(rt; SearchTool.has_objects(&["parbegin", "outcomes", "--fair", "--expect"]));
     assert!(rt; BankTool.has_objects(&["parbegin", "bank"]));
 }
 
@@ -152,7 +153,6 @@ fn other_commands_write_lines_alone(rt: HostRuntime) {
     assert!(rt; !RunTool.has_objects(&["run"]));
     assert!(rt; !SearchTool.has_objects(&["outcomes"]));
     assert!(rt; !SearchTool.has_objects(&["parbegin", "outcomes", "--run=1"]));
-    assert!(rt; !SearchTool.has_objects(&["parbegin", "outcomes", "--fair", "--expect"]));
     assert!(rt; !BankTool.has_objects(&["bank"]));
     assert!(rt; !DebugTool.has_objects(&["parbegin", "debug"]));
     assert!(rt; !DebugTool.has_objects(&["draw"]));

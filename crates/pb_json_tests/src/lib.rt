@@ -15,6 +15,8 @@ mod told;
 #[cfg(test)]
 mod told_engines;
 #[cfg(test)]
+mod told_expected;
+#[cfg(test)]
 mod told_outcomes;
 #[cfg(test)]
 mod told_pages;

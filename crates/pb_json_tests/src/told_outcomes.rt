@@ -107,7 +107,7 @@ fn status_of(
 }
 
 /// Returns whether the objects are the JSON lines of the lines, with the same status.
-fn says_the_same(alloc: Global, options: OutcomesOptions, text: &[u8]) -> Result<bool, NoMemory> {
+pub(crate) fn says_the_same(alloc: Global, options: OutcomesOptions, text: &[u8]) -> Result<bool, NoMemory> {
     let mut lines = MemoryOutput::new(alloc, BYTES)?;
     let mut objects = MemoryOutput::new(alloc, BYTES)?;
     let of_lines = status_of(alloc, Form::Lines, options, text, &mut lines);
@@ -129,6 +129,23 @@ fn all_are_alike(
         }
     }
     Ok(true)
+}
+
+/// A run that never ends, of all or of those that are fair.
+fn endless_options(lend: Lend, fair: bool) -> OutcomesOptions {
+    OutcomesOptions {
+        states: STATES,
+        lend,
+        first_deadlock: false,
+        prints: false,
+        fair,
+        expect: false,
+        any_order: false,
+        endless: true,
+        graph: false,
+        run: None,
+        deadlock: None,
+    }
 }
 
 #[test]
@@ -188,5 +205,16 @@ fn outcomes_of_odd_names_are_told_alike(rt: HostRuntime) {
         let all = options_of(lend, true, true, true);
         assert!(rt; matches!(all_are_alike(alloc, plain, &NAMED), Ok(true)));
         assert!(rt; matches!(all_are_alike(alloc, all, &NAMED), Ok(true)));
+    }
+}
+
+#[test]
+fn endless_runs_are_told_alike(rt: HostRuntime) {
+    let alloc = rt.alloc();
+    for fair in [false, true] {
+        let endless = endless_options(Lend::Cash, fair);
+        assert!(rt; matches!(all_are_alike(alloc, endless, &STEPPED), Ok(true)));
+        assert!(rt; matches!(all_are_alike(alloc, endless, &LENT), Ok(true)));
+        assert!(rt; matches!(all_are_alike(alloc, endless, &NAMED), Ok(true)));
     }
 }

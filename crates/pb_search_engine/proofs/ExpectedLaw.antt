@@ -3,9 +3,9 @@ use Rattle.std.proofs.Common.{◌≡◌, ◌∙◌, ℕ, suc, Bool, true, false,
 use Rattle.std.specs.Prelude.{slice_get}
 use Rattle.std.proofs.lemmas.Option.{get_or_from_slice_get, slice_get_within}
 use Rattle.pb_base.specs.declared.lending.Lending.{Lending}
-use Rattle.pb_code.specs.Whole.{Code, ProcessLabels}
+use Rattle.pb_code.specs.Whole.{Code}
 use Rattle.pb_command_io.specs.declared.status.Status.{Status}
-use Rattle.pb_command_io.specs.declared.status.Status.TheVariants.{Done, Limit, Unexpected}
+use Rattle.pb_command_io.specs.declared.status.Status.TheVariants.{Done, Limit, Memory, Unexpected}
 use Rattle.pb_search.specs.Deadlocks.{AreSomeDeadlocks, FoundDeadlock, IsFoundAt}
 use Rattle.pb_search.specs.Outcomes.{AreSomeOutcomes, Found, HasEndlessRun, IsBounded}
 use Rattle.pb_search.proofs.ToldLists.{some_of}
@@ -16,8 +16,10 @@ use Rattle.pb_search_stages.specs.Traces.{Outcome, Trace, TraceEnds, TraceLeads,
 use Rattle.pb_search_stages.specs.declared.print.Print.{Print}
 use Rattle.pb_search_engine.specs.Expected.{EndsAsExpected, IsAsExpected, IsFirstOther, IsWanted, printing}
 use Rattle.pb_search_engine.specs.ExpectedLaws.{AnswersAreRight, IsAsExpectedBy}
+use Rattle.pb_search_engine.specs.Items.{Item}
 use Rattle.pb_search_engine.specs.Requirements.{AreMet, IsMet}
 use Rattle.pb_search_engine.specs.SaysExpected.{SaysOfEndless, SaysOfRuns, as_expected, deadlock, endless, long, many, met, outcome, unmet}
+use Rattle.pb_search_engine.specs.SaysOfTexts.{found as are_found, no_memory}
 use Rattle.pb_search_engine.specs.declared.requirements.Requirement.{Requirement}
 use Rattle.pb_search_engine.proofs.FairLemmas.{bounded_ends}
 use Rattle.pb_search_engine.proofs.OutcomeLemmas.{each_at}
@@ -66,18 +68,18 @@ each_too false lending any_order wanted code all = all
 each_too true lending any_order wanted code all =
     (record { ends = all.ends; no_deadlock = all.no_deadlock }, bounded_ends (printing lending) code all.all_end)
 
--- what is said of code with an endless run is right
-endless_right : (fair : Bool) (lending : Lending) (any_order : Bool) (wanted : List Print) (code : Code) (states : ℕ) (text : List ℕ) (status : Status)
-    → EndsAsExpected lending any_order wanted code → HasEndlessRun (printing lending) code → SaysOfEndless fair lending code states text status
+-- what is found of code with an endless run is right
+endless_right : (fair : Bool) (lending : Lending) (any_order : Bool) (wanted : List Print) (code : Code) (states : ℕ) (items : List Item) (status : Status)
+    → EndsAsExpected lending any_order wanted code → HasEndlessRun (printing lending) code → SaysOfEndless fair lending code states items status
     → (status ≡ Done → IsAsExpectedBy fair lending any_order wanted code)
     × (status ≡ Unexpected → ¬ IsAsExpectedBy fair lending any_order wanted code)
-endless_right false lending any_order wanted code states text status ends run says =
+endless_right false lending any_order wanted code states items status ends run says =
     (λ done. absurd (let e : Unexpected ≡ Done = sym says.1 ∙ done in cc), λ other all. none_endless lending code all.all_end run)
-endless_right true lending any_order wanted code states text status ends run (AllEnd, tells, _, is) =
+endless_right true lending any_order wanted code states items status ends run (AllEnd, tells, _, is) =
     (λ done. (ends, tells), λ other. absurd (let e : Done ≡ Unexpected = sym is ∙ other in cc))
-endless_right true lending any_order wanted code states text status ends run (SomeDoNotEnd, tells, _, is) =
+endless_right true lending any_order wanted code states items status ends run (SomeDoNotEnd, tells, _, is) =
     (λ done. absurd (let e : Unexpected ≡ Done = sym is ∙ done in cc), λ other all. all.1 tells)
-endless_right true lending any_order wanted code states text status ends run (TooMany, tells, _, is) =
+endless_right true lending any_order wanted code states items status ends run (TooMany, tells, _, is) =
     (λ done. absurd (let e : Limit ≡ Done = sym is ∙ done in cc), λ other. absurd (let e : Limit ≡ Unexpected = sym is ∙ other in cc))
 
 -- each requirement is met, so this one is
@@ -86,33 +88,35 @@ pub required : (code : Code) (requirements : List Requirement) → AreMet code r
 required code requirements all at r there =
     subst (IsMet code) (get_or_from_slice_get requirements at r r there) (all at r (slice_get_within requirements at r there))
 
--- what is said of the runs of code is right
-pub runs_are_right : (fair : Bool) (lending : Lending) (any_order : Bool) (wanted : List Print) (code : Code) (labels : List ProcessLabels) (states : ℕ)
-    (text : List ℕ) (status : Status) → SaysOfRuns fair lending any_order wanted code labels states text status
+-- what is found of the runs of code is right
+pub runs_are_right : (fair : Bool) (lending : Lending) (any_order : Bool) (wanted : List Print) (code : Code) (states : ℕ)
+    (items : List Item) (status : Status) → SaysOfRuns fair lending any_order wanted code states items status
     → (status ≡ Done → IsAsExpectedBy fair lending any_order wanted code)
     × (status ≡ Unexpected → ¬ IsAsExpectedBy fair lending any_order wanted code)
-runs_are_right fair lending any_order wanted code labels states text status (as_expected all) =
+runs_are_right fair lending any_order wanted code states _ _ (as_expected all) =
     (λ done. each_too fair lending any_order wanted code all, λ other. absurd (let e : Done ≡ Unexpected = other in cc))
-runs_are_right fair lending any_order wanted code labels states text status (outcome found deadlocks extent told at first f there picks counted what is) = (
+runs_are_right fair lending any_order wanted code states _ _ (outcome found deadlocks extent told at first f there picks counted what is) = (
   λ done. absurd (let e : Unexpected ≡ Done = done in cc),
   λ other all. no_other lending any_order wanted code (ends_too fair lending any_order wanted code all) found (some_of (printing lending) code FirstDeadlock states found deadlocks extent told).0 at first f there,
 )
-runs_are_right fair lending any_order wanted code labels states text status (deadlock found deadlocks extent told each d there picks counted) = (
+runs_are_right fair lending any_order wanted code states _ _ (deadlock found deadlocks extent told each d there picks counted) = (
   λ done. absurd (let e : Unexpected ≡ Done = done in cc),
   λ other all. none_stuck lending any_order wanted code (ends_too fair lending any_order wanted code all) deadlocks (some_of (printing lending) code FirstDeadlock states found deadlocks extent told).1 d there,
 )
-runs_are_right fair lending any_order wanted code labels states text status (endless ends run said given says) =
-    endless_right fair lending any_order wanted code states said given ends run says
-runs_are_right fair lending any_order wanted code labels states text status (many found told each) =
+runs_are_right fair lending any_order wanted code states _ _ (endless ends run items status says) =
+    endless_right fair lending any_order wanted code states items status ends run says
+runs_are_right fair lending any_order wanted code states _ _ (many found told each) =
     (λ done. absurd (let e : Limit ≡ Done = done in cc), λ other. absurd (let e : Limit ≡ Unexpected = other in cc))
-runs_are_right fair lending any_order wanted code labels states text status (long found told each) =
+runs_are_right fair lending any_order wanted code states _ _ (long found told each) =
     (λ done. absurd (let e : Limit ≡ Done = done in cc), λ other. absurd (let e : Limit ≡ Unexpected = other in cc))
 
 pub answers_are_right : AnswersAreRight
-answers_are_right fair lending any_order requirements wanted code labels states text status (unmet r first) = (
+answers_are_right fair lending any_order requirements wanted code labels states _ _ (unmet r first) = (
   λ done. absurd (let e : Unexpected ≡ Done = done in cc),
   λ other all. first.unmet (required code requirements all.0 first.at r first.there),
 )
-answers_are_right fair lending any_order requirements wanted code labels states text status (met all said given says) =
-    let right = runs_are_right fair lending any_order wanted code labels states said given says in
+answers_are_right fair lending any_order requirements wanted code labels states _ _ (met all _ _ (are_found items status says)) =
+    let right = runs_are_right fair lending any_order wanted code states items status says in
     (λ done. (all, right.0 done), λ other whole. right.1 other whole.1)
+answers_are_right fair lending any_order requirements wanted code labels states _ _ (met all _ _ no_memory) =
+    (λ done. absurd (let e : Memory ≡ Done = done in cc), λ other. absurd (let e : Memory ≡ Unexpected = other in cc))

@@ -6,7 +6,7 @@ use Rattle.pb_base.specs.declared.lending.Lending.{Lending}
 use Rattle.pb_code.specs.Whole.{Code, ProcessLabels}
 use Rattle.pb_codegen.proofs.VerifiedProcesses.{well_numbered}
 use Rattle.pb_command_io.specs.declared.status.Status.{Status}
-use Rattle.pb_command_io.specs.declared.status.Status.TheVariants.{Done, Limit, Unexpected}
+use Rattle.pb_command_io.specs.declared.status.Status.TheVariants.{Done, Limit, Memory, Unexpected}
 use Rattle.pb_generator.specs.Generate.{program_code}
 use Rattle.pb_names.specs.Program.{Program}
 use Rattle.pb_names.specs.Resolves.{resource_names}
@@ -19,9 +19,12 @@ use Rattle.pb_search_stages.specs.Traces.{Outcome, Trace, TraceEnds, trace_outco
 use Rattle.pb_search_stages.specs.declared.print.Print.{Print}
 use Rattle.pb_search_engine.specs.Expected.{IsWanted, printing}
 use Rattle.pb_search_engine.specs.ExpectedLaws.{AnswersAreRightOfPrograms, DoesAsExpected, EndsOtherwise, HasDeadlock, IsAsExpectedBy, SourceEnds}
+use Rattle.pb_search_engine.specs.Items.{Item}
 use Rattle.pb_search_engine.specs.Requirements.{AreMet}
 use Rattle.pb_search_engine.specs.SaysExpected.{SaysOfAsked, SaysOfRuns, as_expected, deadlock, endless, long, many, met, outcome, unmet}
 use Rattle.pb_search_engine.specs.declared.requirements.Requirement.{Requirement}
+use Rattle.pb_search_engine.specs.SaysOfTexts.{found as are_found, no_memory}
+use Rattle.pb_search_engine.specs.Sayings.{Saying}
 use Rattle.pb_search_engine.specs.SourceFair.{FairRunsEnd}
 use Rattle.pb_search_engine.specs.SourceOutcomes.{IsPrintedByCodeBy, IsPrintedBySource}
 use Rattle.pb_search_engine.specs.SourceRequirements.{AreMetBy}
@@ -60,10 +63,10 @@ module _ (fair : Bool) (lending : Lending) (any_order : Bool) (wanted : List Pri
     (states : ℕ)
     (same : (outcome : Outcome) → IsPrintedByCodeBy lending code outcome ↔ IsPrintedBySource lending program code.claims outcome)
     (runs : HasRunsOf program (printing lending) code) (fair_ends : FairRunsEnd program lending code) where
-  all_as_expected : (text : List ℕ) (status : Status) → SaysOfRuns fair lending any_order wanted code labels states text status → status ≡ Done
+  all_as_expected : (items : List Item) (status : Status) → SaysOfRuns fair lending any_order wanted code states items status → status ≡ Done
       → DoesAsExpected fair lending any_order wanted program code
-  all_as_expected text status says done =
-      let right = (runs_are_right fair lending any_order wanted code labels states text status says).0 done in
+  all_as_expected items status says done =
+      let right = (runs_are_right fair lending any_order wanted code states items status says).0 done in
       let each = ends_too fair lending any_order wanted code right in
       record {
         ends = λ o printed.
@@ -73,7 +76,7 @@ module _ (fair : Bool) (lending : Lending) (any_order : Bool) (wanted : List Pri
         all_end = source_ends fair lending any_order wanted program code runs fair_ends right;
       }
 
-  not_all : (text : List ℕ) (status : Status) → SaysOfRuns fair lending any_order wanted code labels states text status → status ≡ Unexpected
+  not_all : (items : List Item) (status : Status) → SaysOfRuns fair lending any_order wanted code states items status → status ≡ Unexpected
       → EndsOtherwise lending any_order wanted program code ⊎ HasDeadlock lending program code ⊎ SourceIsEndless lending program code.claims
   not_all _ _ (as_expected all) is = absurd (let e : Done ≡ Unexpected = is in cc)
   not_all _ _ (outcome found deadlocks extent told at first f there picks counted what said) is =
@@ -97,19 +100,21 @@ module _ (fair : Bool) (lending : Lending) (any_order : Bool) (wanted : List Pri
     met_in all =
         subst (λ (c : Code). AreMet c requirements) (sym generated) (all_met_back program code.claims requirements all)
 
-    asked_done : (text : List ℕ) (status : Status)
-        → SaysOfAsked fair lending any_order requirements wanted code labels states text status → status ≡ Done
+    asked_done : (said : List Saying) (status : Status)
+        → SaysOfAsked fair lending any_order requirements wanted code labels states said status → status ≡ Done
         → AreMetBy program code.claims requirements × DoesAsExpected fair lending any_order wanted program code
     asked_done _ _ (unmet r first) is = absurd (let e : Unexpected ≡ Done = is in cc)
-    asked_done _ _ (met all said given says) is = (met_by all, all_as_expected said given says is)
+    asked_done _ _ (met all _ _ (are_found items status says)) is = (met_by all, all_as_expected items status says is)
+    asked_done _ _ (met all _ _ no_memory) is = absurd (let e : Memory ≡ Done = is in cc)
 
-    asked_unexpected : (text : List ℕ) (status : Status)
-        → SaysOfAsked fair lending any_order requirements wanted code labels states text status → status ≡ Unexpected
+    asked_unexpected : (said : List Saying) (status : Status)
+        → SaysOfAsked fair lending any_order requirements wanted code labels states said status → status ≡ Unexpected
         → (¬ AreMetBy program code.claims requirements) ⊎ EndsOtherwise lending any_order wanted program code
         ⊎ HasDeadlock lending program code ⊎ SourceIsEndless lending program code.claims
     asked_unexpected _ _ (unmet r first) is =
         inl (λ all. first.unmet (required code requirements (met_in all) first.at r first.there))
-    asked_unexpected _ _ (met all said given says) is = inr (not_all said given says is)
+    asked_unexpected _ _ (met all _ _ (are_found items status says)) is = inr (not_all items status says is)
+    asked_unexpected _ _ (met all _ _ no_memory) is = absurd (let e : Memory ≡ Unexpected = is in cc)
 
 pub right_of_programs : AnswersAreRightOfPrograms
 right_of_programs text code labels is =

@@ -6,7 +6,6 @@ pub mod ExpectedLaw
 pub mod ExpectedSource
 pub mod FairLemmas
 pub mod ItemLemmas
-pub mod LineLemmas
 pub mod OneRunLemmas
 pub mod OutcomeLemmas
 pub mod PartLemmas

@@ -1,9 +1,9 @@
 -- Lines that say requirements, and whether these are met.
 use Rattle.std.proofs.Common.{◌≡◌, ◌≢◌, ◌+◌, ◌<◌, ◌≤◌, ◌^◌, ℕ, Bool, true, false, ◌||◌, List, [], ◌∷◌, ◌++◌, codes, Option, None, Some}
-use Rattle.std.proofs.Common.{get_or, length, map, take, refl, sym, ap, subst, ◌∙◌, arith}
+use Rattle.std.proofs.Common.{append_assoc, get_or, length, map, take, refl, sym, ap, subst, ◌∙◌, arith}
 use Rattle.std.specs.Prelude.{ℤ, pos, IfNone, IfSome, MatchOption}
 use Rattle.std.specs.Fmt.{decimal, signed_decimal}
-use Rattle.std.specs.List.{list_any}
+use Rattle.std.specs.List.{concat, list_any}
 use Rattle.std.proofs.lemmas.Fmt.{digits_decimal, signed_decimal_injective}
 use Rattle.std.proofs.lemmas.List.{get_or-map, length-map, take_all, take_more}
 use Rattle.std.proofs.lemmas.List.Elements.{All-push}
@@ -14,6 +14,7 @@ use Rattle.pb_code.specs.Whole.{Code}
 use Rattle.pb_code.proofs.NumeralLemmas.{own}
 use Rattle.pb_picks.specs.PickLines.{IsFirstLine, Lacks}
 use Rattle.pb_picks.proofs.PickParts.{behind_line, digits_lack, never_lacks, same_parts}
+use Rattle.pb_search_engine.specs.OtherTexts.{other_line}
 use Rattle.pb_search_engine.specs.Requirements.{AreMet, IsMet, MayBeClaimed, ReadsRequirements, SpellsRequirement, claim_text, part_text}
 use Rattle.pb_search_engine.specs.declared.requirements.Part.{Part}
 use Rattle.pb_search_engine.specs.declared.requirements.Part.TheVariants.{Hold, Parbegin}
@@ -80,6 +81,13 @@ claim_parts text word name amount other up e lacks is =
 -- a text without a space requires no claim
 pub no_space : (text : List ℕ) → Lacks 32 text → (amount : ℕ) (name : List ℕ) → text ≢ claim_text amount name
 no_space text lacks amount name is = never_lacks 32 (decimal amount) name (subst (λ (t : List ℕ). Lacks 32 t) is lacks)
+
+-- the line of a claim that is required and not there
+pub lacks_told : (amount : ℕ) (name : List ℕ)
+    → concat (codes "not as expected: claims at least " ∷ decimal amount ∷ codes " " ∷ name ∷ codes "\n" ∷ [])
+    ≡ other_line (codes "claims at least " ++ claim_text amount name)
+lacks_told amount name =
+    ap (λ (t : List ℕ). codes "not as expected: claims at least " ++ t) (sym (append_assoc (decimal amount) (32 ∷ name) (10 ∷ [])))
 
 -- ---- requirements that are met
 

@@ -1,9 +1,8 @@
 -- From what is found to what is told of an input.
-use Rattle.std.proofs.Common.{◌≡◌, ◌≢◌, ◌⊎◌, ◌<◌, ◌≤◌, ℕ, List, [], ◌∷◌, length, map, get_or, Option, Some, None, IfSome, refl, sym, ap, ◌∙◌, subst, inl, inr}
-use Rattle.std.specs.Prelude.{slice_get}
-use Rattle.std.proofs.lemmas.Option.{slice_get-get_or}
+use Rattle.std.proofs.Common.{◌≡◌, ◌≢◌, ◌⊎◌, ◌≤◌, ℕ, List, [], ◌∷◌, length, map, Option, Some, None, Result, Ok, Err, IfOk, IfSome, OnErr, refl, ap, ◌∙◌, inl, inr}
 use Rattle.pb_base.specs.Lines.{NameTable}
 use Rattle.pb_base.specs.declared.limits.TheConstants.{MAX_INPUT}
+use Rattle.pb_base.specs.declared.memory.NoMemory.{NoMemory as OutOfMemory}
 use Rattle.pb_code.specs.Whole.{Code, ProcessLabels}
 use Rattle.pb_codegen.specs.Compiled.{IsCompiled}
 use Rattle.pb_codegen.specs.declared.fault.CompileFault.{CompileFault}
@@ -14,16 +13,17 @@ use Rattle.pb_accept.specs.Sayings.{NoMemory, Refused}
 use Rattle.pb_options.specs.declared.options.OutcomesOptions.{OutcomesOptions}
 use Rattle.pb_search_engine.specs.Items.{Item, given_item_view}
 use Rattle.pb_search_engine.specs.Sayings.{Finds, Plain, Saying, SaysOfAnyInput}
-use Rattle.pb_search_engine.specs.SaysOutcomes.{SaysFairly, SaysOfOutcomesOf, SaysOfOutcomes, accepted, found, mode_for, until_for}
+use Rattle.pb_search_engine.specs.SaysOfTexts.{SaysOfItems, accepted, found, no_memory as out_of_memory}
+use Rattle.pb_search_engine.specs.declared.answer.Answer.{Answer}
 use Rattle.pb_search_engine.specs.declared.item.Item.{Item as GivenItem}
 use Rattle.pb_command_io.specs.Answers.{Tells}
 use Rattle.pb_command_io.specs.Inputs.{SaysOfReading, not_read}
-use Rattle.pb_search_engine.specs.SaysOfAll.{SaysBy}
-use Rattle.pb_search_engine.specs.declared.outcomes.Way.{Way}
-use Rattle.pb_search_engine.specs.declared.outcomes.Way.TheVariants as way
-use Rattle.pb_voice.specs.declared.form.Form.{Form}
+use Rattle.pb_search_engine.specs.SaysOfAll.{AreCut, SaysOfCode, SaysOfSought, SaysOfTold}
+use Rattle.pb_search_engine.specs.declared.outcomes.Told.{Told}
+use Rattle.pb_search_engine.specs.declared.outcomes.Told.TheVariants as told
+use Rattle.pb_search_engine.specs.declared.sought.Sought.{Sought}
 use Rattle.pb_voice.specs.Inputs.{no_memory, read}
-use Rattle.pb_voice.specs.Tellings.{Breaking, Ends, Speaks, Telling, broken, whole}
+use Rattle.pb_voice.specs.Tellings.{Ends, Speaks}
 
 -- what is said of items, by their views
 pub views_of : (names : NameTable) (labels : List ProcessLabels) (items : List GivenItem)
@@ -53,54 +53,40 @@ module _ {T : Type 0} (tells breaks : T → Saying → T → Type 0) (Says : Lis
       go (inr not) = (Plain (Refused f) ∷ [], status.Refused, read (Plain (Refused f) ∷ []) status.Refused short (may not), other not)
 
 module _ {T : Type 0} (tells breaks : T → Saying → T → Type 0) (old new : T) (given : Status) where
-  -- what is told of its code is told of an accepted text
-  pub code_is_told : (options : OutcomesOptions) (bytes : List ℕ) (code : Code) (labels : List ProcessLabels) → length bytes ≤ MAX_INPUT
-      → IsCompiled bytes code labels → Speaks tells breaks (SaysOfOutcomesOf options code labels) old new given
-      → Speaks tells breaks (SaysOfAnyInput (SaysOfOutcomes options) bytes) old new given
-  code_is_told options bytes code labels short compiled (said, status, is, ends) =
-      (said, status, read said status short (accepted code labels compiled said status is), ends)
+  -- what is told of its code is told of an input whose text is accepted
+  pub code_is_told : (sought : Sought) (options : OutcomesOptions) (bytes text lines : List ℕ) (code : Code) (labels : List ProcessLabels)
+      → length bytes ≤ MAX_INPUT → AreCut sought bytes text lines → IsCompiled text code labels
+      → Speaks tells breaks (SaysOfCode sought options lines code labels) old new given
+      → Speaks tells breaks (SaysOfAnyInput (SaysOfSought sought options) bytes) old new given
+  code_is_told sought options bytes text lines code labels short cut compiled (said, status, is, ends) =
+      (said, status, read said status short (text, lines, cut, accepted code labels compiled said status is), ends)
 
-  -- what is found of code is told, or a write failed
-  module _ (options : OutcomesOptions) (code : Code) (labels : List ProcessLabels) (items : List Item) (ending : Status)
-      (may : SaysFairly options.fair (mode_for options.lend options.prints) (until_for options.first_deadlock) code options.states items ending)
-      (names : NameTable) (shown : List ProcessLabels) (same : names ≡ code.names) (same_labels : shown ≡ labels) where
-    as_named : map (Finds names shown) items ≡ map (Finds code.names labels) items
-    as_named =
-        ap (λ (n : NameTable). map (Finds n shown) items) same ∙ ap (λ (l : List ProcessLabels). map (Finds code.names l) items) same_labels
+  -- what is found is told item by item, or out of memory
+  pub found_is_told : (AreFound : List Item → Status → Type 0) (names : NameTable) (labels : List ProcessLabels) (answer : Result Answer OutOfMemory)
+      → IfOk answer (λ a. AreFound (map given_item_view a.items.items) a.status)
+      → IfOk answer (λ a. Ends tells breaks old (map (Finds names labels) (map given_item_view a.items.items)) a.status new given)
+      → OnErr answer (Ends tells breaks old (Plain NoMemory ∷ []) status.Memory new given)
+      → Speaks tells breaks (SaysOfItems AreFound names labels) old new given
+  found_is_told AreFound names labels (Ok a) are ends memory =
+      (map (Finds names labels) (map given_item_view a.items.items), a.status, found (map given_item_view a.items.items) a.status are, ends)
+  found_is_told AreFound names labels (Err e) are ends memory = (Plain NoMemory ∷ [], status.Memory, out_of_memory, memory)
 
-    pub found_is_told : given ≡ ending → ending ≢ status.Device → Telling tells old (map (Finds names shown) items) new
-        → Speaks tells breaks (SaysOfOutcomesOf options code labels) old new given
-    found_is_told is other told = (
-      map (Finds code.names labels) items,
-      ending,
-      found items ending may,
-      subst (λ (s : Status). Ends tells breaks old (map (Finds code.names labels) items) ending new s) (sym is)
-          (whole other (subst (λ (l : List Saying). Telling tells old l new) as_named told)),
-    )
-
-    pub found_breaks : given ≡ status.Device → Breaking tells breaks old (map (Finds names shown) items) new
-        → Speaks tells breaks (SaysOfOutcomesOf options code labels) old new given
-    found_breaks is fails = (
-      map (Finds code.names labels) items,
-      ending,
-      found items ending may,
-      subst (λ (s : Status). Ends tells breaks old (map (Finds code.names labels) items) ending new s) (sym is)
-          (broken (subst (λ (l : List Saying). Breaking tells breaks old l new) as_named fails)),
-    )
+-- items with the names of code that is seen so
+pub as_named : (items : List Item) (names named : NameTable) (labels labelled : List ProcessLabels) → names ≡ named → labels ≡ labelled
+    → map (Finds names labels) items ≡ map (Finds named labelled) items
+as_named items names named labels labelled same same_labels =
+    ap (λ (n : NameTable). map (Finds n labels) items) same ∙ ap (λ (l : List ProcessLabels). map (Finds named l) items) same_labels
 
 -- ---- an input that is not read
 
-reading_by : (asked : Way) (form : Form) (options : OutcomesOptions) (bytes said : List ℕ) (ending : Status)
-    → SaysOfReading bytes said ending → SaysBy (Some asked) form options bytes said ending
-reading_by way.Document form options bytes said ending is = not_read is
-reading_by way.Expected form options bytes said ending is = not_read is
-reading_by way.Endless form options bytes said ending is = not_read is
-reading_by (way.One target) form options bytes said ending is = not_read is
+reading_by : (asked : Told) (options : OutcomesOptions) (bytes said : List ℕ) (ending : Status)
+    → SaysOfReading bytes said ending → SaysOfTold asked options bytes said ending
+reading_by told.Document options bytes said ending is = not_read is
+reading_by (told.One target) options bytes said ending is = not_read is
 
-pub unread_by : (o : Option Way) (asked : Way) → Some asked ≡ o → (form : Form) (options : OutcomesOptions) (rest : Option (List ℕ))
+pub unread_by : (asked : Told) (options : OutcomesOptions) (rest : Option (List ℕ))
     (old new : Option (List ℕ)) (given : Status) → IfSome rest (λ r. Tells (SaysOfReading r) old new given)
-    → IfSome rest (λ r. Tells (SaysBy o form options r) old new given)
-unread_by o asked same form options None old new given told = tt
-unread_by o asked same form options (Some r) old new given (said, ending, is, written) =
-    subst (λ (w : Option Way). Tells (SaysBy w form options r) old new given) same
-    (said, ending, reading_by asked form options r said ending is, written)
+    → IfSome rest (λ r. Tells (SaysOfTold asked options r) old new given)
+unread_by asked options None old new given told = tt
+unread_by asked options (Some r) old new given (said, ending, is, written) =
+    (said, ending, reading_by asked options r said ending is, written)

@@ -13,6 +13,7 @@ use Rattle.pb_search_fair.specs.CodeRuns.{HasFairRun}
 use Rattle.pb_search_engine.specs.Expected.{EndsAsExpected, IsAsExpected, IsWanted}
 use Rattle.pb_search_engine.specs.Requirements.{AreMet}
 use Rattle.pb_search_engine.specs.SaysExpected.{SaysOfAsked}
+use Rattle.pb_search_engine.specs.Sayings.{Saying}
 use Rattle.pb_search_engine.specs.SourceFair.{HasFairRunOfProgram}
 use Rattle.pb_search_engine.specs.SourceOutcomes.{IsPrintedBySource, without_prints}
 use Rattle.pb_search_engine.specs.SourceRequirements.{AreMetBy}
@@ -34,8 +35,8 @@ IsAsAsked fair lending any_order requirements wanted code =
 abbrev pub AnswersAreRight : Type 0
 AnswersAreRight =
     (fair : Bool) (lending : Lending) (any_order : Bool) (requirements : List Requirement) (wanted : List Print) (code : Code)
-    (labels : List ProcessLabels) (states : ℕ) (text : List ℕ) (status : Status)
-    → SaysOfAsked fair lending any_order requirements wanted code labels states text status
+    (labels : List ProcessLabels) (states : ℕ) (said : List Saying) (status : Status)
+    → SaysOfAsked fair lending any_order requirements wanted code labels states said status
     → (status ≡ Done → IsAsAsked fair lending any_order requirements wanted code)
     × (status ≡ Unexpected → ¬ IsAsAsked fair lending any_order requirements wanted code)
 
@@ -79,5 +80,5 @@ AnswersAreRightOfPrograms =
     (text : List ℕ) (code : Code) (labels : List ProcessLabels) → IsCompiled text code labels
     → (program : Program) × IsReadAs text program code.claims
     × ((fair : Bool) (lending : Lending) (any_order : Bool) (requirements : List Requirement) (wanted : List Print) (states : ℕ)
-    (said : List ℕ) (status : Status) → SaysOfAsked fair lending any_order requirements wanted code labels states said status
+    (said : List Saying) (status : Status) → SaysOfAsked fair lending any_order requirements wanted code labels states said status
     → TellsOfProgram fair lending any_order requirements wanted program code status)

@@ -8,6 +8,9 @@ use Rattle.pb_history.specs.declared.counted.CountedPick.{CountedPick}
 use Rattle.pb_search.specs.declared.found.StuckState.{StuckState}
 use Rattle.pb_search.specs.declared.found.StuckState.TheVariants.{Ended, Faulted, Waiting}
 use Rattle.pb_search_engine.specs.Items.{AllEnd, AtDeadlock, Block, Deadlock, Item, More, Others, Outcome, SomeDoNotEnd, Totals}
+use Rattle.pb_search_engine.specs.Items.{Lead, Round}
+use Rattle.pb_search_engine.specs.Items.{AsExpected, NotAsExpected}
+use Rattle.pb_search_engine.specs.OtherTexts.{other_line, other_text}
 use Rattle.pb_search_engine.specs.OutcomeLines.{integer_names, plural, printed_head, runs_text}
 use Rattle.pb_search_engine.specs.declared.item.Bound.{Bound}
 use Rattle.pb_search_engine.specs.declared.item.Bound.TheVariants.{Configurations, FairRuns, Picks}
@@ -85,13 +88,21 @@ abbrev pub some_line : (fair : Bool) → List ℕ
 some_line true = codes "some fair runs do not end\n"
 some_line false = codes "some runs do not end\n"
 
+-- picks of a run that never ends, after what they do
+abbrev pub circle_lines : (heading : List ℕ) → NameTable → List CountedPick → List ℕ
+circle_lines heading names picks = heading ++ flat_map (counted_line names) picks
+
 -- the lines of an item
 abbrev pub item_lines : NameTable → List ProcessLabels → Item → List ℕ
 item_lines names labels (Outcome b) = block_lines (codes "outcome") names labels b
 item_lines names labels (Deadlock b) = block_lines (codes "deadlock") names labels b
+item_lines names labels AsExpected = codes "as expected\n"
+item_lines names labels (NotAsExpected other) = other_line (other_text other)
 item_lines names labels (Totals outcomes deadlocks cycles) = totals_line outcomes deadlocks cycles
 item_lines names labels (Others bound limit) = more_text bound limit (codes ", there may be others\n")
 item_lines names labels AtDeadlock = codes "first deadlock, there may be others\n"
 item_lines names labels (More bound limit) = more_text bound limit (codes "\n")
 item_lines names labels (AllEnd fair) = all_end_line fair
 item_lines names labels (SomeDoNotEnd fair) = some_line fair
+item_lines names labels (Lead picks) = circle_lines (codes "endless\nreached by\n") names picks
+item_lines names labels (Round picks) = circle_lines (codes "round\n") names picks

@@ -12,6 +12,9 @@ use Rattle.pb_json.specs.Values.{comma, integer_text}
 use Rattle.pb_search.specs.declared.found.StuckState.{StuckState}
 use Rattle.pb_search.specs.declared.found.StuckState.TheVariants.{Ended, Faulted, Waiting}
 use Rattle.pb_search_engine.specs.Items.{AllEnd, AtDeadlock, Block, Deadlock, Item, More, Others, Outcome, SomeDoNotEnd, Totals}
+use Rattle.pb_search_engine.specs.Items.{Lead, Round}
+use Rattle.pb_search_engine.specs.Items.{AsExpected, NotAsExpected}
+use Rattle.pb_search_engine.specs.OtherTexts.{other_json, other_text}
 use Rattle.pb_search_engine.specs.OutcomeLines.{integer_names}
 use Rattle.pb_search_engine.specs.Parts.{is_of}
 use Rattle.pb_search_engine.specs.declared.item.Bound.{Bound}
@@ -143,13 +146,26 @@ abbrev pub some_json : (fair : Bool) → List ℕ
 some_json true = codes "{\"kind\":\"some fair runs do not end\"}\n"
 some_json false = codes "{\"kind\":\"some runs do not end\"}\n"
 
+-- the first members of picks of a run that never ends: the other lists of an outcome are empty
+abbrev pub circle_head : (kind : List ℕ) → List ℕ
+circle_head kind =
+    concat (codes "{\"kind\":\"" ∷ kind ∷ codes "\",\"processes\":[],\"integers\":[],\"holds\":[],\"asks\":[],\"prints\":[]" ∷ [])
+
+-- picks of a run that never ends, of this kind
+abbrev pub circle_json : (kind : List ℕ) → NameTable → List CountedPick → List ℕ
+circle_json kind names picks = circle_head kind ++ (picks_json names picks ++ codes "}\n")
+
 -- the object of an item
 abbrev pub item_json : NameTable → List ProcessLabels → Item → List ℕ
 item_json names labels (Outcome b) = block_json (codes "outcome") names labels b
 item_json names labels (Deadlock b) = block_json (codes "deadlock") names labels b
+item_json names labels AsExpected = codes "{\"kind\":\"as expected\"}\n"
+item_json names labels (NotAsExpected other) = other_json (other_text other)
 item_json names labels (Totals outcomes deadlocks cycles) = totals_json outcomes deadlocks cycles
 item_json names labels (Others bound limit) = others_json bound limit
 item_json names labels AtDeadlock = codes "{\"kind\":\"others\",\"of\":\"deadlocks\"}\n"
 item_json names labels (More bound limit) = others_json bound limit
 item_json names labels (AllEnd fair) = all_end_json fair
 item_json names labels (SomeDoNotEnd fair) = some_json fair
+item_json names labels (Lead picks) = circle_json (codes "endless") names picks
+item_json names labels (Round picks) = circle_json (codes "round") names picks

@@ -13,6 +13,7 @@ use Rattle.pb_search_engine.specs.declared.item.Bound.{Bound}
 use Rattle.pb_search_engine.specs.declared.item.Bound.TheVariants.{Configurations, FairRuns, Picks}
 use Rattle.pb_search_engine.specs.declared.item.Item.{Item as GivenItem}
 use Rattle.pb_search_engine.specs.declared.item.Item.TheVariants as given
+use Rattle.pb_search_engine.specs.declared.other.Other.{Other}
 use Rattle.pb_search_engine.specs.declared.part.Part.{Part}
 use Rattle.pb_search_fair.specs.declared.runs.FairRuns.{FairRuns as ToldRuns}
 use Rattle.pb_search_fair.specs.declared.runs.FairRuns.TheVariants as told
@@ -29,6 +30,9 @@ pub record Block : Type 0 where
 -- one thing that is found
 pub data Item : Type 0 where
   Outcome Deadlock : Block → Item
+  -- all runs are as expected; or they are not, for this reason
+  AsExpected : Item
+  NotAsExpected : Other → Item
   -- how many there are, and whether some run never ends
   Totals : (outcomes deadlocks : ℕ) → (cycles : Bool) → Item
   -- there may be others, since there is more than this of something; or since the search ended at the first deadlock
@@ -38,6 +42,8 @@ pub data Item : Type 0 where
   More : Bound → (limit : ℕ) → Item
   -- every run ends, or some do not; with `fair` only fair runs count
   AllEnd SomeDoNotEnd : (fair : Bool) → Item
+  -- some run never ends: picks that lead into a circle, and picks that go round it
+  Lead Round : List CountedPick → Item
 
 -- what contracts see of an outcome or a deadlock, and of an item
 abbrev pub given_block_view : GivenBlock → Block
@@ -46,12 +52,16 @@ given_block_view b = record { number = b.number; parts = b.parts.items; prints =
 abbrev pub given_item_view : GivenItem → Item
 given_item_view (given.Outcome b) = Outcome (given_block_view b)
 given_item_view (given.Deadlock b) = Deadlock (given_block_view b)
+given_item_view given.AsExpected = AsExpected
+given_item_view (given.NotAsExpected other) = NotAsExpected other
 given_item_view (given.Totals outcomes deadlocks cycles) = Totals outcomes deadlocks cycles
 given_item_view (given.Others bound limit) = Others bound limit
 given_item_view given.AtDeadlock = AtDeadlock
 given_item_view (given.More bound limit) = More bound limit
 given_item_view (given.AllEnd fair) = AllEnd fair
 given_item_view (given.SomeDoNotEnd fair) = SomeDoNotEnd fair
+given_item_view (given.Lead picks) = Lead picks.items
+given_item_view (given.Round picks) = Round picks.items
 
 -- an outcome with its number and picks that lead to it
 abbrev pub outcome_item : ℕ → FoundOutcome → List CountedPick → Item

@@ -1,10 +1,10 @@
-pub mod DeadlockLines
 pub mod Expected
 pub mod ExpectedLaws
 pub mod FairLines
 pub mod ItemLines
 pub mod ItemObjects
 pub mod Items
+pub mod OtherTexts
 pub mod OutcomeLines
 pub mod Parts
 pub mod PrintLines
@@ -14,6 +14,7 @@ pub mod SaysEndless
 pub mod SaysExpected
 pub mod SaysOfAll
 pub mod SaysOfOne
+pub mod SaysOfTexts
 pub mod SaysOutcomes
 pub mod Showing
 pub mod SourceFair

@@ -6,13 +6,17 @@ use Rattle.pb_search.specs.Deadlocks.{StuckProcess}
 use Rattle.pb_search.specs.declared.found.Ask.{Ask}
 use Rattle.pb_search.specs.declared.found.StuckState.{StuckState}
 use Rattle.pb_search.specs.declared.found.StuckState.TheVariants.{Ended, Faulted}
-use Rattle.pb_search_engine.specs.DeadlockLines.{stuck_at}
 use Rattle.pb_search_engine.specs.OutcomeLines.{outcome_at}
 use Rattle.pb_search_engine.specs.declared.part.Part.{Part}
 use Rattle.pb_search_engine.specs.declared.part.Part.TheVariants.{Stands, Integer, Holds, Asks}
 use Rattle.pb_search_engine.specs.declared.part.Section.{Section}
 use Rattle.pb_search_engine.specs.declared.part.Section.TheVariants as section
 use Rattle.pb_search_stages.specs.Reaching.{ProcessOutcome}
+
+-- a process of a deadlock, by its number
+abbrev pub stuck_at : List StuckProcess → ℕ → StuckProcess
+stuck_at processes p =
+    slice_index_or processes p (record { integers = []; state = Ended; holds = []; asks = [] })
 
 -- what is collected of each number below n, one after another
 abbrev pub collected : {X : Type 0} → (ℕ → List X) → ℕ → List X

@@ -1,12 +1,8 @@
 -- What `outcomes` says of an input, as data, and with which status.
-use Rattle.std.specs.Prelude.{◌≡◌, ◌≢◌, ℕ, zero, suc, Bool, true, false, List, [], ◌∷◌, ◌++◌, length, map}
+use Rattle.std.specs.Prelude.{◌≡◌, ℕ, zero, suc, Bool, true, false, List, [], ◌∷◌, ◌++◌, length}
 use Rattle.pb_code.specs.Whole.{Code, ProcessLabels}
-use Rattle.pb_codegen.specs.Compiled.{IsCompiled, IsRefused}
-use Rattle.pb_codegen.specs.declared.fault.CompileFault.{CompileFault}
-use Rattle.pb_codegen.specs.declared.fault.CompileFault.TheVariants as fault
-use Rattle.pb_accept.specs.Sayings.{NoMemory, Refused as RefusedText}
 use Rattle.pb_command_io.specs.declared.status.Status.{Status}
-use Rattle.pb_command_io.specs.declared.status.Status.TheVariants.{Deadlock, Done, Limit, Memory, Refused}
+use Rattle.pb_command_io.specs.declared.status.Status.TheVariants.{Deadlock, Done, Limit}
 use Rattle.pb_search.specs.Deadlocks.{FoundDeadlock}
 use Rattle.pb_search.specs.Outcomes.{Found}
 use Rattle.pb_search.specs.Told.{IsTold}
@@ -20,7 +16,8 @@ use Rattle.pb_options.specs.declared.options.Lend.{Lend}
 use Rattle.pb_options.specs.declared.options.OutcomesOptions.{OutcomesOptions}
 use Rattle.pb_search_engine.specs.FairLines.{status_with}
 use Rattle.pb_search_engine.specs.Items.{AreDeadlockItems, AreOutcomeItems, Item, fair_item, closing_item}
-use Rattle.pb_search_engine.specs.Sayings.{Finds, Plain, Saying}
+use Rattle.pb_search_engine.specs.SaysOfTexts.{SaysOfItems}
+use Rattle.pb_search_engine.specs.Sayings.{Saying}
 use Rattle.pb_search_fair.specs.CodeRuns.{TellsFairRuns}
 use Rattle.pb_search_fair.specs.declared.runs.FairRuns.{FairRuns}
 
@@ -60,16 +57,6 @@ SaysFairly true mode until code states items status =
     × (items ≡ before ++ fair_item states told ∷ []) × (status ≡ status_with was told)
 
 -- what is said of code with these names: its outcomes and deadlocks, and its fair runs if that is asked; or out of memory
-pub data SaysOfOutcomesOf (options : OutcomesOptions) (code : Code) (labels : List ProcessLabels) : List Saying → Status → Type 0 where
-  found : (items : List Item) (status : Status)
-      → SaysFairly options.fair (mode_for options.lend options.prints) (until_for options.first_deadlock) code options.states items status
-      → SaysOfOutcomesOf options code labels (map (Finds code.names labels) items) status
-  no_memory : SaysOfOutcomesOf options code labels (Plain NoMemory ∷ []) Memory
-
--- what is said of a text: it is refused; or it is accepted, and this is said of its code
-pub data SaysOfOutcomes (options : OutcomesOptions) (bytes : List ℕ) : List Saying → Status → Type 0 where
-  refused : (f : CompileFault) → f ≢ fault.Memory → IsRefused bytes f
-      → SaysOfOutcomes options bytes (Plain (RefusedText f) ∷ []) Refused
-  accepted : (code : Code) (labels : List ProcessLabels) → IsCompiled bytes code labels
-      → (said : List Saying) (status : Status) → SaysOfOutcomesOf options code labels said status
-      → SaysOfOutcomes options bytes said status
+abbrev pub SaysOfOutcomesOf : OutcomesOptions → Code → List ProcessLabels → List Saying → Status → Type 0
+SaysOfOutcomesOf options code =
+    SaysOfItems (SaysFairly options.fair (mode_for options.lend options.prints) (until_for options.first_deadlock) code options.states) code.names

@@ -1,5 +1,6 @@
 //! What a search finds, item by item.
 
+use crate::other::Other;
 use crate::part::Part;
 use pb_history::CountedPick;
 use pb_search_stages::Print;
@@ -36,6 +37,10 @@ pub enum Item {
     Outcome(Block),
     /// A deadlock.
     Deadlock(Block),
+    /// All runs are as expected.
+    AsExpected,
+    /// Not all runs are as expected, for this reason.
+    NotAsExpected(Other),
     /// How many outcomes and deadlocks there are, and whether some run never ends.
     Totals {
         outcomes: usize,
@@ -62,4 +67,8 @@ pub enum Item {
     SomeDoNotEnd {
         fair: bool,
     },
+    /// Picks that lead into a circle of a run that never ends.
+    Lead(Vec<CountedPick>),
+    /// Picks that go round it.
+    Round(Vec<CountedPick>),
 }

@@ -5,7 +5,7 @@ ghost use Rattle.std.specs.List.{flat_map};
 ghost use Rattle.pb_base.specs.Lines.{names_view};
 ghost use Rattle.pb_code.specs.View.{labels_view};
 ghost use Rattle.pb_search_engine.specs.ItemLines as spec;
-ghost use Rattle.pb_search_engine.specs.ItemLines.{block_lines, counted_line, item_lines, more_text, part_line, printed_line, printed_text};
+ghost use Rattle.pb_search_engine.specs.ItemLines.{block_lines, item_lines, more_text, part_line, printed_line, printed_text};
 ghost use Rattle.pb_search_engine.specs.ItemLines.{totals_line};
 ghost use Rattle.pb_search_engine.specs.Items.{given_block_view, given_item_view};
 ghost use Rattle.pb_search_engine.specs.OutcomeLines as lines;
@@ -15,13 +15,14 @@ ghost use Rattle.pb_voice.specs.Voices.{Adds, Breaks};
 
 use crate::item::{Block, Bound, Item};
 use crate::names::{integers_at, name_at};
+use crate::other::tell_other_line;
 use crate::part::Part;
+use crate::pick_lines::{tell_circle_lines, tell_picks};
 use crate::said::Shown;
 use itoa::Buffer;
 use pb_accept::tell_pairs;
 use pb_base::{DeviceFault, Names, Output};
 use pb_code::Labels;
-use pb_history::CountedPick;
 use pb_search::{Ask, StuckState};
 use pb_search_stages::Print;
 use pb_voice::Voice;
@@ -254,51 +255,6 @@ fn tell_printed<O: Output>(
     tell_print_lines(voice, output, names, prints)
 }
 
-/// Tells the line of picks that follow one another.
-fn tell_pick<O: Output>(
-    voice: &mut Voice,
-    output: &mut O,
-    names: &Names,
-    counted: CountedPick,
-) -> Result<(), DeviceFault>
-    ensures ok { OnOk result (Adds (at O.written O.failures voice.old output.old) (counted_line (names_view names.now) counted)
-        (at O.written O.failures voice.new output.new)) }
-    ensures err { OnErr result (Breaks (at O.written O.failures voice.old output.old) (counted_line (names_view names.now) counted)
-        (at O.written O.failures voice.new output.new)) }
-{
-    let mut arm = Buffer::new();
-    let mut count = Buffer::new();
-    voice.say_all(
-        output,
-        &[
-            name_at(&names.processes, counted.pick.process as usize),
-            b".",
-            arm.format(counted.pick.arm).as_bytes(),
-            b" ",
-            count.format(counted.count).as_bytes(),
-            b"\n",
-        ],
-    )
-}
-
-/// Tells the lines of picks.
-fn tell_picks<O: Output>(
-    voice: &mut Voice,
-    output: &mut O,
-    names: &Names,
-    picks: &[CountedPick],
-) -> Result<(), DeviceFault>
-    ensures ok { OnOk result (Adds (at O.written O.failures voice.old output.old) (flat_map (counted_line (names_view names.now)) picks.now)
-        (at O.written O.failures voice.new output.new)) }
-    ensures err { OnErr result (Breaks (at O.written O.failures voice.old output.old) (flat_map (counted_line (names_view names.now)) picks.now)
-        (at O.written O.failures voice.new output.new)) }
-{
-    for i in 0..picks.len() {
-        tell_pick(voice, output, names, picks[i])?;
-    }
-    Ok(())
-}
-
 /// Tells the first line of an outcome or a deadlock.
 fn tell_head<O: Output>(
     voice: &mut Voice,
@@ -477,6 +433,8 @@ pub fn tell_item_lines<O: Output>(
     match item {
         Item::Outcome(block) => tell_block(voice, output, b"outcome", names, labels, block),
         Item::Deadlock(block) => tell_block(voice, output, b"deadlock", names, labels, block),
+        Item::AsExpected => voice.say(output, b"as expected\n"),
+        Item::NotAsExpected(other) => tell_other_line(voice, output, *other),
         Item::Totals {
             outcomes,
             deadlocks,
@@ -489,5 +447,13 @@ pub fn tell_item_lines<O: Output>(
         Item::More { bound, limit } => tell_more(voice, output, *bound, *limit, b"\n"),
         Item::AllEnd { fair } => voice.say(output, all_end_line(*fair)),
         Item::SomeDoNotEnd { fair } => voice.say(output, some_line(*fair)),
+        Item::Lead(picks) => tell_circle_lines(
+            voice,
+            output,
+            b"endless\nreached by\n",
+            names,
+            picks,
+        ),
+        Item::Round(picks) => tell_circle_lines(voice, output, b"round\n", names, picks),
     }
 }

@@ -4,17 +4,19 @@ ghost use Rattle.std.specs.Prelude.{◌≡◌, OnOk, OnErr};
 ghost use Rattle.pb_base.specs.Lines.{names_view};
 ghost use Rattle.pb_code.specs.View.{labels_view};
 ghost use Rattle.pb_search_engine.specs.ItemObjects as spec;
-ghost use Rattle.pb_search_engine.specs.ItemObjects.{block_json, item_json, others_json, totals_json};
+ghost use Rattle.pb_search_engine.specs.ItemObjects.{block_json, circle_json, item_json, others_json, totals_json};
 ghost use Rattle.pb_search_engine.specs.Items.{given_block_view, given_item_view};
 ghost use Rattle.pb_voice.specs.Held.{at};
 ghost use Rattle.pb_voice.specs.Voices.{Adds, Breaks};
 
 use crate::item::{Block, Bound, Item};
+use crate::other::tell_other_object;
 use crate::part_objects::{tell_pick_list, tell_print_list, tell_sections};
 use crate::said::Shown;
 use itoa::Buffer;
 use pb_base::{DeviceFault, Names, Output};
 use pb_code::Labels;
+use pb_history::CountedPick;
 use pb_voice::Voice;
 
 /// Tells the first members of an outcome or a deadlock.
@@ -172,6 +174,31 @@ fn some_object(fair: bool) -> &'static [u8]
     }
 }
 
+/// Tells the object of picks of a run that never ends.
+fn tell_circle<O: Output>(
+    voice: &mut Voice,
+    output: &mut O,
+    kind: &'static [u8],
+    names: &Names,
+    picks: &[CountedPick],
+) -> Result<(), DeviceFault>
+    ensures ok { OnOk result (Adds (at O.written O.failures voice.old output.old) (circle_json kind.now (names_view names.now) picks.now)
+        (at O.written O.failures voice.new output.new)) }
+    ensures err { OnErr result (Breaks (at O.written O.failures voice.old output.old) (circle_json kind.now (names_view names.now) picks.now)
+        (at O.written O.failures voice.new output.new)) }
+{
+    voice.say_all(
+        output,
+        &[
+            b"{\"kind\":\"",
+            kind,
+            b"\",\"processes\":[],\"integers\":[],\"holds\":[],\"asks\":[],\"prints\":[]",
+        ],
+    )?;
+    tell_pick_list(voice, output, names, picks)?;
+    voice.say(output, b"}\n")
+}
+
 /// Tells an item by its object.
 pub fn tell_item_object<O: Output>(
     voice: &mut Voice,
@@ -191,6 +218,8 @@ pub fn tell_item_object<O: Output>(
     match item {
         Item::Outcome(block) => tell_block(voice, output, b"outcome", names, labels, block),
         Item::Deadlock(block) => tell_block(voice, output, b"deadlock", names, labels, block),
+        Item::AsExpected => voice.say(output, b"{\"kind\":\"as expected\"}\n"),
+        Item::NotAsExpected(other) => tell_other_object(voice, output, *other),
         Item::Totals {
             outcomes,
             deadlocks,
@@ -202,5 +231,7 @@ pub fn tell_item_object<O: Output>(
         Item::AtDeadlock => { voice.say(output, b"{\"kind\":\"others\",\"of\":\"deadlocks\"}\n") }
         Item::AllEnd { fair } => voice.say(output, all_end_object(*fair)),
         Item::SomeDoNotEnd { fair } => voice.say(output, some_object(*fair)),
+        Item::Lead(picks) => tell_circle(voice, output, b"endless", names, picks),
+        Item::Round(picks) => tell_circle(voice, output, b"round", names, picks),
     }
 }

@@ -19,7 +19,7 @@ use pb_search_fair::FairRuns;
 use std::alloc::Global;
 
 /// Returns an outcome with this number.
-fn outcome_block(alloc: Global, number: usize, found: &Found) -> Result<Block, NoMemory>
+pub fn outcome_block(alloc: Global, number: usize, found: &Found) -> Result<Block, NoMemory>
     requires { length found.now.picks.items ≤ MAX_PICKS }
     ensures { IfOk result (λ b. (picks : List AnyPick) × AreCounted found.now.picks.items picks
         × (AnyOutcome (given_block_view b) ≡ outcome_item number (found_view found.now).outcome picks)) }
@@ -37,7 +37,7 @@ fn outcome_block(alloc: Global, number: usize, found: &Found) -> Result<Block, N
 }
 
 /// Returns a deadlock with this number.
-fn deadlock_block(alloc: Global, number: usize, deadlock: &Deadlock) -> Result<Block, NoMemory>
+pub fn deadlock_block(alloc: Global, number: usize, deadlock: &Deadlock) -> Result<Block, NoMemory>
     requires { length deadlock.now.picks.items ≤ MAX_PICKS }
     ensures { IfOk result (λ b. (picks : List AnyPick) × AreCounted deadlock.now.picks.items picks
         × (AnyDeadlock (given_block_view b) ≡ deadlock_item number (deadlock_view deadlock.now) picks)) }

@@ -2,28 +2,30 @@
 #![tactic(auto)]
 
 mod all;
+mod answer;
 mod asked;
 mod counts;
-mod deadlocks;
 mod endless;
 mod expect;
 mod item;
 mod item_lines;
 mod item_objects;
 mod items;
+mod judged;
 pub mod laws;
 mod lines;
 mod names;
 mod one_run;
+mod other;
 mod outcomes;
 mod part;
 mod part_objects;
 mod parts;
+mod pick_lines;
 mod print_lines;
-mod prints;
-mod replies;
 mod requirements;
 mod said;
+mod sought;
 mod teller;
 mod wanted;
 

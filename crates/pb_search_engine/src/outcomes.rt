@@ -3,15 +3,13 @@
 ghost use Rattle.std.specs.Prelude.{◌≡◌, ◌≤◌, IfSome, Some, length};
 ghost use Rattle.pb_command_io.specs.Answers.{Tells};
 ghost use Rattle.pb_command_io.specs.Faults.{TellsFaults, TellsWriteFaults};
-ghost use Rattle.pb_search_engine.specs.SaysOfAll.{SaysBy, SaysOfSearches, target_of, way_of};
+ghost use Rattle.pb_search_engine.specs.SaysOfAll.{SaysOfSearches, SaysOfSought, SaysOfTold, target_of, way_of};
 ghost use Rattle.pb_search_engine.specs.Sayings.{SaysOfAnyInput, text_of};
-ghost use Rattle.pb_search_engine.specs.SaysOutcomes.{SaysOfOutcomes, mode_for, until_for};
+ghost use Rattle.pb_search_engine.specs.SaysOutcomes.{mode_for, until_for};
 ghost use Rattle.pb_voice.specs.Voices.{Written};
 
-use crate::all::all_engine;
-use crate::endless::tell_endless;
-use crate::expect::tell_expected;
 use crate::one_run::{Target, tell_one_run};
+use crate::sought::{Sought, sought_engine};
 use pb_base::limits::MAX_INPUT;
 use pb_base::{Input, Output};
 use pb_command_io::{Status, read_input};
@@ -22,17 +20,22 @@ use pb_search_stages::Mode;
 use pb_voice::{Form, Voice};
 use std::alloc::Global;
 
-/// What is asked of a text in place of all its outcomes and deadlocks. It is told as a text.
+/// What is told as a text.
 #[derive(Clone, Copy, Debug, PartialEq, Eq)]
-pub enum Way {
+pub enum Told {
     /// The document of all its schedules.
     Document,
-    /// Whether all its runs are as expected.
-    Expected,
-    /// A run that never ends.
-    Endless,
     /// A run to one outcome or one deadlock.
     One(Target),
+}
+
+/// What is asked of a text.
+#[derive(Clone, Copy, Debug, PartialEq, Eq)]
+pub enum Way {
+    /// What is found in it, which is told in a form.
+    Seeks(Sought),
+    /// What is told as a text.
+    Tells(Told),
 }
 
 /// Writes every outcome of the text that the input holds, under the banker or with loans by the cash alone: how
@@ -51,11 +54,12 @@ pub enum Way {
 ///
 /// With `options.run` or `options.deadlock` the text is written with the picks that lead to the one with this
 /// number, as `replay` reads it, or that there is none. With `options.expect` the input is a text and print lines
-/// after it, and it is written whether all runs of the text are as these lines say, as `tell_expected` does. With
-/// `options.endless` a run that never ends is written in place of all outcomes, as `tell_endless` does. With
+/// after it, and it is written whether all runs of the text are as these lines say. With
+/// `options.endless` a run that never ends is written in place of all outcomes, with picks that lead into a circle and picks that
+/// go round it. With
 /// `options.graph` the document of all its schedules is written in place of all else, as `tell_schedules` does.
 ///
-/// All outcomes are written in a form, and all else as lines.
+/// All outcomes, a run that never ends and whether all runs are as expected are written in a form, and all else as lines.
 ///
 /// After a read that failed nothing is written; after a write that failed, a prefix of the output.
 pub fn outcomes_engine<I: Input, O: Output>(
@@ -73,30 +77,27 @@ pub fn outcomes_engine<I: Input, O: Output>(
         result }
 {
     match way_of(options) {
-        Some(way) => match read_input(alloc, input, output) {
-            Ok(bytes) => tell_text(alloc, form, options, way, bytes.as_slice(), output),
-            Err(status) => status,
-        },
-        None => write_all(alloc, form, options, input, output),
+        Way::Seeks(sought) => write_sought(alloc, form, sought, options, input, output),
+        Way::Tells(told) => write_told(alloc, told, options, input, output),
     }
 }
 
-/// Returns what is asked of a text in place of all its outcomes, if something is.
-fn way_of(options: OutcomesOptions) -> Option<Way>
+/// Returns what is asked of a text.
+fn way_of(options: OutcomesOptions) -> Way
     ensures { result ≡ way_of options }
 {
     if options.graph {
-        return Some(Way::Document);
+        return Way::Tells(Told::Document);
     }
     if options.expect {
-        return Some(Way::Expected);
+        return Way::Seeks(Sought::Expected);
     }
     if options.endless {
-        return Some(Way::Endless);
+        return Way::Seeks(Sought::Endless);
     }
     match target(options.run, options.deadlock) {
-        Some(target) => Some(Way::One(target)),
-        None => None,
+        Some(target) => Way::Tells(Told::One(target)),
+        None => Way::Seeks(Sought::All),
     }
 }
 
@@ -111,47 +112,66 @@ fn target(run: Option<u32>, deadlock: Option<u32>) -> Option<Target>
     }
 }
 
-/// Writes all outcomes and deadlocks of the text on the input, in a form.
-fn write_all<I: Input, O: Output>(
+/// Writes what is found in the text on the input, in a form.
+fn write_sought<I: Input, O: Output>(
     alloc: Global,
     form: Form,
+    sought: Sought,
     options: OutcomesOptions,
     input: &mut I,
     output: &mut O,
 ) -> Status
     ensures text { IfSome (I.rest input.old) (λ bytes.
-        Tells (Written (text_of form) (SaysOfAnyInput (SaysOfOutcomes options)) bytes) (O.written output.old) (O.written output.new) result) }
+        Tells (Written (text_of form) (SaysOfAnyInput (SaysOfSought sought options)) bytes) (O.written output.old) (O.written output.new) result) }
     ensures faults { TellsFaults
         (record { reads = I.failures input.old; writes = O.failures output.old; written = O.written output.old })
         (record { reads = I.failures input.new; writes = O.failures output.new; written = O.written output.new })
         result }
 {
     let mut voice = Voice::new(alloc, form);
-    let given = all_engine(alloc, options, input, &mut voice, output);
+    let given = sought_engine(alloc, sought, options, input, &mut voice, output);
     voice.finish(output, given)
 }
 
-/// Writes what is asked of a text in place of all its outcomes.
+/// Writes what is asked of the text on the input, as a text.
+fn write_told<I: Input, O: Output>(
+    alloc: Global,
+    told: Told,
+    options: OutcomesOptions,
+    input: &mut I,
+    output: &mut O,
+) -> Status
+    ensures text { IfSome (I.rest input.old) (λ bytes.
+        Tells (SaysOfTold told options bytes) (O.written output.old) (O.written output.new) result) }
+    ensures faults { TellsFaults
+        (record { reads = I.failures input.old; writes = O.failures output.old; written = O.written output.old })
+        (record { reads = I.failures input.new; writes = O.failures output.new; written = O.written output.new })
+        result }
+{
+    match read_input(alloc, input, output) {
+        Ok(bytes) => tell_text(alloc, told, options, bytes.as_slice(), output),
+        Err(status) => status,
+    }
+}
+
+/// Writes what is asked of a text, as a text.
 fn tell_text<O: Output>(
     alloc: Global,
-    form: Form,
+    told: Told,
     options: OutcomesOptions,
-    way: Way,
     bytes: &[u8],
     output: &mut O,
 ) -> Status
     requires { length bytes.now ≤ MAX_INPUT }
-    ensures text { Tells (SaysBy (Some way) form options bytes.now) (O.written output.old) (O.written output.new) result }
+    ensures text { Tells (SaysOfTold told options bytes.now) (O.written output.old) (O.written output.new) result }
     ensures faults { TellsWriteFaults (O.failures output.old) (O.failures output.new) result }
 {
-    match way {
-        Way::Document => {
+    match told {
+        Told::Document => {
             let lending = options.lend.lending();
             tell_schedules(alloc, lending, options.states, bytes, output)
         }
-        Way::Expected => tell_expected(alloc, options, bytes, output),
-        Way::Endless => tell_endless(alloc, options, bytes, output),
-        Way::One(target) => tell_one_run(alloc, options, target, bytes, output),
+        Told::One(target) => tell_one_run(alloc, options, target, bytes, output),
     }
 }
 

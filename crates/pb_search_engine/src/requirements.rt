@@ -1,6 +1,6 @@
 //! What a text has to have beside its prints: the line that says it, and whether it is met.
 
-ghost use Rattle.std.specs.Prelude.{◌≡◌, ◌≢◌, ◌<◌, ◌↔◌, ◌++◌, ℕ, List, IfNone, IfOk, IfSome, MatchOption, codes, length, pos, true};
+ghost use Rattle.std.specs.Prelude.{◌≡◌, ◌≢◌, ◌<◌, ◌↔◌, ◌++◌, ℕ, List, IfNone, IfSome, MatchOption, codes, length, pos, true};
 ghost use Rattle.std.specs.Fmt.{decimal};
 ghost use Rattle.std.specs.List.{list_any};
 ghost use Rattle.pb_base.specs.Steppers.{Bundle};
@@ -12,11 +12,8 @@ ghost use Rattle.pb_search_engine.specs.declared.requirements.Part.{Part as AnyP
 ghost use Rattle.pb_search_engine.specs.declared.requirements.Requirement.{Requirement as AnyRequirement};
 
 use crate::print_lines::{after, split_first, value_of};
-use pb_base::NoMemory;
 use pb_base::limits::MAX_AMOUNT;
-use pb_base::writing::{put, put_name, put_number};
 use pb_code::{Code, Instr, ProcessCode, is_name};
-use std::alloc::Global;
 
 /// What a process may have to have.
 #[derive(Clone, Copy, Debug, PartialEq, Eq)]
@@ -64,7 +61,7 @@ fn part_of(line: &[u8]) -> Option<Part>
 }
 
 /// Returns how it is written that some process has a part.
-fn part_words(part: Part) -> &'static [u8]
+pub(crate) fn part_words(part: Part) -> &'static [u8]
     ensures { result.now ≡ spec.part_text part }
 {
     match part {
@@ -116,21 +113,6 @@ fn as_amount(value: i64) -> Option<u32>
         return None;
     }
     Some(value as u32)
-}
-
-/// Returns how a requirement is written.
-pub(crate) fn text_of(alloc: Global, requirement: Requirement<'_>) -> Result<Vec<u8>, NoMemory>
-    ensures { IfOk result (λ text. text.items ≡ spec.requirement_text requirement.entry) }
-{
-    let mut text = Vec::new(alloc);
-    match requirement {
-        Requirement::Claims { amount, resource } => {
-            put_number(&mut text, b"claims at least ", amount)?;
-            put_name(&mut text, b" ", resource)?;
-        }
-        Requirement::Has(part) => put(&mut text, part_words(part))?,
-    }
-    Ok(text)
 }
 
 /// Returns the first requirement that is not met, if there is one.

@@ -15,6 +15,7 @@ ghost use Rattle.pb_voice.specs.Voices.{breaks_in, tells_in};
 use crate::item::Item;
 use crate::item_lines::tell_item_lines;
 use crate::item_objects::tell_item_object;
+use crate::other::{tell_bad_line, tell_bad_object, tell_lacks_line, tell_lacks_object};
 use crate::said::{Said, Shown};
 use pb_accept::{Said as PlainSaid, tell_line, tell_object};
 use pb_base::{DeviceFault, Names, Output};
@@ -48,10 +49,14 @@ impl Teller for Voice {
         match self.form() {
             Form::Lines => match said {
                 Said::Plain(said) => tell_line(self, output, said),
+                Said::BadLine(place) => tell_bad_line(self, output, place),
+                Said::Lacks(requirement) => tell_lacks_line(self, output, requirement),
                 Said::Finds(shown) => tell_item_lines(self, output, shown),
             },
             Form::Objects => match said {
                 Said::Plain(said) => tell_object(self, output, said),
+                Said::BadLine(place) => tell_bad_object(self, output, place),
+                Said::Lacks(requirement) => tell_lacks_object(self, output, requirement),
                 Said::Finds(shown) => tell_item_object(self, output, shown),
             },
         }

@@ -25,10 +25,10 @@ use Rattle.pb_words.specs.declared.words.Options.TheVariants as option
 abbrev pub shown_by : StatesOptions → PartOfRun
 shown_by numbers = record { from = numbers.from; rows = numbers.rows }
 
--- a word asks `outcomes` for something else than all outcomes, which has lines alone
+-- a word asks `outcomes` for something that has lines alone
 abbrev pub asks_else : List ℕ → Bool
 asks_else word =
-    starts_with nat_eq word (codes "--expect") || starts_with nat_eq word (codes "--endless") || starts_with nat_eq word (codes "--graph")
+    starts_with nat_eq word (codes "--graph")
     || starts_with nat_eq word (codes "--run") || starts_with nat_eq word (codes "--deadlock")
 
 -- a command with these words after it tells data, and so writes objects as it writes lines

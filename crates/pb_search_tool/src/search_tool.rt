@@ -85,19 +85,17 @@ impl Commands for SearchTool {
     }
 }
 
-/// Returns whether a word asks `outcomes` for something else than all outcomes, which has lines alone.
+/// Returns whether a word asks `outcomes` for something that has lines alone.
 fn asks_else(word: &str) -> bool
     ensures { result ≡ spec.asks_else word.now }
 {
     let word = word.as_bytes();
-    word.starts_with(b"--expect")
-        || word.starts_with(b"--endless")
-        || word.starts_with(b"--graph")
+    word.starts_with(b"--graph")
         || word.starts_with(b"--run")
         || word.starts_with(b"--deadlock")
 }
 
-/// Returns whether some word asks `outcomes` for something else than all outcomes.
+/// Returns whether some word asks `outcomes` for something that has lines alone.
 fn some_asks_else(words: &[&str]) -> bool
     ensures { result ≡ list_any spec.asks_else (map (λ w. w.now) words.now) }
 {

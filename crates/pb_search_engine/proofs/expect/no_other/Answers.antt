@@ -1,23 +1,28 @@
-use Rattle.std.proofs.Common.{inr, refl}
-use Rattle.pb_code.specs.View.{code_view, labels_view}
-use Rattle.pb_search_engine.proofs.ExpectLemmas.{deadlock_told, stuck_few, stuck_shown}
+use Rattle.std.proofs.Common.{◌≤◌, ◌∙◌, inr, length, sym, subst, arith}
+use Rattle.std.proofs.lemmas.Result.{MatchResult-weaker}
+use Rattle.pb_base.specs.declared.limits.TheConstants.{MAX_PICKS}
+use Rattle.pb_code.proofs.ListElements.{read_mapped}
+use Rattle.pb_search.specs.Deadlocks.{deadlock_view}
+use Rattle.pb_search.specs.declared.found.Deadlock.{Deadlock}
+use Rattle.pb_search_engine.specs.Expected.{printing}
+use Rattle.pb_search_engine.proofs.ExpectLemmas.{not_empty}
+use Rattle.pb_search_engine.proofs.OutcomeLemmas.{deadlocks_few}
 use Rattle.pb_search_engine.proofs.expect.no_other.Goals as goal
 
-pub deadlock_text-requires-clause-named : goal.deadlock_text-requires-clause-named
-deadlock_text-requires-clause-named c =
-    stuck_shown c.args.compiled.now.verified c.verified.result.now c.verified.ensures (code_view c.code-code.result.now) c.code-code.ensures.code
-    c.args.compiled.now.labels (labels_view c.labels.result.now) c.labels.ensures.labels c.requires.some.0 c.code-code.ensures.verified
-    c.args.told.now.deadlocks.items c.deref.result.now c.deref.ensures.value c.requires.some.1.1
-
-pub deadlock_text-requires-clause-few : goal.deadlock_text-requires-clause-few
-deadlock_text-requires-clause-few c =
-    stuck_few c.requires.some.0 c.args.compiled.now.verified.code c.args.told.now.deadlocks.items c.deref.result.now c.deref.ensures.value
-    c.requires.some.1.1
+pub other_deadlock-requires : goal.other_deadlock-requires
+other_deadlock-requires c =
+    let few = deadlocks_few (printing c.requires.some.0) c.args.compiled.now.verified.code c.args.told.now.deadlocks.items c.requires.some.1.1 in
+    let some = not_empty _ (sym c.is_empty.ensures ∙ c.if-is_empty.false) in
+    subst (λ (d : Deadlock). length d.picks.items ≤ MAX_PICKS) (sym c.index.ensures) (few 0 c.index.result.now (omega (arith, some)))
 
 pub returns : goal.returns
-returns c = inr (
-  deadlock_told c.args.compiled.now.verified c.verified.result.now c.verified.ensures (code_view c.code-code.result.now) c.code-code.ensures.code
-      c.args.compiled.now.labels (labels_view c.labels.result.now) c.labels.ensures.labels c.args.told.now.deadlocks.items c.deref.result.now
-      c.deref.ensures.value c.in_ok-text.text.items c.in_ok-text.ensures,
-  refl,
-)
+returns c =
+    let some = not_empty _ (sym c.is_empty.ensures ∙ c.if-is_empty.false) in
+    MatchResult-weaker c.other_deadlock.result c.other_deadlock.ensures
+    (λ a h. inr (
+      deadlock_view c.index.result.now,
+      read_mapped deadlock_view c.args.told.now.deadlocks.items 0 c.index.result.now (omega (arith, some)) c.index.ensures,
+      h.0,
+      h.1,
+    ))
+    (λ e h. h)

@@ -13,7 +13,19 @@ pub returns-in-Deadlock-clause-err : goal.returns-in-Deadlock-clause-err
 returns-in-Deadlock-clause-err g c = rw c.in-Deadlock.is c.tell_block-in-Deadlock.ensures.err
 
 pub returns-in-AtDeadlock-clause-ok : goal.returns-in-AtDeadlock-clause-ok
-returns-in-AtDeadlock-clause-ok g c = rw c.in-AtDeadlock.is c.say.ensures.ok
+returns-in-AtDeadlock-clause-ok g c = rw c.in-AtDeadlock.is c.say-in-AtDeadlock.ensures.ok
 
 pub returns-in-AtDeadlock-clause-err : goal.returns-in-AtDeadlock-clause-err
-returns-in-AtDeadlock-clause-err g c = rw c.in-AtDeadlock.is c.say.ensures.err
+returns-in-AtDeadlock-clause-err g c = rw c.in-AtDeadlock.is c.say-in-AtDeadlock.ensures.err
+
+pub returns-in-Round-clause-ok : goal.returns-in-Round-clause-ok
+returns-in-Round-clause-ok g c = rw c.in-Round.is (rw (c.deref-in-Round.ensures.value) at c.tell_circle-in-Round.ensures.ok)
+
+pub returns-in-Round-clause-err : goal.returns-in-Round-clause-err
+returns-in-Round-clause-err g c = rw c.in-Round.is (rw (c.deref-in-Round.ensures.value) at c.tell_circle-in-Round.ensures.err)
+
+pub returns-in-AsExpected-clause-ok : goal.returns-in-AsExpected-clause-ok
+returns-in-AsExpected-clause-ok g c = rw c.in-AsExpected.is c.say.ensures.ok
+
+pub returns-in-AsExpected-clause-err : goal.returns-in-AsExpected-clause-err
+returns-in-AsExpected-clause-err g c = rw c.in-AsExpected.is c.say.ensures.err
