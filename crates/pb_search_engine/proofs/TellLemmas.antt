@@ -79,7 +79,6 @@ as_named items names named labels labelled same same_labels =
 
 reading_by : (asked : Told) (options : OutcomesOptions) (bytes said : List ℕ) (ending : Status)
     → SaysOfReading bytes said ending → SaysOfTold asked options bytes said ending
-reading_by told.Document options bytes said ending is = not_read is
 reading_by told.Expected options bytes said ending is = not_read is
 reading_by (told.One target) options bytes said ending is = not_read is
 

@@ -1,5 +1,7 @@
 -- What `outcomes` says of an input by its options.
 use Rattle.std.specs.Prelude.{ℕ, Bool, true, false, List, Option, None, Some}
+use Rattle.pb_accept.specs.Claims.{SaysOfAny}
+use Rattle.pb_accept.specs.Objects as base
 use Rattle.pb_code.specs.Whole.{Code, ProcessLabels}
 use Rattle.pb_command_io.specs.Inputs.{SaysOfInput}
 use Rattle.pb_command_io.specs.declared.status.Status.{Status}
@@ -17,7 +19,7 @@ use Rattle.pb_search_engine.specs.declared.one_run.Target.TheVariants.{Deadlock,
 use Rattle.pb_search_engine.specs.declared.outcomes.Told.{Told}
 use Rattle.pb_search_engine.specs.declared.outcomes.Told.TheVariants as told
 use Rattle.pb_search_engine.specs.declared.outcomes.Way.{Way}
-use Rattle.pb_search_engine.specs.declared.outcomes.Way.TheVariants.{Seeks, Tells}
+use Rattle.pb_search_engine.specs.declared.outcomes.Way.TheVariants.{Document, Seeks, Tells}
 use Rattle.pb_search_engine.specs.declared.sought.Sought.{Sought}
 use Rattle.pb_search_engine.specs.declared.sought.Sought.TheVariants.{All, Endless}
 use Rattle.pb_voice.specs.Voices.{Written}
@@ -37,7 +39,7 @@ one_or_all None = Seeks All
 -- what is asked of a text: the document of all schedules; or else whether all runs are as expected; or else a run that
 -- never ends; or else a run to one outcome or deadlock; or else all of them
 abbrev pub way_by : (graph expect endless : Bool) → Option Target → Way
-way_by true expect endless target = Tells told.Document
+way_by true expect endless target = Document
 way_by false true endless target = Tells told.Expected
 way_by false false true target = Seeks Endless
 way_by false false false target = one_or_all target
@@ -57,13 +59,14 @@ SaysOfSought sought options = SaysOfText (SaysOfCode sought options)
 
 -- what may be said of an input as a text
 abbrev pub SaysOfTold : Told → OutcomesOptions → List ℕ → List ℕ → Status → Type 0
-SaysOfTold told.Document options = SaysOfInput (SaysOfSchedules (lending_for options.lend) options.states)
 SaysOfTold told.Expected options = SaysOfInput (SaysOfExpected options.fair options.lend options.any_order options.states)
 SaysOfTold (told.One target) options =
     SaysOfInput (SaysOfOne target options.lend options.first_deadlock options.prints options.states)
 
--- what may be said of an input by what is asked of it: what is found is told in a form, and all else as a text
+-- what may be said of an input by what is asked of it: the document and what is found are told in a form, and all else
+-- as a text
 abbrev pub SaysBy : Way → Form → OutcomesOptions → List ℕ → List ℕ → Status → Type 0
+SaysBy Document form options = Written (base.text_of form) (SaysOfAny (SaysOfSchedules (lending_for options.lend) options.states))
 SaysBy (Seeks sought) form options = Written (text_of form) (SaysOfAnyInput (SaysOfSought sought options))
 SaysBy (Tells asked) form options = SaysOfTold asked options
 

@@ -15,7 +15,7 @@ use pb_base::limits::MAX_INPUT;
 use pb_base::{Input, Output};
 use pb_command_io::{Status, read_input};
 use pb_options::{Lend, OutcomesOptions};
-use pb_page_engine::tell_schedules;
+use pb_page_engine::write_schedules;
 use pb_search::Until;
 use pb_search_stages::Mode;
 use pb_voice::{Form, Voice};
@@ -24,8 +24,6 @@ use std::alloc::Global;
 /// What is told as a text.
 #[derive(Clone, Copy, Debug, PartialEq, Eq)]
 pub enum Told {
-    /// The document of all its schedules.
-    Document,
     /// Whether all its runs are as expected.
     Expected,
     /// A run to one outcome or one deadlock.
@@ -35,6 +33,8 @@ pub enum Told {
 /// What is asked of a text.
 #[derive(Clone, Copy, Debug, PartialEq, Eq)]
 pub enum Way {
+    /// The document of all its schedules, which is told in a form.
+    Document,
     /// What is found in it, which is told in a form.
     Seeks(Sought),
     /// What is told as a text.
@@ -60,9 +60,9 @@ pub enum Way {
 /// after it, and it is written whether all runs of the text are as these lines say, as `tell_expected` does. With
 /// `options.endless` a run that never ends is written in place of all outcomes, with picks that lead into a circle and picks that
 /// go round it. With
-/// `options.graph` the document of all its schedules is written in place of all else, as `tell_schedules` does.
+/// `options.graph` the document of all its schedules is written in place of all else, as `write_schedules` does.
 ///
-/// All outcomes and a run that never ends are written in a form, and all else as lines.
+/// All outcomes, a run that never ends and the document are written in a form, and all else as lines.
 ///
 /// After a read that failed nothing is written; after a write that failed, a prefix of the output.
 pub fn outcomes_engine<I: Input, O: Output>(
@@ -80,6 +80,10 @@ pub fn outcomes_engine<I: Input, O: Output>(
         result }
 {
     match way_of(options) {
+        Way::Document => {
+            let lending = options.lend.lending();
+            write_schedules(alloc, form, lending, options.states, input, output)
+        }
         Way::Seeks(sought) => write_sought(alloc, form, sought, options, input, output),
         Way::Tells(told) => write_told(alloc, told, options, input, output),
     }
@@ -90,7 +94,7 @@ fn way_of(options: OutcomesOptions) -> Way
     ensures { result ≡ way_of options }
 {
     if options.graph {
-        return Way::Tells(Told::Document);
+        return Way::Document;
     }
     if options.expect {
         return Way::Tells(Told::Expected);
@@ -170,10 +174,6 @@ fn tell_text<O: Output>(
     ensures faults { TellsWriteFaults (O.failures output.old) (O.failures output.new) result }
 {
     match told {
-        Told::Document => {
-            let lending = options.lend.lending();
-            tell_schedules(alloc, lending, options.states, bytes, output)
-        }
         Told::Expected => tell_expected(alloc, options, bytes, output),
         Told::One(target) => tell_one_run(alloc, options, target, bytes, output),
     }

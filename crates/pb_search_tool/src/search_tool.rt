@@ -91,7 +91,6 @@ fn asks_else(word: &str) -> bool
 {
     let word = word.as_bytes();
     word.starts_with(b"--expect")
-        || word.starts_with(b"--graph")
         || word.starts_with(b"--run")
         || word.starts_with(b"--deadlock")
 }

@@ -1,8 +1,5 @@
 use Rattle.pb_search_engine.proofs.outcomes.tell_text.Goals as goal
 
-pub returns-in-Document-clause-text : goal.returns-in-Document-clause-text
-returns-in-Document-clause-text g c = rw c.in-Document.is (rw c.lending-lending.ensures at c.tell_schedules.ensures.text)
-
 pub returns-in-Expected-clause-text : goal.returns-in-Expected-clause-text
 returns-in-Expected-clause-text g c = rw c.in-Expected.is c.tell_expected.ensures.text
 
