@@ -148,6 +148,23 @@ fn endless_options(lend: Lend, fair: bool) -> OutcomesOptions {
     }
 }
 
+/// The document of all schedules.
+fn graph_options(lend: Lend) -> OutcomesOptions {
+    OutcomesOptions {
+        states: STATES,
+        lend,
+        first_deadlock: false,
+        prints: false,
+        fair: false,
+        expect: false,
+        any_order: false,
+        endless: false,
+        graph: true,
+        run: None,
+        deadlock: None,
+    }
+}
+
 #[test]
 fn outcomes_of_steps_are_told_alike(rt: HostRuntime) {
     let alloc = rt.alloc();
@@ -216,5 +233,15 @@ fn endless_runs_are_told_alike(rt: HostRuntime) {
         assert!(rt; matches!(all_are_alike(alloc, endless, &STEPPED), Ok(true)));
         assert!(rt; matches!(all_are_alike(alloc, endless, &LENT), Ok(true)));
         assert!(rt; matches!(all_are_alike(alloc, endless, &NAMED), Ok(true)));
+    }
+}
+
+#[test]
+fn documents_are_told_alike(rt: HostRuntime) {
+    let alloc = rt.alloc();
+    for lend in [Lend::Banker, Lend::Cash] {
+        let graph = graph_options(lend);
+        assert!(rt; matches!(all_are_alike(alloc, graph, &STEPPED), Ok(true)));
+        assert!(rt; matches!(all_are_alike(alloc, graph, &NAMED), Ok(true)));
     }
 }

@@ -1,54 +1,75 @@
-//! All schedules of a text as a document, which `outcomes --graph` writes.
+//! All schedules of a text as a document, which `outcomes --graph` tells, over any input, teller and output.
 
 ghost use Rattle.std.specs.Prelude.{◌≡◌, ◌≤◌, IfOk, length};
+ghost use Rattle.pb_accept.specs.Claims.{SaysOfAny};
 ghost use Rattle.pb_code.specs.Limits.{AreLabels};
 ghost use Rattle.pb_code.specs.View.{labels_view};
-ghost use Rattle.pb_command_io.specs.Answers.{Tells};
-ghost use Rattle.pb_command_io.specs.Faults.{TellsWriteFaults};
-ghost use Rattle.pb_command_io.specs.Inputs.{SaysOfInput};
 ghost use Rattle.pb_page_graph.specs.Documents.{excess_text};
-ghost use Rattle.pb_page_engine.specs.Schedules.{AreSchedules, SaysOfCodeSchedules, SaysOfSchedules};
+ghost use Rattle.pb_page_engine.specs.Schedules.{AreSchedules, AreSchedulesOf, SaysOfSchedules};
+ghost use Rattle.pb_voice.specs.Held.{at};
+ghost use Rattle.pb_voice.specs.Tellings.{Answers, Speaks};
 
+use crate::document::tell_document;
 use crate::object::object_of;
-use pb_accept::{compile_text, refuse};
+use pb_accept::{Teller, code_of_text, read_or_tell, tell_fault};
 use pb_base::limits::MAX_INPUT;
-use pb_base::{Lending, NoMemory, Output};
+use pb_base::{Input, Lending, NoMemory, Output};
 use pb_code::Labels;
 use pb_codegen::Compiled;
-use pb_command_io::{Reply, Status, tell};
+use pb_command_io::{Reply, Status};
 use pb_page_graph::{excess_document, schedules_document};
 use pb_search::KeepFault;
 use pb_verifier::Verified;
 use std::alloc::Global;
 
-/// Writes the document of all schedules of a text under this lending: a line of JSON with the text, its object, and
-/// each configuration that is reached, with a row for every pick that is enabled there. If more than `states`
-/// configurations are reached, the document says only that, and the status is `Limit`. Of a text that is refused its
-/// refusal line is written.
-pub fn tell_schedules<O: Output>(
+/// Tells the document of all schedules of the text on the input under this lending: a line of JSON with the text, its
+/// object, and each configuration that is reached, with a row for every pick that is enabled there. If more than
+/// `states` configurations are reached, the document says only that, and the status is `Limit`. Of a text that is
+/// refused its refusal is told.
+///
+/// After a read that failed nothing is told; after a write that failed, no more.
+pub fn schedules_engine<I: Input, O: Output, T: Teller>(
+    alloc: Global,
+    lending: Lending,
+    states: u32,
+    input: &mut I,
+    teller: &mut T,
+    output: &mut O,
+) -> Status
+    ensures { Answers T.tells T.breaks (SaysOfAny (SaysOfSchedules lending states)) (I.rest input.old) (I.failures input.old) (I.failures input.new)
+        (at O.written O.failures teller.old output.old) (at O.written O.failures teller.new output.new) result }
+{
+    match read_or_tell(alloc, input, teller, output) {
+        Ok(bytes) => tell_schedules(alloc, lending, states, &bytes, teller, output),
+        Err(status) => status,
+    }
+}
+
+/// Tells the document of all schedules of a text.
+fn tell_schedules<O: Output, T: Teller>(
     alloc: Global,
     lending: Lending,
     states: u32,
     text: &[u8],
+    teller: &mut T,
     output: &mut O,
 ) -> Status
     requires { length text.now ≤ MAX_INPUT }
-    ensures text { Tells (SaysOfInput (SaysOfSchedules lending states) text.now)
-        (O.written output.old) (O.written output.new) result }
-    ensures faults { TellsWriteFaults (O.failures output.old) (O.failures output.new) result }
+    ensures { Speaks T.tells T.breaks (SaysOfAny (SaysOfSchedules lending states) text.now) (at O.written O.failures teller.old output.old)
+        (at O.written O.failures teller.new output.new) result }
 {
-    match compile_text(alloc, text) {
-        Ok(compiled) => tell(
-            alloc,
-            reply(alloc, lending, states, text, &compiled),
-            output,
-        ),
-        Err(refusal) => refuse(alloc, refusal, output),
+    match code_of_text(alloc, text) {
+        Ok(compiled) => {
+            let made = document(alloc, lending, states, text, &compiled);
+            drop(compiled);
+            tell_document(made, teller, output)
+        }
+        Err(fault) => tell_fault(teller, output, &fault),
     }
 }
 
-/// Returns what is said of all schedules of a compiled text.
-fn reply(
+/// Returns the document of all schedules of a compiled text.
+fn document(
     alloc: Global,
     lending: Lending,
     states: u32,
@@ -56,7 +77,7 @@ fn reply(
     compiled: &Compiled,
 ) -> Result<Reply, NoMemory>
     requires { AreLabels compiled.now.verified.code compiled.now.labels }
-    ensures { IfOk result (λ r. SaysOfCodeSchedules lending states source.now compiled.now.verified.code
+    ensures { IfOk result (λ r. AreSchedulesOf lending states source.now compiled.now.verified.code
         compiled.now.labels r.text.items r.status) }
 {
     let verified = compiled.verified();

@@ -1,23 +1,22 @@
 //! The command `states`, over any input, teller and output.
 
-ghost use Rattle.std.specs.Prelude.{◌≤◌, [], ◌∷◌, IfOk, OnErr, length};
+ghost use Rattle.std.specs.Prelude.{◌≤◌, IfOk, length};
 ghost use Rattle.pb_accept.specs.Claims.{SaysOfAny};
-ghost use Rattle.pb_accept.specs.Sayings.{NoMemory as OutOfMemory, Text};
 ghost use Rattle.pb_code.specs.Limits.{AreLabels};
 ghost use Rattle.pb_code.specs.View.{labels_view};
-ghost use Rattle.pb_command_io.specs.declared.status.Status.TheVariants as status;
 ghost use Rattle.pb_page_engine.specs.States.{IsDocument, SaysOfStates, SaysOfStatesLines};
 ghost use Rattle.pb_history.specs.Entries.{picks_of};
 ghost use Rattle.pb_history.specs.Positions.{AreEnabledBy};
 ghost use Rattle.pb_machine.specs.Views.{IsMachineBy, machine_view};
 ghost use Rattle.pb_voice.specs.Held.{at};
-ghost use Rattle.pb_voice.specs.Tellings.{Answers, Ends, Speaks};
+ghost use Rattle.pb_voice.specs.Tellings.{Answers, Speaks};
 
+use crate::document::tell_document;
 use crate::object::object_of;
 use pb_accept::load::{load, tell_load_fault};
 use pb_accept::{
-    Said, Teller, code_of_text, end_status, ending_of, make_lines_by, read_or_tell, status_at,
-    tell_fault, tell_last, tell_lines_fault,
+    Teller, code_of_text, end_status, ending_of, make_lines_by, read_or_tell, status_at,
+    tell_fault, tell_lines_fault,
 };
 use pb_base::limits::{MAX_INPUT, MAX_PICKS};
 use pb_base::{Input, Lending, NoMemory, Output};
@@ -140,23 +139,6 @@ fn states_lines<O: Output, T: Teller>(
             tell_document(made, teller, output)
         }
         Err(fault) => tell_lines_fault(teller, output, fault),
-    }
-}
-
-/// Tells a document with its status, or out of memory.
-fn tell_document<O: Output, T: Teller>(
-    made: Result<Reply, NoMemory>,
-    teller: &mut T,
-    output: &mut O,
-) -> Status
-    ensures document { IfOk made (λ r. Ends T.tells T.breaks (at O.written O.failures teller.old output.old) (Text r.text.items ∷ []) r.status
-        (at O.written O.failures teller.new output.new) result) }
-    ensures memory { OnErr made (Ends T.tells T.breaks (at O.written O.failures teller.old output.old) (OutOfMemory ∷ []) status.Memory
-        (at O.written O.failures teller.new output.new) result) }
-{
-    match made {
-        Ok(reply) => tell_last(teller, output, Said::Text(&reply.text), reply.status),
-        Err(_) => tell_last(teller, output, Said::NoMemory, Status::Memory),
     }
 }
 

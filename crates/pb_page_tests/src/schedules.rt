@@ -1,12 +1,12 @@
 //! Texts, and the documents of all their schedules.
 
-use pb_base::limits::MAX_INPUT;
-use pb_base::{Lending, MemoryOutput};
+use pb_base::{Lending, MemoryInput, MemoryOutput};
 use pb_command_io::Status;
-use pb_page_engine::tell_schedules;
+use pb_page_engine::write_schedules;
+use pb_voice::Form;
 use std::alloc::Global;
 
-/// A text, who lends, and what is written of all its schedules.
+/// A text, who lends, and what is written of all its schedules as lines.
 struct Case {
     text: &'static [u8],
     lending: Lending,
@@ -55,6 +55,10 @@ const TINY_LIMIT: Case = Case {
     said: b"{\"parbegin\":1,\"kind\":\"schedules\",\"text\":\"process p begin print 1 end\\n\",\"object\":\"PBO 2\\nresources 0\\nprocesses 1\\nprocess p\\nvars 0\\narms 1\\nclaims\\narm 0\\ncode 3\\n1 push 1\\n1 print\\n0 end\\n\",\"lend\":\"banker\",\"more_than\":3}\n",
 };
 
+/// The same as an object.
+const TINY_LIMIT_OBJECT: &[u8] =
+    b"{\"kind\":\"line\",\"text\":\"{\\\"parbegin\\\":1,\\\"kind\\\":\\\"schedules\\\",\\\"text\\\":\\\"process p begin print 1 end\\\\n\\\",\\\"object\\\":\\\"PBO 2\\\\nresources 0\\\\nprocesses 1\\\\nprocess p\\\\nvars 0\\\\narms 1\\\\nclaims\\\\narm 0\\\\ncode 3\\\\n1 push 1\\\\n1 print\\\\n0 end\\\\n\\\",\\\"lend\\\":\\\"banker\\\",\\\"more_than\\\":3}\"}\n";
+
 /// A text that is none.
 const REFUSED: Case = Case {
     text: b"process p begin print 1 end process",
@@ -62,14 +66,24 @@ const REFUSED: Case = Case {
     said: b"refused P1 at 35\n",
 };
 
-/// Returns whether this is written of a text, with this status.
-fn tells(alloc: Global, case: &Case, states: u32, status: Status) -> Option<bool> {
-    if case.text.len() > MAX_INPUT {
-        return None;
-    }
+/// Returns whether this is written of a text in a form, with this status.
+fn writes(
+    alloc: Global,
+    form: Form,
+    case: &Case,
+    states: u32,
+    status: Status,
+    said: &[u8],
+) -> Option<bool> {
+    let mut input = MemoryInput::new(case.text);
     let mut output = MemoryOutput::new(alloc, 16_384).ok()?;
-    let told = tell_schedules(alloc, case.lending, states, case.text, &mut output);
-    Some(told == status && output.as_slice() == case.said)
+    let told = write_schedules(alloc, form, case.lending, states, &mut input, &mut output);
+    Some(told == status && output.as_slice() == said)
+}
+
+/// Returns whether this is written of a text as lines, with this status.
+fn tells(alloc: Global, case: &Case, states: u32, status: Status) -> Option<bool> {
+    writes(alloc, Form::Lines, case, states, status, case.said)
 }
 
 #[test]
@@ -102,4 +116,21 @@ fn a_limit_is_told(rt: HostRuntime) {
 #[test]
 fn refused_texts_are_told(rt: HostRuntime) {
     assert!(rt; tells(rt.alloc(), &REFUSED, 3, Status::Refused) == Some(true));
+}
+
+#[test]
+fn documents_are_objects(rt: HostRuntime) {
+    let alloc = rt.alloc();
+    let limit = writes(
+        alloc,
+        Form::Objects,
+        &TINY_LIMIT,
+        3,
+        Status::Limit,
+        TINY_LIMIT_OBJECT,
+    );
+    assert!(rt; limit == Some(true));
+    let object = b"{\"kind\":\"refused\",\"code\":\"P1\",\"at\":35}\n";
+    let refused = writes(alloc, Form::Objects, &REFUSED, 3, Status::Refused, object);
+    assert!(rt; refused == Some(true));
 }

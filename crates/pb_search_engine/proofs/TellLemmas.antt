@@ -18,9 +18,8 @@ use Rattle.pb_search_engine.specs.declared.answer.Answer.{Answer}
 use Rattle.pb_search_engine.specs.declared.item.Item.{Item as GivenItem}
 use Rattle.pb_command_io.specs.Answers.{Tells}
 use Rattle.pb_command_io.specs.Inputs.{SaysOfReading, not_read}
-use Rattle.pb_search_engine.specs.SaysOfAll.{AreCut, SaysOfCode, SaysOfSought, SaysOfTold}
-use Rattle.pb_search_engine.specs.declared.outcomes.Told.{Told}
-use Rattle.pb_search_engine.specs.declared.outcomes.Told.TheVariants as told
+use Rattle.pb_search_engine.specs.SaysOfAll.{AreCut, SaysOfCode, SaysOfSought, SaysOfTarget}
+use Rattle.pb_search_engine.specs.declared.one_run.Target.{Target}
 use Rattle.pb_search_engine.specs.declared.sought.Sought.{Sought}
 use Rattle.pb_voice.specs.Inputs.{no_memory, read}
 use Rattle.pb_voice.specs.Tellings.{Ends, Speaks}
@@ -79,14 +78,8 @@ as_named items names named labels labelled same same_labels =
 
 -- ---- an input that is not read
 
-reading_by : (asked : Told) (options : OutcomesOptions) (bytes said : List ℕ) (ending : Status)
-    → SaysOfReading bytes said ending → SaysOfTold asked options bytes said ending
-reading_by told.Document options bytes said ending is = not_read is
-reading_by (told.One target) options bytes said ending is = not_read is
-
-pub unread_by : (asked : Told) (options : OutcomesOptions) (rest : Option (List ℕ))
+pub unread_by : (target : Target) (options : OutcomesOptions) (rest : Option (List ℕ))
     (old new : Option (List ℕ)) (given : Status) → IfSome rest (λ r. Tells (SaysOfReading r) old new given)
-    → IfSome rest (λ r. Tells (SaysOfTold asked options r) old new given)
-unread_by asked options None old new given told = tt
-unread_by asked options (Some r) old new given (said, ending, is, written) =
-    (said, ending, reading_by asked options r said ending is, written)
+    → IfSome rest (λ r. Tells (SaysOfTarget target options r) old new given)
+unread_by target options None old new given told = tt
+unread_by target options (Some r) old new given (said, ending, is, written) = (said, ending, not_read is, written)

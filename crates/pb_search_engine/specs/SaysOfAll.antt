@@ -1,5 +1,7 @@
 -- What `outcomes` says of an input by its options.
 use Rattle.std.specs.Prelude.{◌≡◌, ℕ, Bool, true, false, List, [], Option, None, Some}
+use Rattle.pb_accept.specs.Claims.{SaysOfAny}
+use Rattle.pb_accept.specs.Objects as base
 use Rattle.pb_code.specs.Whole.{Code, ProcessLabels}
 use Rattle.pb_command_io.specs.Inputs.{SaysOfInput}
 use Rattle.pb_command_io.specs.Parts.{AreTwoParts}
@@ -15,10 +17,8 @@ use Rattle.pb_search_engine.specs.SaysOutcomes.{SaysOfOutcomesOf}
 use Rattle.pb_search_engine.specs.Sayings.{Saying, SaysOfAnyInput, text_of}
 use Rattle.pb_search_engine.specs.declared.one_run.Target.{Target}
 use Rattle.pb_search_engine.specs.declared.one_run.Target.TheVariants.{Deadlock, Outcome}
-use Rattle.pb_search_engine.specs.declared.outcomes.Told.{Told}
-use Rattle.pb_search_engine.specs.declared.outcomes.Told.TheVariants as told
 use Rattle.pb_search_engine.specs.declared.outcomes.Way.{Way}
-use Rattle.pb_search_engine.specs.declared.outcomes.Way.TheVariants.{Seeks, Tells}
+use Rattle.pb_search_engine.specs.declared.outcomes.Way.TheVariants.{Document, One, Seeks}
 use Rattle.pb_search_engine.specs.declared.sought.Sought.{Sought}
 use Rattle.pb_search_engine.specs.declared.sought.Sought.TheVariants.{All, Endless, Expected}
 use Rattle.pb_voice.specs.Voices.{Written}
@@ -32,13 +32,13 @@ target_of None None = None
 
 -- a run to that one, if one is asked for; else all
 abbrev pub one_or_all : Option Target → Way
-one_or_all (Some target) = Tells (told.One target)
+one_or_all (Some target) = One target
 one_or_all None = Seeks All
 
 -- what is asked of a text: the document of all schedules; or else whether all runs are as expected; or else a run that
 -- never ends; or else a run to one outcome or deadlock; or else all of them
 abbrev pub way_by : (graph expect endless : Bool) → Option Target → Way
-way_by true expect endless target = Tells told.Document
+way_by true expect endless target = Document
 way_by false true endless target = Seeks Expected
 way_by false false true target = Seeks Endless
 way_by false false false target = one_or_all target
@@ -64,16 +64,16 @@ abbrev pub SaysOfSought : Sought → OutcomesOptions → List ℕ → List Sayin
 SaysOfSought sought options bytes said status =
     (text : List ℕ) × (lines : List ℕ) × AreCut sought bytes text lines × SaysOfText (SaysOfCode sought options lines) text said status
 
--- what may be said of an input as a text
-abbrev pub SaysOfTold : Told → OutcomesOptions → List ℕ → List ℕ → Status → Type 0
-SaysOfTold told.Document options = SaysOfInput (SaysOfSchedules (lending_for options.lend) options.states)
-SaysOfTold (told.One target) options =
-    SaysOfInput (SaysOfOne target options.lend options.first_deadlock options.prints options.states)
+-- what may be said of an input of which a run to one outcome or deadlock is asked, as a text
+abbrev pub SaysOfTarget : Target → OutcomesOptions → List ℕ → List ℕ → Status → Type 0
+SaysOfTarget target options = SaysOfInput (SaysOfOne target options.lend options.first_deadlock options.prints options.states)
 
--- what may be said of an input by what is asked of it: what is found is told in a form, and all else as a text
+-- what may be said of an input by what is asked of it: the document and what is found are told in a form, and a run as
+-- a text
 abbrev pub SaysBy : Way → Form → OutcomesOptions → List ℕ → List ℕ → Status → Type 0
+SaysBy Document form options = Written (base.text_of form) (SaysOfAny (SaysOfSchedules (lending_for options.lend) options.states))
 SaysBy (Seeks sought) form options = Written (text_of form) (SaysOfAnyInput (SaysOfSought sought options))
-SaysBy (Tells asked) form options = SaysOfTold asked options
+SaysBy (One target) form options = SaysOfTarget target options
 
 -- what `outcomes` with these options may say of an input
 abbrev pub SaysOfSearches : Form → OutcomesOptions → List ℕ → List ℕ → Status → Type 0

@@ -3,7 +3,7 @@
 ghost use Rattle.std.specs.Prelude.{◌≡◌, ◌≤◌, IfSome, Some, length};
 ghost use Rattle.pb_command_io.specs.Answers.{Tells};
 ghost use Rattle.pb_command_io.specs.Faults.{TellsFaults, TellsWriteFaults};
-ghost use Rattle.pb_search_engine.specs.SaysOfAll.{SaysOfSearches, SaysOfSought, SaysOfTold, target_of, way_of};
+ghost use Rattle.pb_search_engine.specs.SaysOfAll.{SaysOfSearches, SaysOfSought, SaysOfTarget, target_of, way_of};
 ghost use Rattle.pb_search_engine.specs.Sayings.{SaysOfAnyInput, text_of};
 ghost use Rattle.pb_search_engine.specs.SaysOutcomes.{mode_for, until_for};
 ghost use Rattle.pb_voice.specs.Voices.{Written};
@@ -14,28 +14,21 @@ use pb_base::limits::MAX_INPUT;
 use pb_base::{Input, Output};
 use pb_command_io::{Status, read_input};
 use pb_options::{Lend, OutcomesOptions};
-use pb_page_engine::tell_schedules;
+use pb_page_engine::write_schedules;
 use pb_search::Until;
 use pb_search_stages::Mode;
 use pb_voice::{Form, Voice};
 use std::alloc::Global;
 
-/// What is told as a text.
-#[derive(Clone, Copy, Debug, PartialEq, Eq)]
-pub enum Told {
-    /// The document of all its schedules.
-    Document,
-    /// A run to one outcome or one deadlock.
-    One(Target),
-}
-
 /// What is asked of a text.
 #[derive(Clone, Copy, Debug, PartialEq, Eq)]
 pub enum Way {
+    /// The document of all its schedules, which is told in a form.
+    Document,
     /// What is found in it, which is told in a form.
     Seeks(Sought),
-    /// What is told as a text.
-    Tells(Told),
+    /// A run to one outcome or one deadlock, which is told as a text.
+    One(Target),
 }
 
 /// Writes every outcome of the text that the input holds, under the banker or with loans by the cash alone: how
@@ -57,9 +50,10 @@ pub enum Way {
 /// after it, and it is written whether all runs of the text are as these lines say. With
 /// `options.endless` a run that never ends is written in place of all outcomes, with picks that lead into a circle and picks that
 /// go round it. With
-/// `options.graph` the document of all its schedules is written in place of all else, as `tell_schedules` does.
+/// `options.graph` the document of all its schedules is written in place of all else, as `write_schedules` does.
 ///
-/// All outcomes, a run that never ends and whether all runs are as expected are written in a form, and all else as lines.
+/// All outcomes, a run that never ends, whether all runs are as expected and the document are written in a form, and a
+/// recorded run as lines.
 ///
 /// After a read that failed nothing is written; after a write that failed, a prefix of the output.
 pub fn outcomes_engine<I: Input, O: Output>(
@@ -77,8 +71,12 @@ pub fn outcomes_engine<I: Input, O: Output>(
         result }
 {
     match way_of(options) {
+        Way::Document => {
+            let lending = options.lend.lending();
+            write_schedules(alloc, form, lending, options.states, input, output)
+        }
         Way::Seeks(sought) => write_sought(alloc, form, sought, options, input, output),
-        Way::Tells(told) => write_told(alloc, told, options, input, output),
+        Way::One(target) => write_one(alloc, target, options, input, output),
     }
 }
 
@@ -87,7 +85,7 @@ fn way_of(options: OutcomesOptions) -> Way
     ensures { result ≡ way_of options }
 {
     if options.graph {
-        return Way::Tells(Told::Document);
+        return Way::Document;
     }
     if options.expect {
         return Way::Seeks(Sought::Expected);
@@ -96,7 +94,7 @@ fn way_of(options: OutcomesOptions) -> Way
         return Way::Seeks(Sought::Endless);
     }
     match target(options.run, options.deadlock) {
-        Some(target) => Way::Tells(Told::One(target)),
+        Some(target) => Way::One(target),
         None => Way::Seeks(Sought::All),
     }
 }
@@ -133,45 +131,24 @@ fn write_sought<I: Input, O: Output>(
     voice.finish(output, given)
 }
 
-/// Writes what is asked of the text on the input, as a text.
-fn write_told<I: Input, O: Output>(
+/// Writes the text on the input with picks that lead to one outcome or one deadlock, as a text.
+fn write_one<I: Input, O: Output>(
     alloc: Global,
-    told: Told,
+    target: Target,
     options: OutcomesOptions,
     input: &mut I,
     output: &mut O,
 ) -> Status
     ensures text { IfSome (I.rest input.old) (λ bytes.
-        Tells (SaysOfTold told options bytes) (O.written output.old) (O.written output.new) result) }
+        Tells (SaysOfTarget target options bytes) (O.written output.old) (O.written output.new) result) }
     ensures faults { TellsFaults
         (record { reads = I.failures input.old; writes = O.failures output.old; written = O.written output.old })
         (record { reads = I.failures input.new; writes = O.failures output.new; written = O.written output.new })
         result }
 {
     match read_input(alloc, input, output) {
-        Ok(bytes) => tell_text(alloc, told, options, bytes.as_slice(), output),
+        Ok(bytes) => tell_one_run(alloc, options, target, bytes.as_slice(), output),
         Err(status) => status,
-    }
-}
-
-/// Writes what is asked of a text, as a text.
-fn tell_text<O: Output>(
-    alloc: Global,
-    told: Told,
-    options: OutcomesOptions,
-    bytes: &[u8],
-    output: &mut O,
-) -> Status
-    requires { length bytes.now ≤ MAX_INPUT }
-    ensures text { Tells (SaysOfTold told options bytes.now) (O.written output.old) (O.written output.new) result }
-    ensures faults { TellsWriteFaults (O.failures output.old) (O.failures output.new) result }
-{
-    match told {
-        Told::Document => {
-            let lending = options.lend.lending();
-            tell_schedules(alloc, lending, options.states, bytes, output)
-        }
-        Told::One(target) => tell_one_run(alloc, options, target, bytes, output),
     }
 }
 

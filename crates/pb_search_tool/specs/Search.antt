@@ -27,9 +27,7 @@ shown_by numbers = record { from = numbers.from; rows = numbers.rows }
 
 -- a word asks `outcomes` for something that has lines alone
 abbrev pub asks_else : List ℕ → Bool
-asks_else word =
-    starts_with nat_eq word (codes "--graph")
-    || starts_with nat_eq word (codes "--run") || starts_with nat_eq word (codes "--deadlock")
+asks_else word = starts_with nat_eq word (codes "--run") || starts_with nat_eq word (codes "--deadlock")
 
 -- a command with these words after it tells data, and so writes objects as it writes lines
 abbrev pub tells_data : (command : List ℕ) → List (List ℕ) → Bool

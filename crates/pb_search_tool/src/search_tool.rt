@@ -90,9 +90,7 @@ fn asks_else(word: &str) -> bool
     ensures { result ≡ spec.asks_else word.now }
 {
     let word = word.as_bytes();
-    word.starts_with(b"--graph")
-        || word.starts_with(b"--run")
-        || word.starts_with(b"--deadlock")
+    word.starts_with(b"--run") || word.starts_with(b"--deadlock")
 }
 
 /// Returns whether some word asks `outcomes` for something that has lines alone.

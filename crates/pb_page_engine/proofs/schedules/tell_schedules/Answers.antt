@@ -1,24 +1,23 @@
-use Rattle.pb_accept.specs.Refusals.{SaysOfRefusedText}
-use Rattle.pb_command_io.proofs.InputLemmas.{replied_too, said_too, told_reply}
-use Rattle.pb_page_engine.specs.Schedules.{SaysOfCodeSchedules, SaysOfSchedules, accepted, refused}
+use Rattle.pb_accept.proofs.InputLemmas.{of_fault}
+use Rattle.pb_page_engine.proofs.SchedulesLemmas.{schedules_told}
+use Rattle.pb_page_engine.specs.Schedules.{SaysOfSchedules, refused}
+use Rattle.pb_voice.specs.Held.{at}
 use Rattle.pb_page_engine.proofs.schedules.tell_schedules.Goals as goal
 
-pub reply-requires : goal.reply-requires
-reply-requires g c = c.in-Ok.ensures.compiled.fit
+pub document-made-requires : goal.document-made-requires
+document-made-requires g c = c.in-Ok.ensures.compiled.fit
 
-pub returns-in-Ok-clause-text : goal.returns-in-Ok-clause-text
-returns-in-Ok-clause-text g c =
-    let code = c.in-Ok.compiled.verified.code in
-    let labels = c.in-Ok.compiled.labels in
-    let lending = c.args.lending in
-    let states = c.args.states in
-    let text = c.args.text.now in
-    told_reply (SaysOfSchedules lending states) text c.reply.result _ _ c.tell.result c.requires
-    (replied_too (SaysOfCodeSchedules lending states text code labels) (SaysOfSchedules lending states text)
-    c.reply.result (accepted code labels c.in-Ok.ensures.compiled) c.reply.ensures)
-    c.tell.ensures.said c.tell.ensures.memory
+pub returns-in-Ok : goal.returns-in-Ok
+returns-in-Ok g c =
+    schedules_told g.T.Teller.tells g.T.Teller.breaks (at g.O.Output.written g.O.Output.failures c.args.teller.now c.args.output.now)
+    (at g.O.Output.written g.O.Output.failures c.tell_document.new.teller c.tell_document.new.output) c.tell_document.result c.args.lending c.args.states
+    c.args.text.now c.in-Ok.compiled.verified.code c.in-Ok.compiled.labels c.requires c.in-Ok.ensures.compiled c.document-made.result
+    c.document-made.ensures c.tell_document.ensures.document c.tell_document.ensures.memory
 
-pub returns-in-Err-clause-text : goal.returns-in-Err-clause-text
-returns-in-Err-clause-text g c =
-    said_too SaysOfRefusedText (SaysOfSchedules c.args.lending c.args.states) c.args.text.now _ _ c.refuse.result refused
-    (c.refuse.ensures.text c.args.text.now c.requires c.in-Err.ensures.refused)
+pub returns-in-Err : goal.returns-in-Err
+returns-in-Err g c =
+    of_fault g.T.Teller.tells g.T.Teller.breaks (SaysOfSchedules c.args.lending c.args.states)
+    (at g.O.Output.written g.O.Output.failures c.args.teller.now c.args.output.now)
+    (at g.O.Output.written g.O.Output.failures c.tell_fault.new.teller c.tell_fault.new.output) c.tell_fault.result c.args.text.now
+    c.in-Err.fault c.requires (λ not. refused c.in-Err.fault not c.in-Err.ensures.refused)
+    c.tell_fault.ensures.memory c.tell_fault.ensures.refused

@@ -1,7 +1,6 @@
 use Rattle.std.proofs.Common.{[], ◌∷◌, ℕ, ap, sym, subst, ◌∙◌}
 use Rattle.pb_accept.specs.Sayings.{NoMemory}
 use Rattle.pb_code.specs.Limits.{KeepsLimits}
-use Rattle.pb_code.specs.View.{code_view}
 use Rattle.pb_code.specs.Whole.{Code}
 use Rattle.pb_command_io.specs.declared.status.Status.TheVariants as status
 use Rattle.pb_options.specs.Lends.{lending_for}

@@ -6,7 +6,7 @@ use Rattle.pb_object.specs.Answers.{SpellsCode}
 use Rattle.pb_code.specs.declared.format.Format.TheVariants.{Two}
 use Rattle.pb_page_engine.specs.Schedules.{AreSchedules}
 use Rattle.pb_verifier.specs.Verified.{VerifiedCode}
-use Rattle.pb_page_engine.proofs.schedules.reply.Goals as goal
+use Rattle.pb_page_engine.proofs.schedules.document.Goals as goal
 
 pub returns : goal.returns
 returns c =
