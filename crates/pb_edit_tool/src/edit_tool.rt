@@ -7,7 +7,7 @@ ghost use Rattle.pb_words.specs.declared.tool.Tool.TheVariants.{Edit};
 use pb_base::{Input, NoMemory, Output};
 use pb_call::Commands;
 use pb_command_io::Status;
-use pb_findings::{input_message, findings_engine};
+use pb_findings::{findings_engine, input_message};
 use pb_server_engine::server_engine;
 use pb_voice::Form;
 use pb_words::Options;

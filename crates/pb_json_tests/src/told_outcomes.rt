@@ -107,7 +107,11 @@ fn status_of(
 }
 
 /// Returns whether the objects are the JSON lines of the lines, with the same status.
-pub(crate) fn says_the_same(alloc: Global, options: OutcomesOptions, text: &[u8]) -> Result<bool, NoMemory> {
+pub(crate) fn says_the_same(
+    alloc: Global,
+    options: OutcomesOptions,
+    text: &[u8],
+) -> Result<bool, NoMemory> {
     let mut lines = MemoryOutput::new(alloc, BYTES)?;
     let mut objects = MemoryOutput::new(alloc, BYTES)?;
     let of_lines = status_of(alloc, Form::Lines, options, text, &mut lines);
