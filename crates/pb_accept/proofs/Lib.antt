@@ -7,7 +7,6 @@ pub mod InputLemmas
 pub mod LoadLemmas
 pub mod RecordedLemmas
 pub mod ReplayLemmas
-pub mod RunTextLemmas
 pub mod ShownLemmas
 pub mod StillLemmas
 pub mod WarnedLemmas

@@ -20,7 +20,6 @@ mod reading;
 mod recorded;
 mod refusal;
 mod replay;
-pub mod run_text;
 mod said;
 mod teller;
 mod warned;
@@ -42,7 +41,9 @@ pub use migrate::migrate_engine;
 pub use objects::{limit_json, tell_object};
 pub use pb_options::{CheckOptions, EmitOptions};
 pub use reading::read_or_tell;
-pub use recorded::{tell_recorded, tell_recording_lines, tell_recording_objects};
+pub use recorded::{
+    RecordFault, recorded_text, tell_recorded, tell_recording_lines, tell_recording_objects,
+};
 pub use refusal::cause_text;
 pub use replay::{
     LinesFault, end_status, lines_refusal, make_lines_by, replay_engine, status_at,

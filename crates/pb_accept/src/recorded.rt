@@ -1,11 +1,12 @@
 //! A text with the picks of a run after it, told.
 
-ghost use Rattle.std.specs.Prelude.{◌≡◌, ◌≢◌, ℕ, List, All, IfOk, OnErr, OnOk};
+ghost use Rattle.std.specs.Prelude.{◌≡◌, ◌≢◌, ◌≤◌, ◌↔◌, All, IfErr, IfOk, IsTrue, OnErr, OnOk, length};
 ghost use Rattle.std.specs.List.{flat_map};
 ghost use Rattle.pb_accept.specs.Recordings.{pick_json, recorded_json};
-ghost use Rattle.pb_accept.specs.RunTexts.{IsEnded, with_picks as text_with_picks};
+ghost use Rattle.pb_accept.specs.RunTexts.{EndsLine, IsEnded, IsLongRecord, with_picks as text_with_picks};
 ghost use Rattle.pb_accept.specs.ToldRuns.{SaysOfRecorded};
 ghost use Rattle.pb_base.specs.Lines.{HasProcess, line, names_view};
+ghost use Rattle.pb_base.specs.declared.limits.TheConstants.{MAX_INPUT as MOST_BYTES};
 ghost use Rattle.pb_command_io.specs.declared.status.Status.TheVariants as status;
 ghost use Rattle.pb_picks.specs.PickTexts.{pick_line};
 ghost use Rattle.pb_voice.specs.Held.{at};
@@ -13,7 +14,6 @@ ghost use Rattle.pb_voice.specs.Tellings.{Speaks};
 ghost use Rattle.pb_voice.specs.Voices.{Adds, Breaks};
 
 use crate::event_lines::name_of;
-use crate::run_text::ended;
 use crate::said::{Recording, Said};
 use crate::teller::{Teller, tell_last};
 use itoa::Buffer;
@@ -155,6 +155,27 @@ pub fn tell_recording_objects<O: Output>(
     tell_pick_objects(voice, output, recording.names, recording.picks)
 }
 
+/// Returns the text, with a line feed after it if it ends in none.
+fn ended(alloc: Global, text: &[u8]) -> Result<Vec<u8>, NoMemory>
+    ensures { IfOk result (λ whole. IsEnded text.now whole.items) }
+{
+    let mut whole = Vec::from_slice(alloc, text)?;
+    if !ends_line(text) {
+        whole.push(b'\n')?;
+    }
+    Ok(whole)
+}
+
+/// Returns whether the text ends in a line feed.
+fn ends_line(text: &[u8]) -> bool
+    ensures { IsTrue result ↔ EndsLine text.now }
+{
+    match text.last() {
+        Some(last) => *last == b'\n',
+        None => false,
+    }
+}
+
 /// Returns a text with a line `%%` and the lines of picks after it.
 fn with_picks(text: Vec<u8>, names: &Names, picks: &[CountedPick]) -> Result<Vec<u8>, NoMemory>
     requires { All (λ c. HasProcess (names_view names.now) c.pick.process) picks.now }
@@ -166,35 +187,40 @@ fn with_picks(text: Vec<u8>, names: &Names, picks: &[CountedPick]) -> Result<Vec
     Ok(whole)
 }
 
-/// Tells a text that is ended with these picks after it, and returns the status that is given; or tells that this would
-/// be longer than an input may be.
-fn tell_ended<O: Output, T: Teller>(
-    text: Vec<u8>,
+/// Why a run is not recorded.
+#[derive(Clone, Copy, Debug, PartialEq, Eq)]
+pub enum RecordFault {
+    /// The text with the picks would be longer than an input may be.
+    TooLong,
+    /// Out of memory.
+    NoMemory,
+}
+
+/// Returns the text with a line feed after it if it ends in none, after which these picks can be written: the whole is
+/// no longer than an input may be.
+pub fn recorded_text(
+    alloc: Global,
+    text: &[u8],
     names: &Names,
     picks: &[CountedPick],
-    given: Status,
-    teller: &mut T,
-    output: &mut O,
-) -> Status
-    requires no_device { given ≢ status.Device }
-    requires named { All (λ c. HasProcess (names_view names.now) c.pick.process) picks.now }
-    ensures { (bytes : List ℕ) → IsEnded bytes text.items
-        → Speaks T.tells T.breaks (SaysOfRecorded bytes (names_view names.now) picks.now given)
-        (at O.written O.failures teller.old output.old) (at O.written O.failures teller.new output.new) result }
+) -> Result<Vec<u8>, RecordFault>
+    requires { All (λ c. HasProcess (names_view names.now) c.pick.process) picks.now }
+    ensures ended { IfOk result (λ ended. IsEnded text.now ended.items) }
+    ensures short { IfOk result (λ ended. length (text_with_picks ended.items (names_view names.now) picks.now) ≤ MOST_BYTES) }
+    ensures long { IfErr result (λ fault. fault ≡ RecordFault.TooLong → IsLongRecord text.now (names_view names.now) picks.now) }
 {
-    let cut = text.len();
-    let Ok(whole) = with_picks(text, names, picks) else {
-        return tell_last(teller, output, Said::NoMemory, Status::Memory);
+    let Ok(ended) = ended(alloc, text) else {
+        return Err(RecordFault::NoMemory);
+    };
+    let cut = ended.len();
+    let Ok(mut whole) = with_picks(ended, names, picks) else {
+        return Err(RecordFault::NoMemory);
     };
     if whole.len() > MAX_INPUT {
-        return tell_last(teller, output, Said::LongOutput, Status::Refused);
+        return Err(RecordFault::TooLong);
     }
-    let recording = Recording {
-        text: &whole[..cut],
-        names,
-        picks,
-    };
-    tell_last(teller, output, Said::Recorded(recording), given)
+    whole.truncate(cut);
+    Ok(whole)
 }
 
 /// Tells a text with these picks after it, as `replay` reads it, and returns the status that is given; or tells that
@@ -213,8 +239,18 @@ pub fn tell_recorded<O: Output, T: Teller>(
     ensures { Speaks T.tells T.breaks (SaysOfRecorded text.now (names_view names.now) picks.now given)
         (at O.written O.failures teller.old output.old) (at O.written O.failures teller.new output.new) result }
 {
-    match ended(alloc, text) {
-        Ok(ended) => tell_ended(ended, names, picks, given, teller, output),
-        Err(_) => tell_last(teller, output, Said::NoMemory, Status::Memory),
+    match recorded_text(alloc, text, names, picks) {
+        Ok(text) => {
+            let recording = Recording {
+                text: &text,
+                names,
+                picks,
+            };
+            tell_last(teller, output, Said::Recorded(recording), given)
+        }
+        Err(RecordFault::TooLong) => {
+            tell_last(teller, output, Said::LongOutput, Status::Refused)
+        }
+        Err(RecordFault::NoMemory) => tell_last(teller, output, Said::NoMemory, Status::Memory),
     }
 }

@@ -8,8 +8,9 @@ use pb_voice::Form;
 use std::alloc::Global;
 
 /// A text, who decides on requests, whether one configuration is all that may be kept, which run is asked for, what
-/// is said, and the status.
+/// is said in a form, and the status.
 struct Case {
+    form: Form,
     text: &'static [u8],
     lend: Lend,
     few: bool,
@@ -28,8 +29,9 @@ const LOST: &[u8] =
 const CIRCLE: &[u8] =
     b"resource r = 1; resource s = 1; process p begin hold 1 of r do hold 1 of s do skip od od end process q begin hold 1 of s do hold 1 of r do skip od od end";
 
-const CASES: [Case; 9] = [
+const CASES: [Case; 12] = [
     Case {
+        form: Form::Lines,
         text: LOST,
         lend: Lend::Banker,
         few: false,
@@ -40,6 +42,7 @@ const CASES: [Case; 9] = [
         status: Status::Done,
     },
     Case {
+        form: Form::Lines,
         text: LOST,
         lend: Lend::Banker,
         few: false,
@@ -50,6 +53,7 @@ const CASES: [Case; 9] = [
         status: Status::Done,
     },
     Case {
+        form: Form::Lines,
         text: LOST,
         lend: Lend::Banker,
         few: false,
@@ -60,6 +64,7 @@ const CASES: [Case; 9] = [
         status: Status::Refused,
     },
     Case {
+        form: Form::Lines,
         text: LOST,
         lend: Lend::Banker,
         few: true,
@@ -70,6 +75,7 @@ const CASES: [Case; 9] = [
         status: Status::Limit,
     },
     Case {
+        form: Form::Lines,
         text: LOST,
         lend: Lend::Banker,
         few: false,
@@ -80,6 +86,7 @@ const CASES: [Case; 9] = [
         status: Status::Refused,
     },
     Case {
+        form: Form::Lines,
         text: CIRCLE,
         lend: Lend::Cash,
         few: false,
@@ -90,6 +97,7 @@ const CASES: [Case; 9] = [
         status: Status::Done,
     },
     Case {
+        form: Form::Lines,
         text: CIRCLE,
         lend: Lend::Cash,
         few: false,
@@ -100,6 +108,7 @@ const CASES: [Case; 9] = [
         status: Status::Limit,
     },
     Case {
+        form: Form::Lines,
         text: CIRCLE,
         lend: Lend::Cash,
         few: false,
@@ -110,6 +119,7 @@ const CASES: [Case; 9] = [
         status: Status::Refused,
     },
     Case {
+        form: Form::Lines,
         text: b"process p begin print y end\n",
         lend: Lend::Banker,
         few: false,
@@ -117,6 +127,39 @@ const CASES: [Case; 9] = [
         run: Some(1),
         deadlock: None,
         said: b"refused N3 at 22\n",
+        status: Status::Refused,
+    },
+    Case {
+        form: Form::Objects,
+        text: LOST,
+        lend: Lend::Banker,
+        few: false,
+        first_deadlock: false,
+        run: Some(1),
+        deadlock: None,
+        said: b"{\"kind\":\"source\",\"text\":\"process p begin integer x; parbegin x := x + 1; x := x + 1 parend; print x end\"}\n{\"kind\":\"picks follow\"}\n{\"kind\":\"picks\",\"process\":\"p\",\"arm\":0,\"count\":1}\n{\"kind\":\"picks\",\"process\":\"p\",\"arm\":1,\"count\":5}\n{\"kind\":\"picks\",\"process\":\"p\",\"arm\":2,\"count\":5}\n{\"kind\":\"picks\",\"process\":\"p\",\"arm\":0,\"count\":4}\n",
+        status: Status::Done,
+    },
+    Case {
+        form: Form::Objects,
+        text: CIRCLE,
+        lend: Lend::Cash,
+        few: false,
+        first_deadlock: true,
+        run: None,
+        deadlock: Some(2),
+        said: b"{\"kind\":\"no deadlock\",\"number\":2}\n{\"kind\":\"others\",\"of\":\"deadlocks\"}\n",
+        status: Status::Limit,
+    },
+    Case {
+        form: Form::Objects,
+        text: CIRCLE,
+        lend: Lend::Cash,
+        few: false,
+        first_deadlock: false,
+        run: Some(2),
+        deadlock: None,
+        said: b"{\"kind\":\"no outcome\",\"number\":2}\n{\"kind\":\"outcomes\",\"endless\":false,\"outcomes\":1,\"deadlocks\":1}\n",
         status: Status::Refused,
     },
 ];
@@ -157,13 +200,7 @@ fn options_of(case: &Case) -> OutcomesOptions {
 fn says(alloc: Global, case: &Case) -> Option<bool> {
     let mut input = MemoryInput::new(case.text);
     let mut output = MemoryOutput::new(alloc, 4_096).ok()?;
-    let status = outcomes_engine(
-        alloc,
-        Form::Lines,
-        options_of(case),
-        &mut input,
-        &mut output,
-    );
+    let status = outcomes_engine(alloc, case.form, options_of(case), &mut input, &mut output);
     Some(status == case.status && output.as_slice() == case.said)
 }
 

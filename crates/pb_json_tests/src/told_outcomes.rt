@@ -106,13 +106,23 @@ fn status_of(
     outcomes_engine(alloc, form, options, &mut input, output)
 }
 
+/// Returns whose forms the lines have: those of a recorded run, if one is written.
+fn dialect_for(options: OutcomesOptions, status: Status) -> Dialect {
+    let seeks_run = options.run.is_some() || options.deadlock.is_some();
+    if seeks_run && status == Status::Done {
+        Dialect::Record
+    } else {
+        Dialect::Program
+    }
+}
+
 /// Returns whether the objects are the JSON lines of the lines, with the same status.
 fn says_the_same(alloc: Global, options: OutcomesOptions, text: &[u8]) -> Result<bool, NoMemory> {
     let mut lines = MemoryOutput::new(alloc, BYTES)?;
     let mut objects = MemoryOutput::new(alloc, BYTES)?;
     let of_lines = status_of(alloc, Form::Lines, options, text, &mut lines);
     let of_objects = status_of(alloc, Form::Objects, options, text, &mut objects);
-    let made = json_lines(alloc, Dialect::Program, lines.as_slice())?;
+    let made = json_lines(alloc, dialect_for(options, of_lines), lines.as_slice())?;
     let written = of_lines != Status::Device && of_lines != Status::Memory;
     Ok(written && of_lines == of_objects && objects.as_slice() == made.as_slice())
 }
@@ -145,6 +155,23 @@ fn endless_options(lend: Lend, fair: bool) -> OutcomesOptions {
         graph: false,
         run: None,
         deadlock: None,
+    }
+}
+
+/// The document of all schedules, or a run to one outcome or one deadlock.
+fn one_options(graph: bool, run: Option<u32>, deadlock: Option<u32>) -> OutcomesOptions {
+    OutcomesOptions {
+        states: STATES,
+        lend: Lend::Cash,
+        first_deadlock: false,
+        prints: false,
+        fair: false,
+        expect: false,
+        any_order: false,
+        endless: false,
+        graph,
+        run,
+        deadlock,
     }
 }
 
@@ -216,5 +243,26 @@ fn endless_runs_are_told_alike(rt: HostRuntime) {
         assert!(rt; matches!(all_are_alike(alloc, endless, &STEPPED), Ok(true)));
         assert!(rt; matches!(all_are_alike(alloc, endless, &LENT), Ok(true)));
         assert!(rt; matches!(all_are_alike(alloc, endless, &NAMED), Ok(true)));
+    }
+}
+
+#[test]
+fn documents_are_told_alike(rt: HostRuntime) {
+    let alloc = rt.alloc();
+    let graph = one_options(true, None, None);
+    assert!(rt; matches!(all_are_alike(alloc, graph, &STEPPED), Ok(true)));
+    assert!(rt; matches!(all_are_alike(alloc, graph, &NAMED), Ok(true)));
+}
+
+#[test]
+fn runs_to_one_are_told_alike(rt: HostRuntime) {
+    let alloc = rt.alloc();
+    for number in [1, 2] {
+        let run = one_options(false, Some(number), None);
+        let deadlock = one_options(false, None, Some(number));
+        assert!(rt; matches!(all_are_alike(alloc, run, &STEPPED), Ok(true)));
+        assert!(rt; matches!(all_are_alike(alloc, run, &LENT), Ok(true)));
+        assert!(rt; matches!(all_are_alike(alloc, deadlock, &LENT), Ok(true)));
+        assert!(rt; matches!(all_are_alike(alloc, deadlock, &NAMED), Ok(true)));
     }
 }

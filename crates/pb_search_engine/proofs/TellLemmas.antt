@@ -17,10 +17,8 @@ use Rattle.pb_search_engine.specs.SaysOfTexts.{SaysOfItems, SaysOfText, accepted
 use Rattle.pb_search_engine.specs.declared.answer.Answer.{Answer}
 use Rattle.pb_search_engine.specs.declared.item.Item.{Item as GivenItem}
 use Rattle.pb_command_io.specs.Answers.{Tells}
-use Rattle.pb_command_io.specs.Inputs.{SaysOfReading, not_read}
-use Rattle.pb_search_engine.specs.SaysOfAll.{SaysOfTold}
-use Rattle.pb_search_engine.specs.declared.outcomes.Told.{Told}
-use Rattle.pb_search_engine.specs.declared.outcomes.Told.TheVariants as told
+use Rattle.pb_command_io.specs.Inputs.{SaysOfInput, SaysOfReading, not_read}
+use Rattle.pb_search_engine.specs.SaysExpected.{SaysOfExpected}
 use Rattle.pb_voice.specs.Inputs.{no_memory, read}
 use Rattle.pb_voice.specs.Tellings.{Ends, Speaks}
 
@@ -53,9 +51,10 @@ module _ {T : Type 0} (tells breaks : T → Saying → T → Type 0) (Says : Lis
 
 module _ {T : Type 0} (tells breaks : T → Saying → T → Type 0) (old new : T) (given : Status) where
   -- what is told of its code is told of an accepted text
-  pub code_is_told : (Says : Code → List ProcessLabels → List Saying → Status → Type 0) (bytes : List ℕ) (code : Code) (labels : List ProcessLabels)
-      → length bytes ≤ MAX_INPUT → IsCompiled bytes code labels → Speaks tells breaks (Says code labels) old new given
-      → Speaks tells breaks (SaysOfAnyInput (SaysOfText Says) bytes) old new given
+  pub code_is_told : (Says : List ℕ → Code → List ProcessLabels → List Saying → Status → Type 0) (bytes : List ℕ)
+      (code : Code) (labels : List ProcessLabels) → length bytes ≤ MAX_INPUT → IsCompiled bytes code labels
+      → Speaks tells breaks (Says bytes code labels) old new given
+      → Speaks tells breaks (SaysOfAnyInput (λ (b : List ℕ). SaysOfText (Says b) b) bytes) old new given
   code_is_told Says bytes code labels short compiled (said, status, is, ends) =
       (said, status, read said status short (accepted code labels compiled said status is), ends)
 
@@ -77,14 +76,8 @@ as_named items names named labels labelled same same_labels =
 
 -- ---- an input that is not read
 
-reading_by : (asked : Told) (options : OutcomesOptions) (bytes said : List ℕ) (ending : Status)
-    → SaysOfReading bytes said ending → SaysOfTold asked options bytes said ending
-reading_by told.Expected options bytes said ending is = not_read is
-reading_by (told.One target) options bytes said ending is = not_read is
-
-pub unread_by : (asked : Told) (options : OutcomesOptions) (rest : Option (List ℕ))
-    (old new : Option (List ℕ)) (given : Status) → IfSome rest (λ r. Tells (SaysOfReading r) old new given)
-    → IfSome rest (λ r. Tells (SaysOfTold asked options r) old new given)
-unread_by asked options None old new given told = tt
-unread_by asked options (Some r) old new given (said, ending, is, written) =
-    (said, ending, reading_by asked options r said ending is, written)
+pub unread : (options : OutcomesOptions) (rest : Option (List ℕ)) (old new : Option (List ℕ)) (given : Status)
+    → IfSome rest (λ r. Tells (SaysOfReading r) old new given)
+    → IfSome rest (λ r. Tells (SaysOfInput (SaysOfExpected options.fair options.lend options.any_order options.states) r) old new given)
+unread options None old new given told = tt
+unread options (Some r) old new given (said, ending, is, written) = (said, ending, not_read is, written)

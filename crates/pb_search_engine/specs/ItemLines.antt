@@ -8,7 +8,7 @@ use Rattle.pb_history.specs.declared.counted.CountedPick.{CountedPick}
 use Rattle.pb_search.specs.declared.found.StuckState.{StuckState}
 use Rattle.pb_search.specs.declared.found.StuckState.TheVariants.{Ended, Faulted, Waiting}
 use Rattle.pb_search_engine.specs.Items.{AllEnd, AtDeadlock, Block, Deadlock, Item, More, Others, Outcome, SomeDoNotEnd, Totals}
-use Rattle.pb_search_engine.specs.Items.{Lead, Round}
+use Rattle.pb_search_engine.specs.Items.{Lead, NoDeadlock, NoOutcome, Round}
 use Rattle.pb_search_engine.specs.OutcomeLines.{integer_names, plural, printed_head, runs_text}
 use Rattle.pb_search_engine.specs.declared.item.Bound.{Bound}
 use Rattle.pb_search_engine.specs.declared.item.Bound.TheVariants.{Configurations, FairRuns, Picks}
@@ -48,7 +48,7 @@ counted_line names c = concat (
 abbrev pub printed_text : NameTable → List Print → List ℕ
 printed_text names prints = printed_head (length prints) ++ flat_map (printed_line names) prints
 
--- the first line of an outcome or a deadlock
+-- the first line of an outcome or a deadlock, or that there is none
 abbrev pub numbered_line : (word : List ℕ) → (number : ℕ) → List ℕ
 numbered_line word number = concat (word ∷ codes " " ∷ decimal number ∷ codes "\n" ∷ [])
 
@@ -102,3 +102,5 @@ item_lines names labels (AllEnd fair) = all_end_line fair
 item_lines names labels (SomeDoNotEnd fair) = some_line fair
 item_lines names labels (Lead picks) = circle_lines (codes "endless\nreached by\n") names picks
 item_lines names labels (Round picks) = circle_lines (codes "round\n") names picks
+item_lines names labels (NoOutcome number) = numbered_line (codes "no outcome") number
+item_lines names labels (NoDeadlock number) = numbered_line (codes "no deadlock") number

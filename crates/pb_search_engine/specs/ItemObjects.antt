@@ -12,7 +12,7 @@ use Rattle.pb_json.specs.Values.{comma, integer_text}
 use Rattle.pb_search.specs.declared.found.StuckState.{StuckState}
 use Rattle.pb_search.specs.declared.found.StuckState.TheVariants.{Ended, Faulted, Waiting}
 use Rattle.pb_search_engine.specs.Items.{AllEnd, AtDeadlock, Block, Deadlock, Item, More, Others, Outcome, SomeDoNotEnd, Totals}
-use Rattle.pb_search_engine.specs.Items.{Lead, Round}
+use Rattle.pb_search_engine.specs.Items.{Lead, NoDeadlock, NoOutcome, Round}
 use Rattle.pb_search_engine.specs.OutcomeLines.{integer_names}
 use Rattle.pb_search_engine.specs.Parts.{is_of}
 use Rattle.pb_search_engine.specs.declared.item.Bound.{Bound}
@@ -153,6 +153,10 @@ circle_head kind =
 abbrev pub circle_json : (kind : List ℕ) → NameTable → List CountedPick → List ℕ
 circle_json kind names picks = circle_head kind ++ (picks_json names picks ++ codes "}\n")
 
+-- there is none of this kind with this number
+abbrev pub none_json : (kind : List ℕ) → (number : ℕ) → List ℕ
+none_json kind number = concat (codes "{\"kind\":\"" ∷ kind ∷ codes "\",\"number\":" ∷ decimal number ∷ codes "}\n" ∷ [])
+
 -- the object of an item
 abbrev pub item_json : NameTable → List ProcessLabels → Item → List ℕ
 item_json names labels (Outcome b) = block_json (codes "outcome") names labels b
@@ -165,3 +169,5 @@ item_json names labels (AllEnd fair) = all_end_json fair
 item_json names labels (SomeDoNotEnd fair) = some_json fair
 item_json names labels (Lead picks) = circle_json (codes "endless") names picks
 item_json names labels (Round picks) = circle_json (codes "round") names picks
+item_json names labels (NoOutcome number) = none_json (codes "no outcome") number
+item_json names labels (NoDeadlock number) = none_json (codes "no deadlock") number

@@ -40,6 +40,8 @@ pub data Item : Type 0 where
   AllEnd SomeDoNotEnd : (fair : Bool) → Item
   -- some run never ends: picks that lead into a circle, and picks that go round it
   Lead Round : List CountedPick → Item
+  -- there is none with this number
+  NoOutcome NoDeadlock : (number : ℕ) → Item
 
 -- what contracts see of an outcome or a deadlock, and of an item
 abbrev pub given_block_view : GivenBlock → Block
@@ -56,6 +58,8 @@ given_item_view (given.AllEnd fair) = AllEnd fair
 given_item_view (given.SomeDoNotEnd fair) = SomeDoNotEnd fair
 given_item_view (given.Lead picks) = Lead picks.items
 given_item_view (given.Round picks) = Round picks.items
+given_item_view (given.NoOutcome number) = NoOutcome number
+given_item_view (given.NoDeadlock number) = NoDeadlock number
 
 -- an outcome with its number and picks that lead to it
 abbrev pub outcome_item : ℕ → FoundOutcome → List CountedPick → Item

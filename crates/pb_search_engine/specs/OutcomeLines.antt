@@ -9,9 +9,6 @@ use Rattle.pb_code.specs.Whole.{ProcessLabels}
 use Rattle.pb_search_stages.specs.Reaching.{ProcessOutcome}
 use Rattle.pb_search_stages.specs.Traces.{Outcome}
 use Rattle.pb_search_stages.specs.declared.print.Print.{Print}
-use Rattle.pb_base.specs.declared.limits.TheConstants.{MAX_PICKS}
-use Rattle.pb_search.specs.declared.found.Extent.{Extent}
-use Rattle.pb_search.specs.declared.found.Extent.TheVariants as extent
 use Rattle.pb_history.specs.Replays.{spread}
 use Rattle.pb_history.specs.declared.counted.CountedPick.{CountedPick}
 use Rattle.pb_picks.specs.Counted.{AreApart}
@@ -91,26 +88,7 @@ plural zero = codes "s"
 plural (suc zero) = []
 plural (suc (suc n)) = codes "s"
 
--- how many deadlocks there are, if there are some
-abbrev pub deadlocks_text : ℕ → List ℕ
-deadlocks_text zero = []
-deadlocks_text (suc n) = codes ", " ++ decimal (suc n) ++ codes " deadlock" ++ plural (suc n)
-
 -- how the last line ends, by whether some run never ends
 abbrev pub runs_text : Bool → List ℕ
 runs_text true = codes ", some runs do not end"
 runs_text false = []
-
--- the last line, if these are all: how many outcomes and deadlocks there are, and whether some run never ends
-abbrev pub all_line : (outcomes deadlocks : ℕ) → Bool → List ℕ
-all_line outcomes deadlocks cycles =
-    line (decimal outcomes ++ codes " outcome" ++ plural outcomes ++ deadlocks_text deadlocks ++ runs_text cycles)
-
--- the last line, by how much was found with this number of configurations
-abbrev pub last_line : (states outcomes deadlocks : ℕ) → Extent → List ℕ
-last_line states outcomes deadlocks (extent.All cycles) = all_line outcomes deadlocks cycles
-last_line states outcomes deadlocks extent.TooMany =
-    line (codes "more than " ++ decimal states ++ codes " configurations, there may be others")
-last_line states outcomes deadlocks extent.TooLong =
-    line (codes "more than " ++ decimal MAX_PICKS ++ codes " picks, there may be others")
-last_line states outcomes deadlocks extent.AtDeadlock = line (codes "first deadlock, there may be others")

@@ -1,6 +1,6 @@
 -- What is said of a text, by what is said of its code, as data, and with which status.
 use Rattle.std.specs.Prelude.{◌≢◌, ℕ, List, [], ◌∷◌, map}
-use Rattle.pb_accept.specs.Sayings.{NoMemory, Refused as RefusedText}
+use Rattle.pb_accept.specs.Sayings.{NoMemory, Refused as RefusedText, Saying as BaseSaying}
 use Rattle.pb_base.specs.Lines.{NameTable}
 use Rattle.pb_code.specs.Whole.{Code, ProcessLabels}
 use Rattle.pb_codegen.specs.Compiled.{IsCompiled, IsRefused}
@@ -16,6 +16,10 @@ pub data SaysOfItems (AreFound : List Item → Status → Type 0) (names : NameT
     : List Saying → Status → Type 0 where
   found : (items : List Item) (status : Status) → AreFound items status → SaysOfItems AreFound names labels (map (Finds names labels) items) status
   no_memory : SaysOfItems AreFound names labels (Plain NoMemory ∷ []) Memory
+
+-- what any command over texts may say, which is said so
+pub data SaysPlainly (SaysOf : List BaseSaying → Status → Type 0) : List Saying → Status → Type 0 where
+  plainly : (said : List BaseSaying) (status : Status) → SaysOf said status → SaysPlainly SaysOf (map Plain said) status
 
 -- what is said of a text: it is refused; or it is accepted, and this is said of its code
 pub data SaysOfText (SaysOfCode : Code → List ProcessLabels → List Saying → Status → Type 0) (bytes : List ℕ)

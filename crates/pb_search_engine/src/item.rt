@@ -66,4 +66,12 @@ pub enum Item {
     Lead(Vec<CountedPick>),
     /// Picks that go round it.
     Round(Vec<CountedPick>),
+    /// There is no outcome with this number.
+    NoOutcome {
+        number: u32,
+    },
+    /// There is no deadlock with this number.
+    NoDeadlock {
+        number: u32,
+    },
 }

@@ -254,7 +254,7 @@ fn tell_printed<O: Output>(
     tell_print_lines(voice, output, names, prints)
 }
 
-/// Tells the first line of an outcome or a deadlock.
+/// Tells the first line of an outcome or a deadlock, or that there is none.
 fn tell_head<O: Output>(
     voice: &mut Voice,
     output: &mut O,
@@ -452,5 +452,7 @@ pub fn tell_item_lines<O: Output>(
             picks,
         ),
         Item::Round(picks) => tell_circle_lines(voice, output, b"round\n", names, picks),
+        Item::NoOutcome { number } => tell_head(voice, output, b"no outcome", *number as usize),
+        Item::NoDeadlock { number } => tell_head(voice, output, b"no deadlock", *number as usize),
     }
 }

@@ -198,6 +198,31 @@ fn tell_circle<O: Output>(
     voice.say(output, b"}\n")
 }
 
+/// Tells the object that says that there is none of a kind with this number.
+fn tell_none<O: Output>(
+    voice: &mut Voice,
+    output: &mut O,
+    kind: &'static [u8],
+    number: u32,
+) -> Result<(), DeviceFault>
+    ensures ok { OnOk result (Adds (at O.written O.failures voice.old output.old) (spec.none_json kind.now number)
+        (at O.written O.failures voice.new output.new)) }
+    ensures err { OnErr result (Breaks (at O.written O.failures voice.old output.old) (spec.none_json kind.now number)
+        (at O.written O.failures voice.new output.new)) }
+{
+    let mut digits = Buffer::new();
+    voice.say_all(
+        output,
+        &[
+            b"{\"kind\":\"",
+            kind,
+            b"\",\"number\":",
+            digits.format(number).as_bytes(),
+            b"}\n",
+        ],
+    )
+}
+
 /// Tells an item by its object.
 pub fn tell_item_object<O: Output>(
     voice: &mut Voice,
@@ -230,5 +255,7 @@ pub fn tell_item_object<O: Output>(
         Item::SomeDoNotEnd { fair } => voice.say(output, some_object(*fair)),
         Item::Lead(picks) => tell_circle(voice, output, b"endless", names, picks),
         Item::Round(picks) => tell_circle(voice, output, b"round", names, picks),
+        Item::NoOutcome { number } => tell_none(voice, output, b"no outcome", *number),
+        Item::NoDeadlock { number } => tell_none(voice, output, b"no deadlock", *number),
     }
 }

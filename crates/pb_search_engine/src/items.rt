@@ -85,7 +85,7 @@ fn put_deadlocks(
 }
 
 /// Returns the item after what was found, which says whether this is all.
-fn closing_item(outcomes: usize, deadlocks: usize, extent: Extent, states: u32) -> Item
+pub fn closing_item(outcomes: usize, deadlocks: usize, extent: Extent, states: u32) -> Item
     ensures { given_item_view result ≡ closing_item states outcomes deadlocks extent }
 {
     match extent {

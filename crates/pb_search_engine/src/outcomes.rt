@@ -1,17 +1,18 @@
 //! The command `outcomes`, over any input and output.
 
-ghost use Rattle.std.specs.Prelude.{◌≡◌, ◌≤◌, IfSome, Some, length};
+ghost use Rattle.std.specs.Prelude.{◌≡◌, IfSome};
 ghost use Rattle.pb_command_io.specs.Answers.{Tells};
-ghost use Rattle.pb_command_io.specs.Faults.{TellsFaults, TellsWriteFaults};
-ghost use Rattle.pb_search_engine.specs.SaysOfAll.{SaysOfSearches, SaysOfSought, SaysOfTold, target_of, way_of};
+ghost use Rattle.pb_command_io.specs.Faults.{TellsFaults};
+ghost use Rattle.pb_command_io.specs.Inputs.{SaysOfInput};
+ghost use Rattle.pb_search_engine.specs.SaysOfAll.{SaysOfSearches, SaysOfSought, target_of, way_of};
+ghost use Rattle.pb_search_engine.specs.SaysExpected.{SaysOfExpected};
 ghost use Rattle.pb_search_engine.specs.Sayings.{SaysOfAnyInput, text_of};
 ghost use Rattle.pb_search_engine.specs.SaysOutcomes.{mode_for, until_for};
 ghost use Rattle.pb_voice.specs.Voices.{Written};
 
 use crate::expect::tell_expected;
-use crate::one_run::{Target, tell_one_run};
+use crate::one_run::Target;
 use crate::sought::{Sought, sought_engine};
-use pb_base::limits::MAX_INPUT;
 use pb_base::{Input, Output};
 use pb_command_io::{Status, read_input};
 use pb_options::{Lend, OutcomesOptions};
@@ -21,24 +22,15 @@ use pb_search_stages::Mode;
 use pb_voice::{Form, Voice};
 use std::alloc::Global;
 
-/// What is told as a text.
-#[derive(Clone, Copy, Debug, PartialEq, Eq)]
-pub enum Told {
-    /// Whether all its runs are as expected.
-    Expected,
-    /// A run to one outcome or one deadlock.
-    One(Target),
-}
-
 /// What is asked of a text.
 #[derive(Clone, Copy, Debug, PartialEq, Eq)]
 pub enum Way {
-    /// The document of all its schedules, which is told in a form.
+    /// The document of all its schedules.
     Document,
-    /// What is found in it, which is told in a form.
+    /// Whether all its runs are as expected, which is told as a text.
+    Expected,
+    /// What is found in it.
     Seeks(Sought),
-    /// What is told as a text.
-    Tells(Told),
 }
 
 /// Writes every outcome of the text that the input holds, under the banker or with loans by the cash alone: how
@@ -58,11 +50,11 @@ pub enum Way {
 /// With `options.run` or `options.deadlock` the text is written with the picks that lead to the one with this
 /// number, as `replay` reads it, or that there is none. With `options.expect` the input is a text and print lines
 /// after it, and it is written whether all runs of the text are as these lines say, as `tell_expected` does. With
-/// `options.endless` a run that never ends is written in place of all outcomes, with picks that lead into a circle and picks that
-/// go round it. With
-/// `options.graph` the document of all its schedules is written in place of all else, as `write_schedules` does.
+/// `options.endless` a run that never ends is written in place of all outcomes: picks that lead into a circle and picks
+/// that go round it. With `options.graph` the document of all its schedules is written in place of all else, as
+/// `write_schedules` does.
 ///
-/// All outcomes, a run that never ends and the document are written in a form, and all else as lines.
+/// All is written in a form, but what `options.expect` asks for, which is written as lines.
 ///
 /// After a read that failed nothing is written; after a write that failed, a prefix of the output.
 pub fn outcomes_engine<I: Input, O: Output>(
@@ -85,7 +77,7 @@ pub fn outcomes_engine<I: Input, O: Output>(
             write_schedules(alloc, form, lending, options.states, input, output)
         }
         Way::Seeks(sought) => write_sought(alloc, form, sought, options, input, output),
-        Way::Tells(told) => write_told(alloc, told, options, input, output),
+        Way::Expected => write_expected(alloc, options, input, output),
     }
 }
 
@@ -97,13 +89,13 @@ fn way_of(options: OutcomesOptions) -> Way
         return Way::Document;
     }
     if options.expect {
-        return Way::Tells(Told::Expected);
+        return Way::Expected;
     }
     if options.endless {
         return Way::Seeks(Sought::Endless);
     }
     match target(options.run, options.deadlock) {
-        Some(target) => Way::Tells(Told::One(target)),
+        Some(target) => Way::Seeks(Sought::One(target)),
         None => Way::Seeks(Sought::All),
     }
 }
@@ -140,42 +132,24 @@ fn write_sought<I: Input, O: Output>(
     voice.finish(output, given)
 }
 
-/// Writes what is asked of the text on the input, as a text.
-fn write_told<I: Input, O: Output>(
+/// Writes whether all runs of the text on the input are as expected.
+fn write_expected<I: Input, O: Output>(
     alloc: Global,
-    told: Told,
     options: OutcomesOptions,
     input: &mut I,
     output: &mut O,
 ) -> Status
     ensures text { IfSome (I.rest input.old) (λ bytes.
-        Tells (SaysOfTold told options bytes) (O.written output.old) (O.written output.new) result) }
+        Tells (SaysOfInput (SaysOfExpected options.fair options.lend options.any_order options.states) bytes)
+        (O.written output.old) (O.written output.new) result) }
     ensures faults { TellsFaults
         (record { reads = I.failures input.old; writes = O.failures output.old; written = O.written output.old })
         (record { reads = I.failures input.new; writes = O.failures output.new; written = O.written output.new })
         result }
 {
     match read_input(alloc, input, output) {
-        Ok(bytes) => tell_text(alloc, told, options, bytes.as_slice(), output),
+        Ok(bytes) => tell_expected(alloc, options, bytes.as_slice(), output),
         Err(status) => status,
-    }
-}
-
-/// Writes what is asked of a text, as a text.
-fn tell_text<O: Output>(
-    alloc: Global,
-    told: Told,
-    options: OutcomesOptions,
-    bytes: &[u8],
-    output: &mut O,
-) -> Status
-    requires { length bytes.now ≤ MAX_INPUT }
-    ensures text { Tells (SaysOfTold told options bytes.now) (O.written output.old) (O.written output.new) result }
-    ensures faults { TellsWriteFaults (O.failures output.old) (O.failures output.new) result }
-{
-    match told {
-        Told::Expected => tell_expected(alloc, options, bytes, output),
-        Told::One(target) => tell_one_run(alloc, options, target, bytes, output),
     }
 }
 

@@ -10,6 +10,7 @@ ghost use Rattle.pb_voice.specs.Tellings.{Answers, Speaks};
 use crate::all::all_found;
 use crate::answer::tell_answer;
 use crate::endless::endless_found;
+use crate::one_run::{Target, tell_one_run};
 use crate::said::Said;
 use crate::teller::{Teller, tell_fault, tell_last};
 use pb_accept::{Said as PlainSaid, code_of_text};
@@ -27,6 +28,8 @@ pub enum Sought {
     All,
     /// A run that never ends.
     Endless,
+    /// A run to one outcome or one deadlock.
+    One(Target),
 }
 
 /// Tells what is found in the text on the input; of a text that is refused, its refusal.
@@ -72,7 +75,7 @@ fn tell_text<O: Output, T: Teller>(
 {
     match code_of_text(alloc, text) {
         Ok(compiled) => {
-            let status = tell_compiled(alloc, sought, options, &compiled, teller, output);
+            let status = tell_compiled(alloc, sought, options, text, &compiled, teller, output);
             drop(compiled);
             status
         }
@@ -85,12 +88,13 @@ fn tell_compiled<O: Output, T: Teller>(
     alloc: Global,
     sought: Sought,
     options: OutcomesOptions,
+    text: &[u8],
     compiled: &Compiled,
     teller: &mut T,
     output: &mut O,
 ) -> Status
     requires { AreLabels compiled.now.verified.code compiled.now.labels }
-    ensures { Speaks T.tells T.breaks (SaysOfCode sought options compiled.now.verified.code compiled.now.labels)
+    ensures { Speaks T.tells T.breaks (SaysOfCode sought options text.now compiled.now.verified.code compiled.now.labels)
         (at O.written O.failures teller.old output.old) (at O.written O.failures teller.new output.new) result }
 {
     match sought {
@@ -101,6 +105,9 @@ fn tell_compiled<O: Output, T: Teller>(
         Sought::Endless => {
             let found = endless_found(alloc, options, compiled);
             tell_answer(compiled, found, teller, output)
+        }
+        Sought::One(target) => {
+            tell_one_run(alloc, target, options, text, compiled, teller, output)
         }
     }
 }

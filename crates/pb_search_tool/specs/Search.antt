@@ -25,11 +25,9 @@ use Rattle.pb_words.specs.declared.words.Options.TheVariants as option
 abbrev pub shown_by : StatesOptions → PartOfRun
 shown_by numbers = record { from = numbers.from; rows = numbers.rows }
 
--- a word asks `outcomes` for something that has lines alone
+-- a word asks `outcomes` whether all runs are as expected, which has lines alone
 abbrev pub asks_else : List ℕ → Bool
-asks_else word =
-    starts_with nat_eq word (codes "--expect")
-    || starts_with nat_eq word (codes "--run") || starts_with nat_eq word (codes "--deadlock")
+asks_else word = starts_with nat_eq word (codes "--expect")
 
 -- a command with these words after it tells data, and so writes objects as it writes lines
 abbrev pub tells_data : (command : List ℕ) → List (List ℕ) → Bool

@@ -85,17 +85,14 @@ impl Commands for SearchTool {
     }
 }
 
-/// Returns whether a word asks `outcomes` for something that has lines alone.
+/// Returns whether a word asks `outcomes` whether all runs are as expected, which has lines alone.
 fn asks_else(word: &str) -> bool
     ensures { result ≡ spec.asks_else word.now }
 {
-    let word = word.as_bytes();
-    word.starts_with(b"--expect")
-        || word.starts_with(b"--run")
-        || word.starts_with(b"--deadlock")
+    word.as_bytes().starts_with(b"--expect")
 }
 
-/// Returns whether some word asks `outcomes` for something that has lines alone.
+/// Returns whether some word asks `outcomes` whether all runs are as expected.
 fn some_asks_else(words: &[&str]) -> bool
     ensures { result ≡ list_any spec.asks_else (map (λ w. w.now) words.now) }
 {

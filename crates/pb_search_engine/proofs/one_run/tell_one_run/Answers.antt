@@ -1,28 +1,55 @@
-use Rattle.pb_accept.specs.Refusals.{SaysOfRefusedText}
-use Rattle.pb_command_io.proofs.InputLemmas.{replied_too, said_too, told_reply}
-use Rattle.pb_search_engine.specs.SaysOfOne.{SaysOfOne, SaysOfOneRun, accepted, refused}
+use Rattle.std.proofs.Common.{◌∙◌, List, ap, map, subst, sym}
+use Rattle.std.specs.Prelude.{All}
+use Rattle.pb_accept.specs.ToldRuns.{SaysOfRecorded}
+use Rattle.pb_base.specs.Lines.{HasProcess, NameTable, names_view}
+use Rattle.pb_code.specs.Whole.{Code}
+use Rattle.pb_command_io.specs.declared.status.Status.TheVariants.{Done}
+use Rattle.pb_history.specs.declared.counted.CountedPick.{CountedPick}
+use Rattle.pb_search_engine.specs.Items.{given_item_view}
+use Rattle.pb_search_engine.specs.SaysOfTexts.{SaysPlainly}
 use Rattle.pb_search_engine.specs.SaysOutcomes.{mode_for, until_for}
+use Rattle.pb_search_engine.proofs.OneRunLemmas.{memory_is_told, none_is_told, run_is_told}
+use Rattle.pb_verifier.specs.Verified.{IsFaultless, VerifiedCode}
+use Rattle.pb_voice.specs.Held.{at}
+use Rattle.pb_voice.specs.Tellings.{Speaks}
 use Rattle.pb_search_engine.proofs.one_run.tell_one_run.Goals as goal
 
-pub reply-requires : goal.reply-requires
-reply-requires g c = c.in-Ok.ensures.compiled.fit
+pub run_found-requires : goal.run_found-requires
+run_found-requires g c = subst (λ (v : VerifiedCode). IsFaultless v.code) c.verified.ensures c.code.ensures.verified.faultless
 
-pub returns-in-Ok-clause-text : goal.returns-in-Ok-clause-text
-returns-in-Ok-clause-text g c =
-    let code = c.in-Ok.compiled.verified.code in
-    let labels = c.in-Ok.compiled.labels in
-    let target = c.args.target in
-    let lend = c.args.options.lend in
-    let first = c.args.options.first_deadlock in
-    let prints = c.args.options.prints in
-    let states = c.args.options.states in
-    told_reply (SaysOfOne target lend first prints states) c.args.text.now c.reply.result _ _ c.tell.result c.requires
-    (replied_too (SaysOfOneRun target (mode_for lend prints) (until_for first) code states c.args.text.now)
-    (SaysOfOne target lend first prints states c.args.text.now) c.reply.result (accepted code labels c.in-Ok.ensures.compiled) c.reply.ensures)
-    c.tell.ensures.said c.tell.ensures.memory
+pub tell_run-requires : goal.tell_run-requires
+tell_run-requires g c =
+    let named = c.in-Ok-There.ensures.2.2.2.2.2.2.2 in
+    subst (λ (n : NameTable). All (λ c. HasProcess n c.pick.process) c.deref.result.now)
+    (sym (ap (λ (code : Code). code.names) c.code.ensures.code ∙ ap (λ (v : VerifiedCode). v.code.names) c.verified.ensures))
+    (subst (λ (cs : List CountedPick). All (λ c. HasProcess c.args.compiled.now.verified.code.names c.pick.process) cs) (sym c.deref.ensures.value) named)
 
-pub returns-in-Err-clause-text : goal.returns-in-Err-clause-text
-returns-in-Err-clause-text g c =
-    said_too SaysOfRefusedText
-    (SaysOfOne c.args.target c.args.options.lend c.args.options.first_deadlock c.args.options.prints c.args.options.states) c.args.text.now _ _
-    c.refuse.result refused (c.refuse.ensures.text c.args.text.now c.requires c.in-Err.ensures.refused)
+pub returns-in-Ok-There : goal.returns-in-Ok-There
+returns-in-Ok-There g c =
+    let options = c.args.options in
+    let code = c.args.compiled.now.verified.code in
+    let old = at g.O.Output.written g.O.Output.failures c.args.teller.now c.args.output.now in
+    let new = at g.O.Output.written g.O.Output.failures c.tell_run.new.teller c.tell_run.new.output in
+    let picks = c.in-Ok-There.picks.items in
+    run_is_told g.T.Teller.tells g.T.Teller.breaks old new c.tell_run.result c.args.target (mode_for options.lend options.prints)
+    (until_for options.first_deadlock) code c.args.compiled.now.labels options.states c.args.text.now picks c.in-Ok-There.ensures
+    (subst (λ (n : NameTable). Speaks g.T.Teller.tells g.T.Teller.breaks (SaysPlainly (SaysOfRecorded c.args.text.now n picks Done)) old new c.tell_run.result)
+    (ap (λ (code : Code). code.names) c.code.ensures.code ∙ ap (λ (v : VerifiedCode). v.code.names) c.verified.ensures)
+    (subst (λ (cs : List CountedPick). Speaks g.T.Teller.tells g.T.Teller.breaks
+    (SaysPlainly (SaysOfRecorded c.args.text.now (names_view c.code.result.now.names) cs Done)) old new c.tell_run.result) c.deref.ensures.value c.tell_run.ensures))
+
+pub returns-in-Ok-Nothing : goal.returns-in-Ok-Nothing
+returns-in-Ok-Nothing g c =
+    let options = c.args.options in
+    let code = c.args.compiled.now.verified.code in
+    none_is_told g.T.Teller.tells g.T.Teller.breaks (at g.O.Output.written g.O.Output.failures c.args.teller.now c.args.output.now)
+    (at g.O.Output.written g.O.Output.failures c.tell_answer.new.teller c.tell_answer.new.output) c.tell_answer.result c.args.target (mode_for options.lend options.prints)
+    (until_for options.first_deadlock) code c.args.compiled.now.labels options.states c.args.text.now
+    (map given_item_view c.in-Ok-Nothing.answer.items.items) c.in-Ok-Nothing.answer.status c.in-Ok-Nothing.ensures c.tell_answer.ensures.items
+
+pub returns-in-Err : goal.returns-in-Err
+returns-in-Err g c =
+    let options = c.args.options in
+    memory_is_told g.T.Teller.tells g.T.Teller.breaks (at g.O.Output.written g.O.Output.failures c.args.teller.now c.args.output.now)
+    (at g.O.Output.written g.O.Output.failures c.tell_answer-2.new.teller c.tell_answer-2.new.output) c.tell_answer-2.result c.args.target (mode_for options.lend options.prints)
+    (until_for options.first_deadlock) c.args.compiled.now.verified.code c.args.compiled.now.labels options.states c.args.text.now c.tell_answer-2.ensures.memory

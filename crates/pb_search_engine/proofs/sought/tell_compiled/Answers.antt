@@ -22,3 +22,6 @@ returns-in-Endless g c =
     (at g.O.Output.written g.O.Output.failures c.tell_answer-in-Endless.new.teller c.tell_answer-in-Endless.new.output) c.tell_answer-in-Endless.result
     (SaysOfCircle options.fair (lending_for options.lend) code options.states) code.names
     c.args.compiled.now.labels c.endless_found-found.result c.endless_found-found.ensures.said c.tell_answer-in-Endless.ensures.items c.tell_answer-in-Endless.ensures.memory)
+
+pub returns-in-One : goal.returns-in-One
+returns-in-One g c = rw c.in-One.is c.tell_one_run.ensures

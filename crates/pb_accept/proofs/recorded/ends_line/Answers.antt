@@ -1,6 +1,6 @@
 use Rattle.std.proofs.Common.{◌≡◌, ℕ, Some, eqb, sym, ap, ◌∙◌}
 use Rattle.std.proofs.lemmas.Bool.{eqb-true}
-use Rattle.pb_accept.proofs.run_text.ends_line.Goals as goal
+use Rattle.pb_accept.proofs.recorded.ends_line.Goals as goal
 
 pub returns-in-Some : goal.returns-in-Some
 returns-in-Some c = (
