@@ -20,7 +20,7 @@ MINUTES = {
     "pb_debug_stops": 0.4, "pb_debug_texts": 1.4, "pb_diagnostics": 1.3, "pb_draw": 0.9, "pb_findings": 1.2, "pb_draw_engine": 0.4,
     "pb_draw_picture": 2.9, "pb_engines": 0.6, "pb_explain": 0.6, "pb_frames": 0.4,
     "pb_generator": 1, "pb_grammar": 2.8, "pb_groups": 0.4, "pb_history": 1.2, "pb_joint": 0.8, "pb_json": 0.5,
-    "pb_json_lines": 2.5, "pb_lexer": 0.7, "pb_machine": 1.9, "pb_mends": 0.9, "pb_message_excerpts": 0.7,
+    "pb_json_lines": 2.5, "pb_lexer": 0.7, "pb_machine": 1.9, "pb_members": 0.4, "pb_mends": 0.9, "pb_message_excerpts": 0.7,
     "pb_message_stops": 0.7, "pb_message_syntax": 1.4, "pb_message_wording": 1.4, "pb_mistakes": 1.4, "pb_messages": 1.9, "pb_names": 1.3, "pb_object": 3,
     "pb_options": 0.5, "pb_outline": 1.4, "pb_page": 1.4, "pb_page_engine": 0.4, "pb_page_graph": 1.1, "pb_parser": 0.9,
     "pb_picks": 0.8, "pb_plan": 1.1, "pb_plan_engine": 1, "pb_record": 0.5, "pb_resolver": 2.9, "pb_search": 1.8,

@@ -4,8 +4,9 @@ use Rattle.std.specs.List.{starts_with}
 use Rattle.std.specs.Str.Lossy.{utf8_lossy}
 use Rattle.serde_json.specs.Data.{Data, null}
 use Rattle.pb_debug_commands.specs.Lines.{lines_of}
-use Rattle.pb_debug.specs.Sessions.{Session, session_bytes}
+use Rattle.pb_debug.specs.Sessions.{SessionText, session_bytes}
 use Rattle.pb_debug.specs.Value.{Debugging, moved_to}
+use Rattle.pb_debug_texts.specs.declared.said.Wording.TheVariants.{Lines}
 use Rattle.pb_debug_positions.specs.Searches.{IsFirst}
 use Rattle.pb_adapter_requests.specs.Breakpoints.{asked_lines, asks_events, breakpoints_data, is_of_text}
 use Rattle.pb_adapter_requests.specs.declared.counting.Counting.{Counting}
@@ -48,7 +49,7 @@ GoesOn d c seq r kind told next c' =
 
 -- the text that a session answers to these command lines, and the debugger after them
 abbrev pub Says : Debugging → (words text : List ℕ) → Debugging → Type 0
-Says d words text next = Session d (lines_of (session_bytes words)) text next
+Says d words text next = SessionText Lines d (lines_of (session_bytes words)) text next
 
 -- the run goes on to just after a pick that comes to a breakpoint; if there is none, to the end of the picks, and the
 -- event says a circular wait, or that there is none

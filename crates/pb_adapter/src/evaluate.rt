@@ -9,7 +9,7 @@ use pb_adapter_requests::{Request, done, failed};
 use pb_adapter_values::result_body;
 use pb_base::{MemoryInput, NoMemory};
 use pb_conversations::Said;
-use pb_debug::Debugger;
+use pb_debug::{Debugger, Wording};
 use serde_json::Value;
 use std::alloc::Global;
 
@@ -23,7 +23,7 @@ pub fn answer_lines(
 {
     let mut input = MemoryInput::new(words.as_bytes());
     let mut said = Said::new(alloc);
-    match debugger.session(&mut input, &mut said) {
+    match debugger.session(Wording::Lines, &mut input, &mut said) {
         Ok(()) => Ok(said),
         Err(_) => Err(NoMemory),
     }

@@ -17,6 +17,9 @@ use Rattle.pb_debug.specs.Value.{Debugging}
 use Rattle.pb_debug.specs.declared.fault.DebugFault.{DebugFault}
 use Rattle.pb_debug.specs.declared.fault.DebugFault.TheVariants.{PastEnd, NoProcess, NoArm, BadCommand, NoMemory}
 use Rattle.pb_debug.specs.declared.fault.DebugFault.TheVariants.{Device}
+use Rattle.pb_debug_texts.specs.Sayings.{Told, spoken}
+use Rattle.pb_debug_texts.specs.declared.said.Wording.{Wording}
+use Rattle.pb_debug_texts.proofs.Spoken.{spoken_both}
 use Rattle.pb_debug_commands.proofs.Cutting.{cut-append, first_lines, cut_end, cut_byte}
 use Rattle.pb_debug_commands.proofs.Outputs.{appended_none, prefix_more, whole_prefix}
 use Rattle.pb_debug_commands.proofs.Kept.{kept_again, kept_says, kept_nothing}
@@ -24,8 +27,10 @@ use Rattle.pb_base.proofs.DeviceLemmas.{appended-appended, next-bytes}
 
 -- ---- commands
 
-pub kept_answers : (d : Debugging) (line said : List ℕ) (next : Debugging) → AnswersLine d (kept line) said next → AnswersLine d line said next
-kept_answers d line said next h = subst (λ (c : Option Command). AnswersRead d c said next) (kept_says line) h
+pub kept_answers : (d : Debugging) (line : List ℕ) (told : List Told) (next : Debugging) → AnswersLine d (kept line) told next
+    → AnswersLine d line told next
+kept_answers d line told next (said, read, is) =
+    (said, subst (λ (c : Option Command). AnswersRead d c said next) (kept_says line) read, is)
 
 -- ---- outputs
 
@@ -39,43 +44,54 @@ leaves_more BadCommand old mid new a b e h = elim h [ ]
 leaves_more NoMemory old mid new a b e h = h ∙ (ap (λ o. appended o b) e ∙ appended-appended old a b)
 leaves_more Device old mid new a b e h = prefix_more old mid new a b e h
 
+spoken_more : (wording : Wording) (old : Option (List ℕ)) (a b : List Told)
+    → appended (appended old (spoken wording a)) (spoken wording b) ≡ appended old (spoken wording (a ++ b))
+spoken_more wording old a b =
+    appended-appended old (spoken wording a) (spoken wording b) ∙ ap (λ (t : List ℕ). appended old t) (sym (spoken_both wording a b))
+
+leaves_spoken : (wording : Wording) (fault : DebugFault) (old mid new : Option (List ℕ)) (a b : List Told) → mid ≡ appended old (spoken wording a)
+    → WritesBeforeFault fault mid new (spoken wording b) → WritesBeforeFault fault old new (spoken wording (a ++ b))
+leaves_spoken wording fault old mid new a b e h =
+    subst (λ (t : List ℕ). WritesBeforeFault fault old new t) (sym (spoken_both wording a b))
+    (leaves_more fault old mid new (spoken wording a) (spoken wording b) e h)
+
 -- ---- sessions
 
-pub sessions : (d m n : Debugging) (l1 l2 : List (List ℕ)) (t1 t2 : List ℕ) → Session d l1 t1 m → Session m l2 t2 n
+pub sessions : (d m n : Debugging) (l1 l2 : List (List ℕ)) (t1 t2 : List Told) → Session d l1 t1 m → Session m l2 t2 n
     → Session d (l1 ++ l2) (t1 ++ t2) n
 sessions d m n l1 l2 t1 t2 first nothing =
-    subst (λ (t : List ℕ). Session d (l1 ++ []) t m) (sym (append-nil t1))
+    subst (λ (t : List Told). Session d (l1 ++ []) t m) (sym (append-nil t1))
     (subst (λ (ls : List (List ℕ)). Session d ls t1 m) (sym (append-nil l1)) first)
-sessions d m n l1 l2 t1 t2 first (one_more lines text mid line said next before answers) =
-    subst (λ (t : List ℕ). Session d (l1 ++ (lines ++ line ∷ [])) t next) (append_assoc t1 text said)
-    (subst (λ (ls : List (List ℕ)). Session d ls ((t1 ++ text) ++ said) next) (append_assoc l1 lines (line ∷ []))
-    (one_more (l1 ++ lines) (t1 ++ text) mid line said next (sessions d m mid l1 lines t1 text first before) answers))
+sessions d m n l1 l2 t1 t2 first (one_more lines all mid line said next before answers) =
+    subst (λ (t : List Told). Session d (l1 ++ (lines ++ line ∷ [])) t next) (append_assoc t1 all said)
+    (subst (λ (ls : List (List ℕ)). Session d ls ((t1 ++ all) ++ said) next) (append_assoc l1 lines (line ∷ []))
+    (one_more (l1 ++ lines) (t1 ++ all) mid line said next (sessions d m mid l1 lines t1 all first before) answers))
 
-pub fed_nothing : (d : Debugging) (part line : List ℕ) (old : Option (List ℕ)) → line ≡ kept part → Fed d part [] old old line d
-fed_nothing d part line old e = record { text = []; session = nothing; written = sym (appended_none old); last = e }
+pub fed_nothing : (wording : Wording) (d : Debugging) (part line : List ℕ) (old : Option (List ℕ)) → line ≡ kept part → Fed wording d part [] old old line d
+fed_nothing wording d part line old e = record { said = []; session = nothing; written = sym (appended_none old); last = e }
 
-module _ (d m next : Debugging) (part xs : List ℕ) (old mid new : Option (List ℕ)) (line : List ℕ) (fed : Fed d part xs old mid line m) where
+module _ (wording : Wording) (d m next : Debugging) (part xs : List ℕ) (old mid new : Option (List ℕ)) (line : List ℕ) (fed : Fed wording d part xs old mid line m) where
   -- a line feed: the line is answered
-  pub fed_line : IsTold m line mid new next → Fed d part (xs ++ 10 ∷ []) old new [] next
+  pub fed_line : IsTold wording m line mid new next → Fed wording d part (xs ++ 10 ∷ []) old new [] next
   fed_line (said, answers, written) =
       let c = cut part xs in
       let says = kept_answers m c.rest said next (subst (λ (l : List ℕ). AnswersLine m l said next) fed.last answers) in
       record {
-        text = fed.text ++ said;
+        said = fed.said ++ said;
         session =
-            subst (λ (k : SplitLines). Session d k.lines (fed.text ++ said) next) (sym (cut_end part xs))
-            (one_more c.lines fed.text m c.rest said next fed.session says);
-        written = written ∙ (ap (λ o. appended o said) fed.written ∙ appended-appended old fed.text said);
+            subst (λ (k : SplitLines). Session d k.lines (fed.said ++ said) next) (sym (cut_end part xs))
+            (one_more c.lines fed.said m c.rest said next fed.session says);
+        written = written ∙ (ap (λ o. appended o (spoken wording said)) fed.written ∙ spoken_more wording old fed.said said);
         last = ap (λ (k : SplitLines). kept k.rest) (sym (cut_end part xs));
       }
 
   -- any other byte is kept
-  pub fed_byte : (b : ℕ) (line' : List ℕ) → eqb b 10 ≡ false → line' ≡ kept (line ++ b ∷ []) → Fed d part (xs ++ b ∷ []) old mid line' m
+  pub fed_byte : (b : ℕ) (line' : List ℕ) → eqb b 10 ≡ false → line' ≡ kept (line ++ b ∷ []) → Fed wording d part (xs ++ b ∷ []) old mid line' m
   fed_byte b line' other e =
       let c = cut part xs in
       record {
-        text = fed.text;
-        session = subst (λ (k : SplitLines). Session d k.lines fed.text m) (sym (cut_byte part xs b other)) fed.session;
+        said = fed.said;
+        session = subst (λ (k : SplitLines). Session d k.lines fed.said m) (sym (cut_byte part xs b other)) fed.session;
         written = fed.written;
         last =
             e ∙ (ap (λ (l : List ℕ). kept (l ++ b ∷ [])) fed.last
@@ -83,28 +99,28 @@ module _ (d m next : Debugging) (part xs : List ℕ) (old mid new : Option (List
       }
 
   -- what was fed are some first lines of more
-  pub fed_some : (fault : DebugFault) (ys : List ℕ) → WritesBeforeFault fault old mid fed.text → FedSome fault d part (xs ++ ys) old mid m
+  pub fed_some : (fault : DebugFault) (ys : List ℕ) → WritesBeforeFault fault old mid (spoken wording fed.said) → FedSome wording fault d part (xs ++ ys) old mid m
   fed_some fault ys leaves = record {
     lines = (cut part xs).lines;
     later = (cut (cut part xs).rest ys).lines;
-    text = fed.text;
+    said = fed.said;
     of = first_lines part xs ys;
     session = fed.session;
     written = leaves;
   }
 
   -- a read failed after them
-  pub fed_broken : (ys : List ℕ) → FedSome Device d part (xs ++ ys) old mid m
-  fed_broken ys = fed_some Device ys (whole_prefix old mid fed.text fed.written)
+  pub fed_broken : (ys : List ℕ) → FedSome wording Device d part (xs ++ ys) old mid m
+  fed_broken ys = fed_some Device ys (whole_prefix old mid (spoken wording fed.said) fed.written)
 
   -- it stops at a line feed
-  pub fed_stop : (ys : List ℕ) (fault : DebugFault) → SessionStopsAt fault m line mid new next → FedSome fault d part (xs ++ 10 ∷ ys) old new next
+  pub fed_stop : (ys : List ℕ) (fault : DebugFault) → SessionStopsAt wording fault m line mid new next → FedSome wording fault d part (xs ++ 10 ∷ ys) old new next
   fed_stop ys PastEnd stop = elim stop [ ]
   fed_stop ys NoProcess stop = elim stop [ ]
   fed_stop ys NoArm stop = elim stop [ ]
   fed_stop ys BadCommand stop = elim stop [ ]
   fed_stop ys NoMemory (same, none) =
-      let Some' : Option (List ℕ) → Debugging → Type 0 = λ o e. FedSome NoMemory d part (xs ++ 10 ∷ ys) old o e in
+      let Some' : Option (List ℕ) → Debugging → Type 0 = λ o e. FedSome wording NoMemory d part (xs ++ 10 ∷ ys) old o e in
       subst (λ o. Some' o next) (sym none) (subst (λ e. Some' mid e) (sym same) (fed_some NoMemory (10 ∷ ys) fed.written))
   fed_stop ys Device (said, answers, written) =
       let c = cut part xs in
@@ -115,16 +131,16 @@ module _ (d m next : Debugging) (part xs : List ℕ) (old mid new : Option (List
       record {
         lines = c.lines ++ c.rest ∷ [];
         later = (cut [] ys).lines;
-        text = fed.text ++ said;
+        said = fed.said ++ said;
         of =
             ap (λ (bs : List ℕ). (cut part bs).lines) (sym bytes)
             ∙ (lines ∙ ap (λ (k : SplitLines). k.lines ++ (cut k.rest ys).lines) ends);
-        session = one_more c.lines fed.text m c.rest said next fed.session says;
-        written = prefix_more old mid new fed.text said fed.written written;
+        session = one_more c.lines fed.said m c.rest said next fed.session says;
+        written = leaves_spoken wording Device old mid new fed.said said fed.written written;
       }
 
   -- a write failed at a line feed
-  pub fed_breaks : (ys : List ℕ) → IsToldInPart m line mid new next → BreaksOff d (cut part (xs ++ 10 ∷ ys)).lines old new next
+  pub fed_breaks : (ys : List ℕ) → IsToldInPart wording m line mid new next → BreaksOff wording d (cut part (xs ++ 10 ∷ ys)).lines old new next
   fed_breaks ys (said, answers, written) =
       let c = cut part xs in
       let says = kept_answers m c.rest said next (subst (λ (l : List ℕ). AnswersLine m l said next) fed.last answers) in
@@ -135,7 +151,7 @@ module _ (d m next : Debugging) (part xs : List ℕ) (old mid new : Option (List
         earlier = c.lines;
         failed = c.rest;
         later = (cut [] ys).lines;
-        text = fed.text;
+        said = fed.said;
         mid = m;
         of =
             ap (λ (bs : List ℕ). (cut part bs).lines) (sym bytes)
@@ -143,82 +159,82 @@ module _ (d m next : Debugging) (part xs : List ℕ) (old mid new : Option (List
             ∙ (ap (λ (k : SplitLines). k.lines ++ (cut k.rest ys).lines) ends
             ∙ append_assoc c.lines (c.rest ∷ []) (cut [] ys).lines));
         session = fed.session;
-        told = (said, says, subst (λ o. AddsPrefix o new said) fed.written written);
+        told = (said, says, subst (λ o. AddsPrefix o new (spoken wording said)) fed.written written);
       }
 
   -- more bytes
-  pub fed_fed : (ys line' : List ℕ) → Fed m (cut part xs).rest ys mid new line' next → Fed d part (xs ++ ys) old new line' next
+  pub fed_fed : (ys line' : List ℕ) → Fed wording m (cut part xs).rest ys mid new line' next → Fed wording d part (xs ++ ys) old new line' next
   fed_fed ys line' more = record {
-    text = fed.text ++ more.text;
+    said = fed.said ++ more.said;
     session =
-        subst (λ (ls : List (List ℕ)). Session d ls (fed.text ++ more.text) next) (sym (first_lines part xs ys))
-        (sessions d m next _ _ fed.text more.text fed.session more.session);
-    written = more.written ∙ (ap (λ o. appended o more.text) fed.written ∙ appended-appended old fed.text more.text);
+        subst (λ (ls : List (List ℕ)). Session d ls (fed.said ++ more.said) next) (sym (first_lines part xs ys))
+        (sessions d m next _ _ fed.said more.said fed.session more.session);
+    written = more.written ∙ (ap (λ o. appended o (spoken wording more.said)) fed.written ∙ spoken_more wording old fed.said more.said);
     last = more.last ∙ ap (λ (k : SplitLines). kept k.rest) (sym (cut-append part xs ys));
   }
 
-  pub fed_then_some : (fault : DebugFault) (ys : List ℕ) → FedSome fault m (cut part xs).rest ys mid new next → FedSome fault d part (xs ++ ys) old new next
+  pub fed_then_some : (fault : DebugFault) (ys : List ℕ) → FedSome wording fault m (cut part xs).rest ys mid new next → FedSome wording fault d part (xs ++ ys) old new next
   fed_then_some fault ys more = record {
     lines = (cut part xs).lines ++ more.lines;
     later = more.later;
-    text = fed.text ++ more.text;
+    said = fed.said ++ more.said;
     of =
         first_lines part xs ys
         ∙ (ap (λ (ls : List (List ℕ)). (cut part xs).lines ++ ls) more.of
         ∙ sym (append_assoc (cut part xs).lines more.lines more.later));
-    session = sessions d m next _ _ fed.text more.text fed.session more.session;
-    written = leaves_more fault old mid new fed.text more.text fed.written more.written;
+    session = sessions d m next _ _ fed.said more.said fed.session more.session;
+    written = leaves_spoken wording fault old mid new fed.said more.said fed.written more.written;
   }
 
   -- a write failed at a line of more bytes
-  pub fed_then_breaks : (ys : List ℕ) → BreaksOff m (cut (cut part xs).rest ys).lines mid new next → BreaksOff d (cut part (xs ++ ys)).lines old new next
+  pub fed_then_breaks : (ys : List ℕ) → BreaksOff wording m (cut (cut part xs).rest ys).lines mid new next → BreaksOff wording d (cut part (xs ++ ys)).lines old new next
   fed_then_breaks ys more =
       let first = (cut part xs).lines in
       record {
         earlier = first ++ more.earlier;
         failed = more.failed;
         later = more.later;
-        text = fed.text ++ more.text;
+        said = fed.said ++ more.said;
         mid = more.mid;
         of =
             first_lines part xs ys
             ∙ (ap (λ (ls : List (List ℕ)). first ++ ls) more.of
             ∙ sym (append_assoc first more.earlier (more.failed ∷ more.later)));
-        session = sessions d m more.mid _ _ fed.text more.text fed.session more.session;
+        session = sessions d m more.mid _ _ fed.said more.said fed.session more.session;
         told = (
           more.told.0,
           more.told.1,
-          subst (λ o. AddsPrefix o new more.told.0)
-              (ap (λ o. appended o more.text) fed.written ∙ appended-appended old fed.text more.text) more.told.2,
+          subst (λ o. AddsPrefix o new (spoken wording more.told.0))
+              (ap (λ o. appended o (spoken wording more.said)) fed.written ∙ spoken_more wording old fed.said more.said) more.told.2,
         );
       }
 
 -- ---- a write fails
 
 -- if another count of failed writes is there, a write failed
-pub write_failed : (fault : DebugFault) (m next : Debugging) (line : List ℕ) (mid new : Option (List ℕ)) (before after : ℕ)
-    → SessionStopsAt fault m line mid new next → CountsWrites fault before after → after ≢ before → IsToldInPart m line mid new next
-write_failed PastEnd m next line mid new before after stop counts grew = elim stop [ ]
-write_failed NoProcess m next line mid new before after stop counts grew = elim stop [ ]
-write_failed NoArm m next line mid new before after stop counts grew = elim stop [ ]
-write_failed BadCommand m next line mid new before after stop counts grew = elim stop [ ]
-write_failed NoMemory m next line mid new before after stop counts grew = absurd (grew counts)
-write_failed Device m next line mid new before after stop counts grew = stop
+pub write_failed : (wording : Wording) (fault : DebugFault) (m next : Debugging) (line : List ℕ) (mid new : Option (List ℕ)) (before after : ℕ)
+    → SessionStopsAt wording fault m line mid new next → CountsWrites fault before after → after ≢ before → IsToldInPart wording m line mid new next
+write_failed wording PastEnd m next line mid new before after stop counts grew = elim stop [ ]
+write_failed wording NoProcess m next line mid new before after stop counts grew = elim stop [ ]
+write_failed wording NoArm m next line mid new before after stop counts grew = elim stop [ ]
+write_failed wording BadCommand m next line mid new before after stop counts grew = elim stop [ ]
+write_failed wording NoMemory m next line mid new before after stop counts grew = absurd (grew counts)
+write_failed wording Device m next line mid new before after stop counts grew = stop
 
-pub told_in_part : (r : Result ⊤ DebugFault) (m next : Debugging) (line : List ℕ) (mid new : Option (List ℕ)) (before after : ℕ)
-    → IfErr r (λ e. SessionStopsAt e m line mid new next) → OnOk r (after ≡ before) → IfErr r (λ e. CountsWrites e before after)
-    → after ≢ before → IsToldInPart m line mid new next
-told_in_part (Ok x) m next line mid new before after stop same counts grew = absurd (grew same)
-told_in_part (Err e) m next line mid new before after stop same counts grew = write_failed e m next line mid new before after stop counts grew
+pub told_in_part : (wording : Wording) (r : Result ⊤ DebugFault) (m next : Debugging) (line : List ℕ) (mid new : Option (List ℕ)) (before after : ℕ)
+    → IfErr r (λ e. SessionStopsAt wording e m line mid new next) → OnOk r (after ≡ before) → IfErr r (λ e. CountsWrites e before after)
+    → after ≢ before → IsToldInPart wording m line mid new next
+told_in_part wording (Ok x) m next line mid new before after stop same counts grew = absurd (grew same)
+told_in_part wording (Err e) m next line mid new before after stop same counts grew = write_failed wording e m next line mid new before after stop counts grew
 
 -- more lines are after the one that failed
-pub breaks_before : (d next : Debugging) (lines more whole : List (List ℕ)) (old new : Option (List ℕ)) → BreaksOff d lines old new next
-    → whole ≡ lines ++ more → BreaksOff d whole old new next
-breaks_before d next lines more whole old new breaks is = record {
+pub breaks_before : (wording : Wording) (d next : Debugging) (lines more whole : List (List ℕ)) (old new : Option (List ℕ)) → BreaksOff wording d lines old new next
+    → whole ≡ lines ++ more → BreaksOff wording d whole old new next
+breaks_before wording d next lines more whole old new breaks is = record {
   earlier = breaks.earlier;
   failed = breaks.failed;
   later = breaks.later ++ more;
-  text = breaks.text;
+  said = breaks.said;
   mid = breaks.mid;
   of = is ∙ (ap (λ (ls : List (List ℕ)). ls ++ more) breaks.of ∙ append_assoc breaks.earlier (breaks.failed ∷ breaks.later) more);
   session = breaks.session;
@@ -226,12 +242,12 @@ breaks_before d next lines more whole old new breaks is = record {
 }
 
 -- so it is of more bytes still
-pub some_of_more : (fault : DebugFault) (d next : Debugging) (part xs ys : List ℕ) (old new : Option (List ℕ)) → FedSome fault d part xs old new next
-    → FedSome fault d part (xs ++ ys) old new next
-some_of_more fault d next part xs ys old new some = record {
+pub some_of_more : (wording : Wording) (fault : DebugFault) (d next : Debugging) (part xs ys : List ℕ) (old new : Option (List ℕ)) → FedSome wording fault d part xs old new next
+    → FedSome wording fault d part (xs ++ ys) old new next
+some_of_more wording fault d next part xs ys old new some = record {
   lines = some.lines;
   later = some.later ++ (cut (cut part xs).rest ys).lines;
-  text = some.text;
+  said = some.said;
   of =
       first_lines part xs ys
       ∙ (ap (λ (ls : List (List ℕ)). ls ++ (cut (cut part xs).rest ys).lines) some.of
@@ -242,32 +258,32 @@ some_of_more fault d next part xs ys old new some = record {
 
 -- ---- all lines of an input
 
-pub says_some : (fault : DebugFault) (d next : Debugging) (bytes : List ℕ) (old new : Option (List ℕ)) → FedSome fault d [] (session_bytes bytes) old new next
-    → SaysSome fault d bytes old new next
-says_some fault d next bytes old new some =
+pub says_some : (wording : Wording) (fault : DebugFault) (d next : Debugging) (bytes : List ℕ) (old new : Option (List ℕ)) → FedSome wording fault d [] (session_bytes bytes) old new next
+    → SaysSome wording fault d bytes old new next
+says_some wording fault d next bytes old new some =
     let last = last_line (cut [] (session_bytes bytes)).rest in
     record {
       lines = some.lines;
       later = some.later ++ last;
-      text = some.text;
+      said = some.said;
       of = ap (λ (ls : List (List ℕ)). ls ++ last) some.of ∙ append_assoc some.lines some.later last;
       session = some.session;
       written = some.written;
     }
 
-module _ (d m : Debugging) (bytes : List ℕ) (old mid : Option (List ℕ)) (line : List ℕ) (fed : Fed d [] (session_bytes bytes) old mid line m) where
+module _ (wording : Wording) (d m : Debugging) (bytes : List ℕ) (old mid : Option (List ℕ)) (line : List ℕ) (fed : Fed wording d [] (session_bytes bytes) old mid line m) where
   abbrev whole : SplitLines
   whole = cut [] (session_bytes bytes)
 
   -- nothing is left behind the last line feed
-  pub says_all : length line ≡ 0 → SaysAll d bytes old mid m
+  pub says_all : length line ≡ 0 → SaysAll wording d bytes old mid m
   says_all empty =
       let none : whole.rest ≡ [] = kept_nothing whole.rest (sym (ap length fed.last) ∙ empty) in
       let lines : whole.lines ≡ lines_of (session_bytes bytes) =
       sym (append-nil whole.lines) ∙ ap (λ (r : List ℕ). whole.lines ++ last_line r) (sym none) in
       record {
-        text = fed.text;
-        session = subst (λ (ls : List (List ℕ)). Session d ls fed.text m) lines fed.session;
+        said = fed.said;
+        session = subst (λ (ls : List (List ℕ)). Session d ls fed.said m) lines fed.session;
         written = fed.written;
       }
 
@@ -285,36 +301,36 @@ module _ (d m : Debugging) (bytes : List ℕ) (old mid : Option (List ℕ)) (lin
   ]
 
   -- the last line has no line feed
-  pub says_last : (next : Debugging) (new : Option (List ℕ)) → 0 < length line → IsTold m line mid new next → SaysAll d bytes old new next
+  pub says_last : (next : Debugging) (new : Option (List ℕ)) → 0 < length line → IsTold wording m line mid new next → SaysAll wording d bytes old new next
   says_last next new some (said, answers, written) =
       let says = kept_answers m whole.rest said next (subst (λ (l : List ℕ). AnswersLine m l said next) fed.last answers) in
       let lines : whole.lines ++ whole.rest ∷ [] ≡ lines_of (session_bytes bytes) =
       ap (λ (ls : List (List ℕ)). whole.lines ++ ls) (sym (last_is whole.rest (some_left some))) in
       record {
-        text = fed.text ++ said;
+        said = fed.said ++ said;
         session =
-            subst (λ (ls : List (List ℕ)). Session d ls (fed.text ++ said) next) lines
-            (one_more whole.lines fed.text m whole.rest said next fed.session says);
-        written = written ∙ (ap (λ o. appended o said) fed.written ∙ appended-appended old fed.text said);
+            subst (λ (ls : List (List ℕ)). Session d ls (fed.said ++ said) next) lines
+            (one_more whole.lines fed.said m whole.rest said next fed.session says);
+        written = written ∙ (ap (λ o. appended o (spoken wording said)) fed.written ∙ spoken_more wording old fed.said said);
       }
 
   -- it stops there
-  pub says_stop : (next : Debugging) (new : Option (List ℕ)) (fault : DebugFault) → 0 < length line → SessionStopsAt fault m line mid new next
-      → SaysSome fault d bytes old new next
+  pub says_stop : (next : Debugging) (new : Option (List ℕ)) (fault : DebugFault) → 0 < length line → SessionStopsAt wording fault m line mid new next
+      → SaysSome wording fault d bytes old new next
   says_stop next new PastEnd some stop = elim stop [ ]
   says_stop next new NoProcess some stop = elim stop [ ]
   says_stop next new NoArm some stop = elim stop [ ]
   says_stop next new BadCommand some stop = elim stop [ ]
   says_stop next new NoMemory some (same, none) =
-      let here : SaysSome NoMemory d bytes old mid m = record {
+      let here : SaysSome wording NoMemory d bytes old mid m = record {
         lines = whole.lines;
         later = last_line whole.rest;
-        text = fed.text;
+        said = fed.said;
         of = refl;
         session = fed.session;
         written = fed.written;
       } in
-      subst (λ o. SaysSome NoMemory d bytes old o next) (sym none) (subst (λ e. SaysSome NoMemory d bytes old mid e) (sym same) here)
+      subst (λ o. SaysSome wording NoMemory d bytes old o next) (sym none) (subst (λ e. SaysSome wording NoMemory d bytes old mid e) (sym same) here)
   says_stop next new Device some (said, answers, written) =
       let says = kept_answers m whole.rest said next (subst (λ (l : List ℕ). AnswersLine m l said next) fed.last answers) in
       let lines : lines_of (session_bytes bytes) ≡ (whole.lines ++ whole.rest ∷ []) ++ [] =
@@ -322,34 +338,34 @@ module _ (d m : Debugging) (bytes : List ℕ) (old mid : Option (List ℕ)) (lin
       record {
         lines = whole.lines ++ whole.rest ∷ [];
         later = [];
-        text = fed.text ++ said;
+        said = fed.said ++ said;
         of = lines;
-        session = one_more whole.lines fed.text m whole.rest said next fed.session says;
-        written = prefix_more old mid new fed.text said fed.written written;
+        session = one_more whole.lines fed.said m whole.rest said next fed.session says;
+        written = leaves_spoken wording Device old mid new fed.said said fed.written written;
       }
 
   -- a write failed there
-  pub says_breaks : (next : Debugging) (new : Option (List ℕ)) → 0 < length line → IsToldInPart m line mid new next
-      → BreaksOff d (lines_of (session_bytes bytes)) old new next
+  pub says_breaks : (next : Debugging) (new : Option (List ℕ)) → 0 < length line → IsToldInPart wording m line mid new next
+      → BreaksOff wording d (lines_of (session_bytes bytes)) old new next
   says_breaks next new some (said, answers, written) =
       let says = kept_answers m whole.rest said next (subst (λ (l : List ℕ). AnswersLine m l said next) fed.last answers) in
       record {
         earlier = whole.lines;
         failed = whole.rest;
         later = [];
-        text = fed.text;
+        said = fed.said;
         mid = m;
         of = ap (λ (ls : List (List ℕ)). whole.lines ++ ls) (last_is whole.rest (some_left some));
         session = fed.session;
-        told = (said, says, subst (λ o. AddsPrefix o new said) fed.written written);
+        told = (said, says, subst (λ o. AddsPrefix o new (spoken wording said)) fed.written written);
       }
 
-pub fed_as : (d : Debugging) (part : List ℕ) (old : Option (List ℕ)) (next next' : Debugging) (xs xs' : List ℕ) (new
+pub fed_as : (wording : Wording) (d : Debugging) (part : List ℕ) (old : Option (List ℕ)) (next next' : Debugging) (xs xs' : List ℕ) (new
     new' : Option (List ℕ)) (line line' : List ℕ)
-    → Fed d part xs old new line next → xs ≡ xs' → new ≡ new' → line ≡ line' → next ≡ next' → Fed d part xs' old new' line' next'
-fed_as d part old next next' xs xs' new new' line line' fed a b c e =
-    subst (λ n. Fed d part xs' old new' line' n) e (subst (λ l. Fed d part xs' old new' l next) c
-    (subst (λ o. Fed d part xs' old o line next) b (subst (λ x. Fed d part x old new line next) a fed)))
+    → Fed wording d part xs old new line next → xs ≡ xs' → new ≡ new' → line ≡ line' → next ≡ next' → Fed wording d part xs' old new' line' next'
+fed_as wording d part old next next' xs xs' new new' line line' fed a b c e =
+    subst (λ n. Fed wording d part xs' old new' line' n) e (subst (λ l. Fed wording d part xs' old new' l next) c
+    (subst (λ o. Fed wording d part xs' old o line next) b (subst (λ x. Fed wording d part x old new line next) a fed)))
 
 -- ---- reading
 

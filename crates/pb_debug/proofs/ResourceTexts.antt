@@ -7,7 +7,7 @@ use Rattle.pb_code.specs.Code.{CodeProcess}
 use Rattle.pb_code.specs.Whole.{Code, bank_of}
 use Rattle.pb_machine.specs.Views.{machine_view}
 use Rattle.pb_debug.specs.Checkpoints.{IsSound, view_of}
-use Rattle.pb_debug_texts.specs.Resources.{who_text}
+use Rattle.pb_debug_texts.specs.Resources.{who_said}
 use Rattle.pb_debug.specs.Value.{Debugging, IsPosition, bank_state, state_of}
 use Rattle.pb_debug.specs.declared.debugger.Debugger.TheInside.{Inside}
 
@@ -35,10 +35,10 @@ module _ (i : Inside) (h : IsSound i) (d : Debugging) (same : view_of i ≡ d) w
       h.walks.stands.machine.bank
       ∙ (ap (λ (s : State CodeProcess). banker_state (bank_of i.verified.now.code) s.loans) h.walks.stands.state ∙ ap bank_state same)
 
-  -- the lines of a resource are those at the position
+  -- what is said of a resource is what is so at the position
   pub who_here : (code : Code) (r : ℕ) → code ≡ d.verified.code
-      → who_text code (machine_view i.walker.machine) (lender_state i.walker.machine.bank) r ≡ who_text d.verified.code (state_of d) (bank_state d) r
+      → who_said code (machine_view i.walker.machine) (lender_state i.walker.machine.bank) r ≡ who_said d.verified.code (state_of d) (bank_state d) r
   who_here code r e =
-      ap (λ (c : Code). who_text c (machine_view i.walker.machine) (lender_state i.walker.machine.bank) r) e
-      ∙ (ap (λ (s : State CodeProcess). who_text d.verified.code s (lender_state i.walker.machine.bank) r) state_here
-      ∙ ap (λ (b : BankerState). who_text d.verified.code (state_of d) b r) bank_here)
+      ap (λ (c : Code). who_said c (machine_view i.walker.machine) (lender_state i.walker.machine.bank) r) e
+      ∙ (ap (λ (s : State CodeProcess). who_said d.verified.code s (lender_state i.walker.machine.bank) r) state_here
+      ∙ ap (λ (b : BankerState). who_said d.verified.code (state_of d) b r) bank_here)

@@ -10,12 +10,13 @@ use Rattle.pb_debug.specs.Value.{Debugging, state_of}
 use Rattle.pb_debug.specs.Whys.{IsWhy}
 use Rattle.pb_debug.specs.declared.arms.Part.{Part}
 use Rattle.pb_debug.specs.declared.arms.Part.TheVariants.{Ready, Waiting}
-use Rattle.pb_debug_texts.specs.Does.{does_text}
+use Rattle.pb_debug_texts.specs.Does.{does_said}
+use Rattle.pb_debug_texts.specs.Things.{Saying}
 use Rattle.pb_debug_texts.specs.declared.why.Why.{Why}
 use Rattle.pb_machine.specs.Looks.{IsLiveArm}
 
--- `P.a line N: WORDS`: what an arm of a process does by its next pick, with why it does not go on, or may
-pub record DoesSo (d : Debugging) (p a : ℕ) (text : List ℕ) : Type 0 where
+-- what an arm of a process does by its next pick, with why it does not go on, or may
+pub record DoesSo (d : Debugging) (p a : ℕ) (said : List Saying) : Type 0 where
   pub labels : ProcessLabels
   pub code : ProcessCode
   pub process : CodeProcess
@@ -24,7 +25,7 @@ pub record DoesSo (d : Debugging) (p a : ℕ) (text : List ℕ) : Type 0 where
   pub code_there : slice_get d.verified.code.processes p ≡ Some code
   pub there : slice_get (state_of d).processes p ≡ Some process
   pub why_is : IsWhy d p a why
-  pub text_is : text ≡ does_text d.verified.code.names p labels code process a why
+  pub said_is : said ≡ does_said d.verified.code.names p labels code process a why
 
 -- the pick of an arm
 abbrev pub pick_of : (p a : ℕ) → Pick
@@ -40,25 +41,25 @@ abbrev pub IsOf : Debugging → Part → (p a : ℕ) → Type 0
 IsOf d Ready p a = CanBePicked d p a
 IsOf d Waiting p a = IsLiveArm (state_of d) (pick_of p a) × (CanBePicked d p a → ⊥)
 
--- what this part says of an arm: its line if the arm is of it, else nothing
-abbrev pub SaysOfArm : Debugging → Part → (p a : ℕ) → List ℕ → Type 0
-SaysOfArm d part p a text = (IsOf d part p a × DoesSo d p a text) ⊎ ((IsOf d part p a → ⊥) × (text ≡ []))
+-- what this part says of an arm: what it does if the arm is of it, else nothing
+abbrev pub SaysOfArm : Debugging → Part → (p a : ℕ) → List Saying → Type 0
+SaysOfArm d part p a said = (IsOf d part p a × DoesSo d p a said) ⊎ ((IsOf d part p a → ⊥) × (said ≡ []))
 
--- the texts of the first n things, one after another
-pub data InTurn (Says : ℕ → List ℕ → Type 0) : ℕ → List ℕ → Type 0 where
+-- what is said of the first n things, one after another
+pub data InTurn (Says : ℕ → List Saying → Type 0) : ℕ → List Saying → Type 0 where
   nothing : InTurn Says 0 []
-  one_more : (n : ℕ) (text said : List ℕ) → InTurn Says n text → Says n said → InTurn Says (suc n) (text ++ said)
+  one_more : (n : ℕ) (said more : List Saying) → InTurn Says n said → Says n more → InTurn Says (suc n) (said ++ more)
 
 -- what this part says of the arms of a process
-abbrev pub SaysOfProcess : Debugging → Part → (p : ℕ) → List ℕ → Type 0
-SaysOfProcess d part p text =
+abbrev pub SaysOfProcess : Debugging → Part → (p : ℕ) → List Saying → Type 0
+SaysOfProcess d part p said =
     (process : CodeProcess) × (slice_get (state_of d).processes p ≡ Some process)
-    × InTurn (SaysOfArm d part p) (length process.threads) text
+    × InTurn (SaysOfArm d part p) (length process.threads) said
 
 -- and of all processes
-abbrev pub SaysPart : Debugging → Part → List ℕ → Type 0
-SaysPart d part text = InTurn (SaysOfProcess d part) (length (state_of d).processes) text
+abbrev pub SaysPart : Debugging → Part → List Saying → Type 0
+SaysPart d part said = InTurn (SaysOfProcess d part) (length (state_of d).processes) said
 
--- a line for each live arm, process by process: of those that can be picked first, and then of those that wait
-abbrev pub SaysArms : Debugging → List ℕ → Type 0
-SaysArms d text = (ready waiting : List ℕ) × SaysPart d Ready ready × SaysPart d Waiting waiting × (text ≡ ready ++ waiting)
+-- what each live arm does, process by process: of those that can be picked first, and then of those that wait
+abbrev pub SaysArms : Debugging → List Saying → Type 0
+SaysArms d said = (ready waiting : List Saying) × SaysPart d Ready ready × SaysPart d Waiting waiting × (said ≡ ready ++ waiting)

@@ -1,11 +1,12 @@
 -- When a debugger refuses.
-use Rattle.std.specs.Prelude.{◌≡◌, ◌⊎◌, ℕ, ◌<◌, ◌≤◌, List, [], length, codes, Some, slice_get, ⊤}
-use Rattle.pb_base.specs.Lines.{line}
+use Rattle.std.specs.Prelude.{◌≡◌, ◌⊎◌, ℕ, ◌<◌, ◌≤◌, List, [], ◌∷◌, length, Some, slice_get, ⊤}
 use Rattle.pb_code.specs.Code.{CodeProcess}
 use Rattle.pb_debug.specs.Value.{Debugging, state_of}
 use Rattle.pb_debug.specs.declared.fault.DebugFault.{DebugFault}
 use Rattle.pb_debug.specs.declared.fault.DebugFault.TheVariants.{PastEnd, NoProcess, NoArm, BadCommand, NoMemory}
 use Rattle.pb_debug.specs.declared.fault.DebugFault.TheVariants.{Device}
+use Rattle.pb_debug_texts.specs.Things.{Saying, Refused}
+use Rattle.pb_debug_texts.specs.declared.said.Refusal.TheVariants as refused
 
 -- why a move is refused, if it is past an end exactly if this holds
 abbrev pub IsMoveFault : Type 0 → DebugFault → Type 0
@@ -43,14 +44,14 @@ IsMissing d p a Device = ⊥
 abbrev pub IsArmFault : Debugging → ℕ → ℕ → DebugFault → Type 0
 IsArmFault d p a fault = (fault ≡ NoMemory) ⊎ IsMissing d p a fault
 
--- the refusals of a command
-abbrev pub refusal_text : DebugFault → List ℕ
-refusal_text PastEnd = line (codes "refused G1")
-refusal_text NoProcess = line (codes "refused G2")
-refusal_text NoArm = line (codes "refused G3")
-refusal_text BadCommand = line (codes "refused G4")
-refusal_text NoMemory = []
-refusal_text Device = []
+-- what is said of a command that is refused
+abbrev pub refusal_said : DebugFault → List Saying
+refusal_said PastEnd = Refused refused.PastEnd ∷ []
+refusal_said NoProcess = Refused refused.NoProcess ∷ []
+refusal_said NoArm = Refused refused.NoArm ∷ []
+refusal_said BadCommand = Refused refused.BadCommand ∷ []
+refusal_said NoMemory = []
+refusal_said Device = []
 
 -- a command is refused so, and the session goes on
 abbrev pub IsCommandRefusal : DebugFault → Type 0

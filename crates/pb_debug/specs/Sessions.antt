@@ -1,30 +1,36 @@
--- Sessions: the lines of an input, and what is answered to them in turn.
+-- Sessions: the lines of an input, and what is answered to them in turn, written in a wording.
 use Rattle.std.specs.Prelude.{◌≡◌, ◌⊎◌, ℕ, List, [], ◌∷◌, ◌++◌, take, Option, Some}
 use Rattle.pb_base.specs.declared.limits.TheConstants.{MAX_INPUT}
 use Rattle.pb_base.specs.Device.{appended, one_more_failure, AddsPrefix}
 use Rattle.pb_debug.specs.Answers.{AnswersLine}
 use Rattle.pb_debug_commands.specs.Buffers.{kept}
 use Rattle.pb_debug_commands.specs.Lines.{cut, lines_of}
+use Rattle.pb_debug_texts.specs.Sayings.{Told, spoken}
+use Rattle.pb_debug_texts.specs.declared.said.Wording.{Wording}
 use Rattle.pb_debug.specs.Value.{Debugging}
 use Rattle.pb_debug.specs.declared.fault.DebugFault.{DebugFault}
 use Rattle.pb_debug.specs.declared.fault.DebugFault.TheVariants.{PastEnd, NoProcess, NoArm, BadCommand, NoMemory}
 use Rattle.pb_debug.specs.declared.fault.DebugFault.TheVariants.{Device}
 
--- the lines are answered in turn by this text, and lead from one position to another
-pub data Session (d : Debugging) : List (List ℕ) → List ℕ → Debugging → Type 0 where
+-- the lines are answered in turn by these things, and lead from one position to another
+pub data Session (d : Debugging) : List (List ℕ) → List Told → Debugging → Type 0 where
   nothing : Session d [] [] d
-  one_more : (lines : List (List ℕ)) (text : List ℕ) (mid : Debugging) (line said : List ℕ) (next : Debugging)
-      → Session d lines text mid → AnswersLine mid line said next → Session d (lines ++ line ∷ []) (text ++ said) next
+  one_more : (lines : List (List ℕ)) (all : List Told) (mid : Debugging) (line : List ℕ) (said : List Told) (next : Debugging)
+      → Session d lines all mid → AnswersLine mid line said next → Session d (lines ++ line ∷ []) (all ++ said) next
+
+-- the lines are answered in turn by things of which this text is written
+abbrev pub SessionText : Wording → Debugging → List (List ℕ) → (text : List ℕ) → Debugging → Type 0
+SessionText wording d lines text next = (said : List Told) × Session d lines said next × (text ≡ spoken wording said)
 
 -- the bytes that a session takes from an input
 abbrev pub session_bytes : List ℕ → List ℕ
 session_bytes bytes = take MAX_INPUT bytes
 
 -- all lines are answered and the answers are written
-pub record SaysAll (d : Debugging) (bytes : List ℕ) (old new : Option (List ℕ)) (end : Debugging) : Type 0 where
-  pub text : List ℕ
-  pub session : Session d (lines_of (session_bytes bytes)) text end
-  pub written : new ≡ appended old text
+pub record SaysAll (wording : Wording) (d : Debugging) (bytes : List ℕ) (old new : Option (List ℕ)) (end : Debugging) : Type 0 where
+  pub said : List Told
+  pub session : Session d (lines_of (session_bytes bytes)) said end
+  pub written : new ≡ appended old (spoken wording said)
 
 -- how much of its text is written if a session ends early: all if out of memory, a first part if a device
 -- failed
@@ -38,30 +44,31 @@ WritesBeforeFault Device old new text = AddsPrefix old new text
 
 -- the answers to the first lines are written, all or a first part of them; the debugger is at the
 -- position to which the last of these lines led
-pub record SaysSome (fault : DebugFault) (d : Debugging) (bytes : List ℕ) (old new : Option (List ℕ)) (end : Debugging) : Type 0 where
+pub record SaysSome (wording : Wording) (fault : DebugFault) (d : Debugging) (bytes : List ℕ) (old new : Option (List ℕ)) (end : Debugging) : Type 0 where
   pub lines : List (List ℕ)
   pub later : List (List ℕ)
-  pub text : List ℕ
+  pub said : List Told
   pub of : lines_of (session_bytes bytes) ≡ lines ++ later
-  pub session : Session d lines text end
-  pub written : WritesBeforeFault fault old new text
+  pub session : Session d lines said end
+  pub written : WritesBeforeFault fault old new (spoken wording said)
 
 -- a line is carried out, and some first part of its answer is written
-abbrev pub IsToldInPart : Debugging → List ℕ → Option (List ℕ) → Option (List ℕ) → Debugging → Type 0
-IsToldInPart d line old new next = (said : List ℕ) × AnswersLine d line said next × AddsPrefix old new said
+abbrev pub IsToldInPart : Wording → Debugging → List ℕ → Option (List ℕ) → Option (List ℕ) → Debugging → Type 0
+IsToldInPart wording d line old new next =
+    (said : List Told) × AnswersLine d line said next × AddsPrefix old new (spoken wording said)
 
 -- a write failed at one of the lines: the lines before it are answered, and their answers are written whole;
 -- it is carried out, and some first part of its answer is written; nothing of later lines is carried out or
 -- written
-pub record BreaksOff (d : Debugging) (lines : List (List ℕ)) (old new : Option (List ℕ)) (end : Debugging) : Type 0 where
+pub record BreaksOff (wording : Wording) (d : Debugging) (lines : List (List ℕ)) (old new : Option (List ℕ)) (end : Debugging) : Type 0 where
   pub earlier : List (List ℕ)
   pub failed : List ℕ
   pub later : List (List ℕ)
-  pub text : List ℕ
+  pub said : List Told
   pub mid : Debugging
   pub of : lines ≡ earlier ++ failed ∷ later
-  pub session : Session d earlier text mid
-  pub told : IsToldInPart mid failed (appended old text) new end
+  pub session : Session d earlier said mid
+  pub told : IsToldInPart wording mid failed (appended old (spoken wording said)) new end
 
 -- the first of the bytes are read, and the others are still to come
 abbrev pub IsReadTo : (bytes read : List ℕ) (left : Option (List ℕ)) → Type 0
@@ -76,34 +83,35 @@ SaysBefore Follows bytes left old new =
 -- ---- parts of a session
 
 -- why an answer was not written, or not whole: out of memory, and nothing was done; or a device failed
-abbrev pub SessionStopsAt : DebugFault → Debugging → List ℕ → Option (List ℕ) → Option (List ℕ) → Debugging → Type 0
-SessionStopsAt PastEnd d line old new next = ⊥
-SessionStopsAt NoProcess d line old new next = ⊥
-SessionStopsAt NoArm d line old new next = ⊥
-SessionStopsAt BadCommand d line old new next = ⊥
-SessionStopsAt NoMemory d line old new next = (next ≡ d) × (new ≡ old)
-SessionStopsAt Device d line old new next = IsToldInPart d line old new next
+abbrev pub SessionStopsAt : Wording → DebugFault → Debugging → List ℕ → Option (List ℕ) → Option (List ℕ) → Debugging → Type 0
+SessionStopsAt wording PastEnd d line old new next = ⊥
+SessionStopsAt wording NoProcess d line old new next = ⊥
+SessionStopsAt wording NoArm d line old new next = ⊥
+SessionStopsAt wording BadCommand d line old new next = ⊥
+SessionStopsAt wording NoMemory d line old new next = (next ≡ d) × (new ≡ old)
+SessionStopsAt wording Device d line old new next = IsToldInPart wording d line old new next
 
 -- a line is answered and the answer is written
-abbrev pub IsTold : Debugging → List ℕ → Option (List ℕ) → Option (List ℕ) → Debugging → Type 0
-IsTold d line old new next = (said : List ℕ) × AnswersLine d line said next × (new ≡ appended old said)
+abbrev pub IsTold : Wording → Debugging → List ℕ → Option (List ℕ) → Option (List ℕ) → Debugging → Type 0
+IsTold wording d line old new next =
+    (said : List Told) × AnswersLine d line said next × (new ≡ appended old (spoken wording said))
 
 -- after the first part of a line come some bytes: the lines that end in them are answered, and the first
 -- bytes of the last one are kept
-pub record Fed (d : Debugging) (part bytes : List ℕ) (old new : Option (List ℕ)) (line : List ℕ) (next : Debugging) : Type 0 where
-  pub text : List ℕ
-  pub session : Session d (cut part bytes).lines text next
-  pub written : new ≡ appended old text
+pub record Fed (wording : Wording) (d : Debugging) (part bytes : List ℕ) (old new : Option (List ℕ)) (line : List ℕ) (next : Debugging) : Type 0 where
+  pub said : List Told
+  pub session : Session d (cut part bytes).lines said next
+  pub written : new ≡ appended old (spoken wording said)
   pub last : line ≡ kept (cut part bytes).rest
 
 -- the answers to the first lines that end in the bytes are written, all or a first part of them
-pub record FedSome (fault : DebugFault) (d : Debugging) (part bytes : List ℕ) (old new : Option (List ℕ)) (next : Debugging) : Type 0 where
+pub record FedSome (wording : Wording) (fault : DebugFault) (d : Debugging) (part bytes : List ℕ) (old new : Option (List ℕ)) (next : Debugging) : Type 0 where
   pub lines : List (List ℕ)
   pub later : List (List ℕ)
-  pub text : List ℕ
+  pub said : List Told
   pub of : (cut part bytes).lines ≡ lines ++ later
-  pub session : Session d lines text next
-  pub written : WritesBeforeFault fault old new text
+  pub session : Session d lines said next
+  pub written : WritesBeforeFault fault old new (spoken wording said)
 
 -- ---- failures of devices
 

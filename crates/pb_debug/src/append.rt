@@ -1,23 +1,22 @@
 //! Picks that are tried after the last.
 
 ghost use Rattle.std.specs.Prelude.{◌≡◌, ◌↔◌, ◌<◌, ◌++◌, ◌∷◌, [], ℕ, List, length, IfErr, IfOk, IsTrue, OnErr, OnOk};
-ghost use Rattle.pb_base.specs.declared.event.Event.{Event as AnyEvent};
-ghost use Rattle.pb_base.specs.declared.step.Step.TheVariants.{Did};
-ghost use Rattle.pb_base.specs.Lines.{HasNames};
 ghost use Rattle.pb_code.specs.Reached.{CodeMovesBy};
-ghost use Rattle.pb_debug.specs.Answers.{SaysStep, SaysTried, shown_names};
+ghost use Rattle.pb_debug.specs.Answers.{SaysStep, SaysTried};
 ghost use Rattle.pb_debug.specs.Appends.{CanAppend, IsTried, TriesPick, with_pick};
 ghost use Rattle.pb_debug.specs.Refusals.{HasArm, IsMoveFault};
 ghost use Rattle.pb_debug.specs.Value.{IsPosition, state_of};
+ghost use Rattle.pb_debug_texts.specs.Sayings.{says};
+ghost use Rattle.pb_debug_texts.specs.Things.{Saying};
 ghost use Rattle.pb_machine.specs.Views.{IsMachineBy, machine_view};
 
 use crate::debugger::Debugger;
 use crate::fault::DebugFault;
-use crate::refusal::put_refusal;
+use crate::refusal::say_refusal;
 use pb_base::limits::MAX_PICKS;
 use pb_base::{Event, NoMemory, Pick, Step};
 use pb_debug_positions::{Walker, keep};
-use pb_debug_texts::{put_at, put_event};
+use pb_debug_texts::{Said, Speech, say};
 use pb_history::Trace;
 use pb_machine::Machine;
 
@@ -131,42 +130,48 @@ impl<'c> Debugger<'c> {
         Ok(step)
     }
 
-    /// Appends the line of what a pick of an arm at the position came to to a text.
-    fn say_step(&self, text: &mut Vec<u8>, p: usize, arm: usize, step: Step) -> Result<(), NoMemory>
-        requires process { p < length (state_of self.now).processes }
-        requires names { (event : AnyEvent) → step ≡ Did event → HasNames (shown_names self.now) event }
-        ensures { OnOk result ((said : List ℕ) × SaysStep self.now p arm step said
-            × (text.new.items ≡ text.old.items ++ said)) }
+    /// Says what a pick of an arm at the position came to.
+    fn say_step(
+        &self,
+        text: &mut Vec<u8>,
+        speech: Speech<'_>,
+        p: usize,
+        arm: usize,
+        step: Step,
+    ) -> Result<(), NoMemory>
+        requires { p < length (state_of self.now).processes }
+        ensures { OnOk result ((said : List Saying) × SaysStep self.now p arm step said
+            × (text.new.items ≡ text.old.items ++ says speech.entry said)) }
     {
         let next = self.position() + 1;
         match step {
-            Step::Silent => put_at(text, next),
-            Step::Did(event) => put_event(text, self.alloc, self.verified.names(), next, &event),
-            Step::NotEnabled => self.say_reason(text, p, arm),
+            Step::Silent => say(text, speech, Said::At(next)),
+            Step::Did(event) => say(text, speech, Said::Event(next, &event)),
+            Step::NotEnabled => self.say_reason(text, speech, p, arm),
         }
     }
 
-    /// Appends the line of what a pick of an arm after the last comes to to a text, and appends the pick if
-    /// it is enabled.
+    /// Says what a pick of an arm after the last comes to, and appends the pick if it is enabled.
     pub(crate) fn say_tried(
         &mut self,
         text: &mut Vec<u8>,
+        speech: Speech<'_>,
         p: usize,
         arm: usize,
     ) -> Result<(), NoMemory>
         requires { HasArm self.old p arm }
-        ensures said { OnOk result ((said : List ℕ) × SaysTried self.old arm said self.new p
-            × (text.new.items ≡ text.old.items ++ said)) }
+        ensures said { OnOk result ((said : List Saying) × SaysTried self.old arm said self.new p
+            × (text.new.items ≡ text.old.items ++ says speech.entry said)) }
         ensures unchanged { OnErr result (self.new ≡ self.old) }
     {
         if !self.can_append() {
-            return put_refusal(text, DebugFault::PastEnd);
+            return say_refusal(text, speech, DebugFault::PastEnd);
         }
         let tried = self.tried(Pick {
             process: p as u8,
             arm: arm as u8,
         })?;
-        self.say_step(text, p, arm, tried.step)?;
+        self.say_step(text, speech, p, arm, tried.step)?;
         self.settle(tried)
     }
 }

@@ -7,15 +7,17 @@ ghost use Rattle.pb_debug.specs.Refusals.{HasArm};
 ghost use Rattle.pb_debug.specs.Value.{IsPosition, state_of};
 ghost use Rattle.pb_debug.specs.Whys.{IsWhy};
 ghost use Rattle.pb_debug_texts.specs.Reasons.{LetsGoOn};
+ghost use Rattle.pb_debug_texts.specs.Sayings.{says};
+ghost use Rattle.pb_debug_texts.specs.Things.{Saying};
 ghost use Rattle.pb_debug_texts.specs.declared.why.Why.TheVariants.{NotAsking};
 ghost use Rattle.pb_machine.specs.Looks.{CanStep, IsLiveArm};
 
 use crate::debugger::Debugger;
 use crate::fault::DebugFault;
-use crate::refusal::put_refusal;
+use crate::refusal::say_refusal;
 use pb_base::{NoMemory, Pick};
 use pb_debug_commands::ArmWord;
-use pb_debug_texts::{Labelled, Why, put_does};
+use pb_debug_texts::{Labelled, Speech, Why, say_does};
 use pb_machine::{Look, ThreadState};
 
 /// A part of the answer to `arms`: which arms it is about.
@@ -86,17 +88,18 @@ impl<'c> Debugger<'c> {
         }
     }
 
-    /// Appends the line of what an arm does by its next pick to a text, it being known why the arm does not go on, or may.
+    /// Says what an arm does by its next pick, it being known why the arm does not go on, or may.
     fn say_next_pick(
         &self,
         text: &mut Vec<u8>,
+        speech: Speech<'_>,
         p: usize,
         arm: usize,
         why: &Why,
     ) -> Result<(), NoMemory>
         requires arm { HasArm self.now p arm }
         requires why { IsWhy self.now p arm why.now }
-        ensures { OnOk result ((said : List ℕ) × DoesSo self.now p arm said × (text.new.items ≡ text.old.items ++ said)) }
+        ensures { OnOk result ((said : List Saying) × DoesSo self.now p arm said × (text.new.items ≡ text.old.items ++ says speech.entry said)) }
     {
         let Ok(process) = self.threads(p) else {
             unreachable!()
@@ -108,39 +111,57 @@ impl<'c> Debugger<'c> {
             labels: &self.labels.processes[p],
             names: &code.names,
         };
-        put_does(text, of, process, arm, why)
+        say_does(text, speech, of, process, arm, why)
     }
 
-    /// Appends the line of what an arm does by its next pick to a text.
-    pub(crate) fn say_does(&self, text: &mut Vec<u8>, word: ArmWord) -> Result<(), NoMemory>
-        ensures { OnOk result ((said : List ℕ)
+    /// Says what an arm does by its next pick.
+    pub(crate) fn say_does(
+        &self,
+        text: &mut Vec<u8>,
+        speech: Speech<'_>,
+        word: ArmWord,
+    ) -> Result<(), NoMemory>
+        ensures { OnOk result ((said : List Saying)
             × OfProcess (shown_names self.now) word.entry.process.now (SaysDoes self.now word.entry.arm said) said
-            × (text.new.items ≡ text.old.items ++ said)) }
+            × (text.new.items ≡ text.old.items ++ says speech.entry said)) }
     {
         let Some(p) = self.process(word.process) else {
-            return put_refusal(text, DebugFault::NoProcess);
+            return say_refusal(text, speech, DebugFault::NoProcess);
         };
-        self.say_does_of(text, p, word.arm as usize)
+        self.say_does_of(text, speech, p, word.arm as usize)
     }
 
-    /// Appends the line of what an arm of a process does by its next pick to a text.
-    fn say_does_of(&self, text: &mut Vec<u8>, p: usize, arm: usize) -> Result<(), NoMemory>
+    /// Says what an arm of a process does by its next pick.
+    fn say_does_of(
+        &self,
+        text: &mut Vec<u8>,
+        speech: Speech<'_>,
+        p: usize,
+        arm: usize,
+    ) -> Result<(), NoMemory>
         requires { p < length (state_of self.now).processes }
-        ensures { OnOk result ((said : List ℕ) × SaysDoes self.now arm said p
-            × (text.new.items ≡ text.old.items ++ said)) }
+        ensures { OnOk result ((said : List Saying) × SaysDoes self.now arm said p
+            × (text.new.items ≡ text.old.items ++ says speech.entry said)) }
     {
         match self.why(p, arm) {
-            Ok(why) => self.say_next_pick(text, p, arm, &why),
+            Ok(why) => self.say_next_pick(text, speech, p, arm, &why),
             Err(DebugFault::NoMemory) => Err(NoMemory),
-            Err(_) => put_refusal(text, DebugFault::NoArm),
+            Err(_) => say_refusal(text, speech, DebugFault::NoArm),
         }
     }
 
-    /// Appends what a part of the answer to `arms` says of an arm to a text.
-    fn say_arm(&self, text: &mut Vec<u8>, part: Part, p: usize, arm: usize) -> Result<(), NoMemory>
+    /// Says of an arm what a part of the answer to `arms` does.
+    fn say_arm(
+        &self,
+        text: &mut Vec<u8>,
+        speech: Speech<'_>,
+        part: Part,
+        p: usize,
+        arm: usize,
+    ) -> Result<(), NoMemory>
         requires { HasArm self.now p arm }
-        ensures { OnOk result ((said : List ℕ) × SaysOfArm self.now part p arm said
-            × (text.new.items ≡ text.old.items ++ said)) }
+        ensures { OnOk result ((said : List Saying) × SaysOfArm self.now part p arm said
+            × (text.new.items ≡ text.old.items ++ says speech.entry said)) }
     {
         let Ok(why) = self.why(p, arm) else {
             return Err(NoMemory);
@@ -148,41 +169,47 @@ impl<'c> Debugger<'c> {
         if !self.is_of(part, p, arm, &why) {
             return Ok(());
         }
-        self.say_next_pick(text, p, arm, &why)
+        self.say_next_pick(text, speech, p, arm, &why)
     }
 
-    /// Appends what a part of the answer to `arms` says of the arms of a process to a text.
-    fn say_process(&self, text: &mut Vec<u8>, part: Part, p: usize) -> Result<(), NoMemory>
+    /// Says of the arms of a process what a part of the answer to `arms` does.
+    fn say_process(
+        &self,
+        text: &mut Vec<u8>,
+        speech: Speech<'_>,
+        part: Part,
+        p: usize,
+    ) -> Result<(), NoMemory>
         requires { p < length (state_of self.now).processes }
-        ensures { OnOk result ((said : List ℕ) × SaysOfProcess self.now part p said
-            × (text.new.items ≡ text.old.items ++ said)) }
+        ensures { OnOk result ((said : List Saying) × SaysOfProcess self.now part p said
+            × (text.new.items ≡ text.old.items ++ says speech.entry said)) }
     {
         let Ok(process) = self.threads(p) else {
             unreachable!()
         };
         for arm in 0..process.arms() {
-            self.say_arm(text, part, p, arm)?;
+            self.say_arm(text, speech, part, p, arm)?;
         }
         Ok(())
     }
 
-    /// Appends a part of the answer to `arms` to a text.
-    fn say_part(&self, text: &mut Vec<u8>, part: Part) -> Result<(), NoMemory>
-        ensures { OnOk result ((said : List ℕ) × SaysPart self.now part said
-            × (text.new.items ≡ text.old.items ++ said)) }
+    /// Says a part of the answer to `arms`.
+    fn say_part(&self, text: &mut Vec<u8>, speech: Speech<'_>, part: Part) -> Result<(), NoMemory>
+        ensures { OnOk result ((said : List Saying) × SaysPart self.now part said
+            × (text.new.items ≡ text.old.items ++ says speech.entry said)) }
     {
         for p in 0..self.processes() {
-            self.say_process(text, part, p)?;
+            self.say_process(text, speech, part, p)?;
         }
         Ok(())
     }
 
-    /// Appends the lines of what all live arms do by their next picks to a text: of those that can be picked first.
-    pub(crate) fn say_arms(&self, text: &mut Vec<u8>) -> Result<(), NoMemory>
-        ensures { OnOk result ((said : List ℕ) × SaysArms self.now said
-            × (text.new.items ≡ text.old.items ++ said)) }
+    /// Says what all live arms do by their next picks: those that can be picked first.
+    pub(crate) fn say_arms(&self, text: &mut Vec<u8>, speech: Speech<'_>) -> Result<(), NoMemory>
+        ensures { OnOk result ((said : List Saying) × SaysArms self.now said
+            × (text.new.items ≡ text.old.items ++ says speech.entry said)) }
     {
-        self.say_part(text, Part::Ready)?;
-        self.say_part(text, Part::Waiting)
+        self.say_part(text, speech, Part::Ready)?;
+        self.say_part(text, speech, Part::Waiting)
     }
 }

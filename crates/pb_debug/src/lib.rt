@@ -16,3 +16,4 @@ mod why;
 
 pub use debugger::Debugger;
 pub use fault::DebugFault;
+pub use pb_debug_texts::Wording;

@@ -1,22 +1,27 @@
-//! The lines of refusals.
+//! What is said of commands that are refused.
 
 ghost use Rattle.std.specs.Prelude.{◌≡◌, ◌++◌, OnOk};
-ghost use Rattle.pb_debug.specs.Refusals.{IsCommandRefusal, refusal_text};
+ghost use Rattle.pb_debug.specs.Refusals.{IsCommandRefusal, refusal_said};
+ghost use Rattle.pb_debug_texts.specs.Sayings.{says};
 
 use crate::fault::DebugFault;
 use pb_base::NoMemory;
-use pb_base::writing::put;
+use pb_debug_texts::{Refusal, Said, Speech, say};
 
-/// Appends the line of a refusal of a command to a text.
-pub(crate) fn put_refusal(text: &mut Vec<u8>, fault: DebugFault) -> Result<(), NoMemory>
+/// Says that a command is refused.
+pub(crate) fn say_refusal(
+    text: &mut Vec<u8>,
+    speech: Speech<'_>,
+    fault: DebugFault,
+) -> Result<(), NoMemory>
     requires { IsCommandRefusal fault }
-    ensures { OnOk result (text.new.items ≡ text.old.items ++ refusal_text fault) }
+    ensures { OnOk result (text.new.items ≡ text.old.items ++ says speech.entry (refusal_said fault)) }
 {
     match fault {
-        DebugFault::PastEnd => put(text, b"refused G1\n"),
-        DebugFault::NoProcess => put(text, b"refused G2\n"),
-        DebugFault::NoArm => put(text, b"refused G3\n"),
-        DebugFault::BadCommand => put(text, b"refused G4\n"),
+        DebugFault::PastEnd => say(text, speech, Said::Refused(Refusal::PastEnd)),
+        DebugFault::NoProcess => say(text, speech, Said::Refused(Refusal::NoProcess)),
+        DebugFault::NoArm => say(text, speech, Said::Refused(Refusal::NoArm)),
+        DebugFault::BadCommand => say(text, speech, Said::Refused(Refusal::BadCommand)),
         DebugFault::NoMemory | DebugFault::Device => unreachable!(),
     }
 }

@@ -3,8 +3,9 @@ use Rattle.std.specs.Prelude.{◌≡◌, ◌++◌, ℕ, List, Option}
 use Rattle.pb_base.specs.declared.lending.Lending.{Lending}
 use Rattle.pb_code.specs.Whole.{ProcessLabels}
 use Rattle.pb_debug_commands.specs.Lines.{lines_of}
-use Rattle.pb_debug.specs.Sessions.{Session, session_bytes}
+use Rattle.pb_debug.specs.Sessions.{SessionText, session_bytes}
 use Rattle.pb_debug.specs.Value.{Debugging, IsPosition, at_start, showing}
+use Rattle.pb_debug_texts.specs.declared.said.Wording.TheVariants.{Lines}
 use Rattle.pb_command_io.specs.Answers.{memory_line}
 use Rattle.pb_command_io.specs.Parts.{AreTwoParts}
 use Rattle.pb_accept.specs.ReplayLines.{SaysOfNoPicksBy}
@@ -38,13 +39,13 @@ pub record IsOpened (lending : Lending) (verified : VerifiedCode) (labels : List
 -- what a session writes: the answer to each command line; if it is out of memory, the answers to the first
 -- lines and then `memory`; if a device fails, the answers to the first lines
 pub data SaysOfSession (d : Debugging) (commands : List ℕ) : List ℕ → Status → Type 0 where
-  answered : (text : List ℕ) (end : Debugging) → Session d (lines_of (session_bytes commands)) text end
+  answered : (text : List ℕ) (end : Debugging) → SessionText Lines d (lines_of (session_bytes commands)) text end
       → SaysOfSession d commands text Done
   out_of_memory : (lines later : List (List ℕ)) → lines_of (session_bytes commands) ≡ lines ++ later
-      → (text : List ℕ) (end : Debugging) → Session d lines text end
+      → (text : List ℕ) (end : Debugging) → SessionText Lines d lines text end
       → SaysOfSession d commands (text ++ memory_line) Memory
   broken_off : (lines later : List (List ℕ)) → lines_of (session_bytes commands) ≡ lines ++ later
-      → (text : List ℕ) (end : Debugging) → Session d lines text end → SaysOfSession d commands text Device
+      → (text : List ℕ) (end : Debugging) → SessionText Lines d lines text end → SaysOfSession d commands text Device
 
 -- of the code of the first part: the lines say no picks, or one of these is not enabled under this lending; or
 -- the answers to the commands are written

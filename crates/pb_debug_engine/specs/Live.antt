@@ -6,8 +6,9 @@ use Rattle.pb_base.specs.declared.device.ReadFault.{ReadFault}
 use Rattle.pb_base.specs.declared.lending.Lending.{Lending}
 use Rattle.pb_code.specs.Whole.{ProcessLabels}
 use Rattle.pb_debug_commands.specs.Lines.{cut}
-use Rattle.pb_debug.specs.Sessions.{Session}
+use Rattle.pb_debug.specs.Sessions.{SessionText}
 use Rattle.pb_debug.specs.Value.{Debugging}
+use Rattle.pb_debug_texts.specs.declared.said.Wording.TheVariants.{Lines}
 use Rattle.pb_debug_engine.specs.Debugs.{AreThreeParts, IsOpened, SaysOfDebug}
 use Rattle.pb_base.specs.Lines.{line}
 use Rattle.pb_command_io.specs.Answers.{memory_line}
@@ -61,7 +62,7 @@ IsEarly taken = IsUnmarked taken ⊎ ((source : List ℕ) × (rest : List ℕ) �
 
 -- the text consists of the answers to the complete lines of these bytes, in order
 abbrev pub AnswersLines : Debugging → (commands text : List ℕ) → Type 0
-AnswersLines d commands text = (end : Debugging) × Session d (cut [] commands).lines text end
+AnswersLines d commands text = (end : Debugging) × SessionText Lines d (cut [] commands).lines text end
 
 -- by the debugger of this code and of the picks of these lines under this lending
 abbrev pub AnswersOfCode : Lending → VerifiedCode → List ProcessLabels → (shown : Option (List ℕ)) → (lines commands text : List ℕ) → Type 0

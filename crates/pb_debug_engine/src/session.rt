@@ -11,7 +11,7 @@ ghost use Rattle.pb_command_io.specs.Answers.{Tells};
 use pb_base::limits::MAX_INPUT;
 use pb_base::{Input, Output};
 use pb_command_io::{Page, Status};
-use pb_debug::{DebugFault, Debugger};
+use pb_debug::{DebugFault, Debugger, Wording};
 use std::alloc::Global;
 
 /// Writes the answers to the commands of an input, up to the first for which it is out of memory: there it
@@ -32,7 +32,7 @@ pub fn tell_session<I: Input, O: Output>(
         result }
     ensures taken { LeavesRest (I.rest commands.old) (I.rest commands.new) MAX_INPUT }
 {
-    match debugger.session(commands, output) {
+    match debugger.session(Wording::Lines, commands, output) {
         Ok(()) => Status::Done,
         Err(fault) => match fault {
             DebugFault::NoMemory => {

@@ -3,4 +3,5 @@ pub mod ComingAbout
 pub mod EachNumber
 pub mod Pieces
 pub mod ResourceTexts
+pub mod Spoken
 pub mod Tops

@@ -3,7 +3,7 @@ use Rattle.std.specs.Prelude.{◌≡◌, ℕ, zero, suc, ◌+◌, ◌<◌, ℤ, 
 use Rattle.std.specs.Prelude.{Result, Ok, Err, slice_get, slice_index_or}
 use Rattle.std.specs.Fmt.{decimal, signed_decimal}
 use Rattle.pb_base.specs.Arithmetic.{apply, apply_unary, is_zero}
-use Rattle.pb_base.specs.Lines.{NameTable, each_below, line, name_of, pair_text}
+use Rattle.pb_base.specs.Lines.{NameTable, each_below, name_of, pair_text}
 use Rattle.pb_base.specs.Steppers.{Bundle, Effect, Prints}
 use Rattle.pb_base.specs.declared.operators.BinaryOp.{BinaryOp}
 use Rattle.pb_base.specs.declared.operators.FaultKind.{FaultKind}
@@ -15,6 +15,7 @@ use Rattle.pb_code.specs.Code.{Instr, Push, Load, Store, Compute1, Compute2, Jum
 use Rattle.pb_code.specs.Whole.{ProcessLabels}
 use Rattle.pb_debug_texts.specs.Faults.{before_text, between_text, binary_of, binary_text, unary_of, unary_text}
 use Rattle.pb_debug_texts.specs.Texts.{names_text}
+use Rattle.pb_debug_texts.specs.Things.{Saying, Does}
 use Rattle.pb_debug_texts.specs.declared.why.Why.{Why}
 use Rattle.pb_debug_texts.specs.declared.why.Why.TheVariants.{NotAsking, Cash, Order, Rest, Granted}
 use Rattle.pb_machine.specs.declared.thread.ThreadState.{ThreadState}
@@ -200,39 +201,6 @@ does_words names p labels process a why (Fork first count) place stack = starts_
 does_words names p labels process a why (Join first count) place stack = join_text names p process.threads first count
 does_words names p labels process a why End place stack = end_words a
 
--- ` line N: `, or `: ` if the place has no line
-abbrev pub at_line_text : Option ℕ → List ℕ
-at_line_text None = codes ": "
-at_line_text (Some n) = codes " line " ++ decimal n ++ codes ": "
-
--- what an arm does by the instruction at its place, if there is one
-abbrev pub does_at : NameTable → (p : ℕ) → ProcessLabels → CodeProcess → (a : ℕ) → Why → Option Instr → (place : ℕ) → (stack : List ℤ)
-    → List ℕ
-does_at names p labels process a why None place stack = codes ": "
-does_at names p labels process a why (Some instr) place stack =
-    at_line_text (line_at labels place) ++ does_words names p labels process a why instr place stack
-
--- an arm that is not live: its process has faulted, or it has ended, or has not begun
-abbrev pub nothing_in : CodeProcess → ThreadState → List ℕ
-nothing_in process Standing.Ended = codes ": ended"
-nothing_in process Standing.Idle = cond process.faulted (codes ": faulted") (codes ": idle")
-nothing_in process Standing.Live = cond process.faulted (codes ": faulted") (codes ": idle")
-
--- what an arm that stands so does
-abbrev pub does_in : NameTable → (p : ℕ) → ProcessLabels → ProcessCode → CodeProcess → (a : ℕ) → Why → Thread → List ℕ
-does_in names p labels code process a why Idle = nothing_in process Standing.Idle
-does_in names p labels code process a why (Live place stack) =
-    does_at names p labels process a why (slice_get code.instrs place) place stack
-does_in names p labels code process a why Ended = nothing_in process Standing.Ended
-
--- `P.a line N: WORDS`: what arm a of process p does by its next pick
-abbrev pub does_text : NameTable → (p : ℕ) → ProcessLabels → ProcessCode → CodeProcess → (a : ℕ) → Why → List ℕ
-does_text names p labels code process a why = line (
-    name_of names.processes p ++ codes "." ++ decimal a
-    ++ does_in names p labels code process a why (thread process.threads a))
-
--- ---- the same in words alone, for who shows the arm and its line beside them
-
 -- what an arm does by the instruction at its place, if there is one
 abbrev pub next_words_at : NameTable → (p : ℕ) → ProcessLabels → CodeProcess → (a : ℕ) → Why → Option Instr → (place : ℕ) → (stack : List ℤ)
     → List ℕ
@@ -249,6 +217,29 @@ next_words_in names p labels code process a why Ended = []
 -- `WORDS`: what arm a of process p does by its next pick
 abbrev pub next_words : NameTable → (p : ℕ) → ProcessLabels → ProcessCode → CodeProcess → (a : ℕ) → Why → List ℕ
 next_words names p labels code process a why = next_words_in names p labels code process a why (thread process.threads a)
+
+-- an arm that is not live: its process has faulted, or it has ended, or has not begun
+abbrev pub nothing_in : CodeProcess → ThreadState → List ℕ
+nothing_in process Standing.Ended = codes "ended"
+nothing_in process Standing.Idle = cond process.faulted (codes "faulted") (codes "idle")
+nothing_in process Standing.Live = cond process.faulted (codes "faulted") (codes "idle")
+
+-- what an arm that stands so does, or why it does nothing
+abbrev pub doing_in : NameTable → (p : ℕ) → ProcessLabels → ProcessCode → CodeProcess → (a : ℕ) → Why → Thread → List ℕ
+doing_in names p labels code process a why Idle = nothing_in process Standing.Idle
+doing_in names p labels code process a why (Live place stack) = next_words_in names p labels code process a why (Live place stack)
+doing_in names p labels code process a why Ended = nothing_in process Standing.Ended
+
+-- the source line at which an arm is
+abbrev pub line_of : ProcessLabels → Thread → Option ℕ
+line_of labels Idle = None
+line_of labels (Live place stack) = line_at labels place
+line_of labels Ended = None
+
+-- what arm a of process p does by its next pick, with its source line
+abbrev pub does_said : NameTable → (p : ℕ) → ProcessLabels → ProcessCode → CodeProcess → (a : ℕ) → Why → List Saying
+does_said names p labels code process a why =
+    Does p a (line_of labels (thread process.threads a)) (doing_in names p labels code process a why (thread process.threads a)) ∷ []
 
 -- ---- what is said comes about
 

@@ -7,9 +7,8 @@ use Rattle.pb_base.specs.declared.operators.BinaryOp.{BinaryOp}
 use Rattle.pb_base.specs.declared.operators.BinaryOp.TheVariants.{Add, Subtract, Multiply, Quotient, Remainder, Equal}
 use Rattle.pb_base.specs.declared.operators.BinaryOp.TheVariants.{Unequal, Less, AtMost, Greater, AtLeast, And, Or}
 use Rattle.pb_base.specs.declared.pick.Pick.{Pick}
-use Rattle.pb_base.specs.Lines.{NameTable, pick_text, line}
 use Rattle.pb_code.specs.Code.{Instr, Compute1, Compute2, ProcessCode, Thread, Idle, Live, Ended}
-use Rattle.pb_debug_texts.specs.Texts.{number_text}
+use Rattle.pb_debug_texts.specs.Things.{Saying, FaultedAt}
 use Rattle.pb_machine.specs.Views.{operands_of_thread}
 
 -- an operator as a text writes it before an operand
@@ -70,11 +69,6 @@ instr_of code Idle = None
 instr_of code (Live place stack) = slice_get code.instrs place
 instr_of code Ended = None
 
--- `P.a line N V OP W`: an arm, its line, and the operator at which it is with its operands
-abbrev pub fault_text : NameTable → Pick → (line : Option ℕ) → ProcessCode → Thread → List ℕ
-fault_text names pick n code t = line (
-    pick_text names pick ++ codes " line " ++ number_text n ++ operation_text (instr_of code t) (operands_of_thread t))
-
--- `no fault`
-abbrev pub no_fault_text : List ℕ
-no_fault_text = line (codes "no fault")
+-- the arm that faulted, its line, and the operator at which it is with its operands
+abbrev pub fault_said : Pick → (line : Option ℕ) → ProcessCode → Thread → List Saying
+fault_said pick n code t = FaultedAt pick n (operation_text (instr_of code t) (operands_of_thread t)) ∷ []

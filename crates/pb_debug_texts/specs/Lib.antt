@@ -1,6 +1,11 @@
 pub mod Circles
 pub mod Does
 pub mod Faults
+pub mod Objects
 pub mod Reasons
 pub mod Resources
+pub mod Sayings
+pub mod States
+pub mod Tables
 pub mod Texts
+pub mod Things

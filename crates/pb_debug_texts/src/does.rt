@@ -1,13 +1,13 @@
 //! What an arm does by its next pick.
 
-ghost use Rattle.std.specs.Prelude.{◌≡◌, ◌<◌, ◌+◌, ◌++◌, [], length, reverse, slice_get, slice_index_or, option_map, Some, OnOk};
+ghost use Rattle.std.specs.Prelude.{◌≡◌, ◌+◌, ◌++◌, [], reverse, slice_get, slice_index_or, option_map, OnOk};
 ghost use Rattle.pb_base.specs.Lines.{names_view};
-ghost use Rattle.pb_code.specs.Code.{Live, thread as thread_in};
 ghost use Rattle.pb_code.specs.View.{instr_view, process_labels_view, process_view};
 ghost use Rattle.pb_debug_texts.specs.Does as said;
 ghost use Rattle.pb_debug_texts.specs.Texts.{names_text};
 ghost use Rattle.pb_machine.specs.Views.{proc_view, state_of_thread, thread_view};
 
+use crate::lines::put_processes;
 use crate::listed::{put_arms, put_awaited, put_bundle, put_named};
 use crate::values::{
     put_assigned, put_computed, put_goes_on, put_printed, put_pushed, put_read, put_tested,
@@ -75,16 +75,6 @@ fn line_at(labels: &ProcessLabels, place: usize) -> Option<u32>
     }
 }
 
-/// Appends the names of processes to a text, each after a space.
-fn put_each_name(text: &mut Vec<u8>, names: &Names, processes: &[u8]) -> Result<(), NoMemory>
-    ensures { OnOk result (text.new.items ≡ text.old.items ++ names_text (names_view names.now) processes.now) }
-{
-    for k in 0..processes.len() {
-        put_named(text, b" ", &names.processes, usize::from(processes[k]))?;
-    }
-    Ok(())
-}
-
 /// Appends of which resource some is there to a text.
 fn put_there(text: &mut Vec<u8>, names: &Names, resource: u8) -> Result<(), NoMemory>
     ensures { OnOk result (text.new.items ≡ text.old.items ++ said.there_text (names_view names.now) resource) }
@@ -118,7 +108,7 @@ fn put_rest(text: &mut Vec<u8>, names: &Names, rest: &[u8]) -> Result<(), NoMemo
         ≡ text.old.items ++ (said.unsafe_words ++ names_text (names_view names.now) rest.now)) }
 {
     put_unsafe(text)?;
-    put_each_name(text, names, rest)
+    put_processes(text, names, rest)
 }
 
 /// Appends why a request is kept back to a text, if it is.
@@ -242,19 +232,6 @@ pub(crate) fn put_words(
     }
 }
 
-/// Appends the source line of an arm to a text, if its place has one.
-fn put_at_line(text: &mut Vec<u8>, line: Option<u32>) -> Result<(), NoMemory>
-    ensures { OnOk result (text.new.items ≡ text.old.items ++ said.at_line_text line) }
-{
-    match line {
-        Some(line) => {
-            put_number(text, b" line ", line)?;
-            put(text, b": ")
-        }
-        None => put(text, b": "),
-    }
-}
-
 /// Returns the instruction at a place, if there is one.
 pub(crate) fn instr_at(code: &ProcessCode, place: u16) -> Option<Instr>
     ensures { option_map (instr_view code.now.bundles.items) result ≡ slice_get (process_view code.now).instrs place }
@@ -262,96 +239,32 @@ pub(crate) fn instr_at(code: &ProcessCode, place: u16) -> Option<Instr>
     code.instrs.get(usize::from(place)).copied()
 }
 
-/// Appends what an arm at an instruction does to a text, with its source line.
-fn put_at_instr(
-    text: &mut Vec<u8>,
-    of: Labelled,
-    process: &Proc,
-    arm: usize,
-    why: &Why,
-    instr: Instr,
-    place: u16,
-    operands: &[i64],
-) -> Result<(), NoMemory>
-    ensures { OnOk result (text.new.items ≡ text.old.items ++ said.does_at (names_view of.entry.names.now) of.entry.number
-        (process_labels_view of.entry.labels.now) (proc_view process.now) arm why.now
-        (Some (instr_view of.entry.code.now.bundles.items instr)) place (reverse operands.now)) }
-{
-    put_at_line(text, line_at(of.labels, usize::from(place)))?;
-    put_words(text, of, process, arm, why, instr, place, operands)
-}
-
-/// Appends what an arm at a place does to a text.
-fn put_does_at(
-    text: &mut Vec<u8>,
-    of: Labelled,
-    process: &Proc,
-    arm: usize,
-    why: &Why,
-    place: u16,
-    operands: &[i64],
-) -> Result<(), NoMemory>
-    ensures { OnOk result (text.new.items ≡ text.old.items ++ said.does_in (names_view of.entry.names.now) of.entry.number
-        (process_labels_view of.entry.labels.now) (process_view of.entry.code.now) (proc_view process.now) arm why.now
-        (Live place (reverse operands.now))) }
-{
-    match instr_at(of.code, place) {
-        Some(instr) => put_at_instr(text, of, process, arm, why, instr, place, operands),
-        None => put(text, b": "),
-    }
-}
-
 /// Appends to a text that an arm that is not live has ended, or has not begun, or that its process has faulted.
-fn put_does_nothing(text: &mut Vec<u8>, process: &Proc, thread: &Thread) -> Result<(), NoMemory>
+pub(crate) fn put_nothing(
+    text: &mut Vec<u8>,
+    process: &Proc,
+    thread: &Thread,
+) -> Result<(), NoMemory>
     ensures { OnOk result (text.new.items ≡ text.old.items
         ++ said.nothing_in (proc_view process.now) (state_of_thread (thread_view thread.now))) }
 {
     match thread.state() {
-        ThreadState::Ended => put(text, b": ended"),
+        ThreadState::Ended => put(text, b"ended"),
         ThreadState::Idle | ThreadState::Live => {
             if process.faulted() {
-                return put(text, b": faulted");
+                return put(text, b"faulted");
             }
-            put(text, b": idle")
+            put(text, b"idle")
         }
     }
 }
 
-/// Appends what an arm of a process does by its next pick to a text.
-fn put_stands(
-    text: &mut Vec<u8>,
-    of: Labelled,
-    process: &Proc,
-    arm: usize,
-    why: &Why,
-) -> Result<(), NoMemory>
-    requires { arm < length (proc_view process.now).threads }
-    ensures { OnOk result (text.new.items ≡ text.old.items ++ said.does_in (names_view of.entry.names.now) of.entry.number
-        (process_labels_view of.entry.labels.now) (process_view of.entry.code.now) (proc_view process.now) arm why.now
-        (thread_in (proc_view process.now).threads arm)) }
+/// Returns the source line at which an arm is, if it is live and its place has one.
+pub(crate) fn line_of(labels: &ProcessLabels, thread: &Thread) -> Option<u32>
+    ensures { result ≡ said.line_of (process_labels_view labels.now) (thread_view thread.now) }
 {
-    let thread = process.thread(arm);
     match thread.place() {
-        Some(place) => put_does_at(text, of, process, arm, why, place, thread.operands()),
-        None => put_does_nothing(text, process, thread),
+        Some(place) => line_at(labels, usize::from(place)),
+        None => None,
     }
-}
-
-/// Appends the line that says what an arm of a process does by its next pick to a text, the reason of its request being
-/// known.
-pub fn put_does(
-    text: &mut Vec<u8>,
-    of: Labelled,
-    process: &Proc,
-    arm: usize,
-    why: &Why,
-) -> Result<(), NoMemory>
-    requires { arm < length (proc_view process.now).threads }
-    ensures { OnOk result (text.new.items ≡ text.old.items ++ said.does_text (names_view of.entry.names.now) of.entry.number
-        (process_labels_view of.entry.labels.now) (process_view of.entry.code.now) (proc_view process.now) arm why.now) }
-{
-    put_named(text, b"", &of.names.processes, of.number)?;
-    put_number(text, b".", arm)?;
-    put_stands(text, of, process, arm, why)?;
-    put(text, b"\n")
 }

@@ -1,16 +1,17 @@
 //! What is said of a fault.
 
-ghost use Rattle.std.specs.Prelude.{◌≡◌, ◌<◌, ◌++◌, List, codes, length, reverse, option_map, OnOk};
-ghost use Rattle.pb_base.specs.Lines.{names_view};
+ghost use Rattle.std.specs.Prelude.{◌≡◌, ◌++◌, List, reverse, option_map, OnOk};
 ghost use Rattle.pb_base.specs.Steppers.{Bundle};
 ghost use Rattle.pb_code.specs.View.{instr_view, process_view};
 ghost use Rattle.pb_debug_texts.specs.Faults as said;
-ghost use Rattle.pb_debug_texts.specs.Texts.{number_text};
+ghost use Rattle.pb_debug_texts.specs.Sayings.{says};
 ghost use Rattle.pb_machine.specs.Views.{operands_of_thread, thread_view};
 
 use crate::operators::{binary_of, binary_word, unary_of, unary_word};
-use pb_base::writing::{put, put_name, put_number, put_pick};
-use pb_base::{Names, NoMemory, Pick};
+use crate::said::{Said, Speech};
+use crate::speaking::say;
+use pb_base::writing::{put_name, put_number};
+use pb_base::{NoMemory, Pick};
 use pb_code::{Instr, ProcessCode};
 use pb_machine::Thread;
 
@@ -76,39 +77,19 @@ fn put_operation(text: &mut Vec<u8>, code: &ProcessCode, thread: &Thread) -> Res
     put_applied(text, instr_of(code, thread), thread.operands())
 }
 
-/// Appends the words `line N` to a text, or `line none`.
-fn put_at_line(text: &mut Vec<u8>, line: Option<u32>) -> Result<(), NoMemory>
-    ensures { OnOk result (text.new.items ≡ text.old.items ++ codes " line " ++ number_text line) }
-{
-    match line {
-        Some(line) => put_number(text, b" line ", line),
-        None => put(text, b" line none"),
-    }
-}
-
-/// Appends the line of an arm, of a source line, and of the operator at which the arm is with its operands to a
-/// text.
-pub fn put_fault(
+/// Says which arm faulted, its source line, and the operator at which it is with its operands.
+pub fn say_fault(
     text: &mut Vec<u8>,
-    names: &Names,
+    speech: Speech<'_>,
     pick: Pick,
     line: Option<u32>,
     code: &ProcessCode,
     thread: &Thread,
 ) -> Result<(), NoMemory>
-    requires { pick.process < length (names_view names.now).processes }
     ensures { OnOk result (text.new.items ≡ text.old.items
-        ++ said.fault_text (names_view names.now) pick line (process_view code.now) (thread_view thread.now)) }
+        ++ says speech.entry (said.fault_said pick line (process_view code.now) (thread_view thread.now))) }
 {
-    put_pick(text, names, pick)?;
-    put_at_line(text, line)?;
-    put_operation(text, code, thread)?;
-    put(text, b"\n")
-}
-
-/// Appends the line that says that there is no fault to a text.
-pub fn put_no_fault(text: &mut Vec<u8>) -> Result<(), NoMemory>
-    ensures { OnOk result (text.new.items ≡ text.old.items ++ said.no_fault_text) }
-{
-    put(text, b"no fault\n")
+    let mut operation = Vec::new(speech.alloc);
+    put_operation(&mut operation, code, thread)?;
+    say(text, speech, Said::FaultedAt(pick, line, &operation))
 }

@@ -1,27 +1,31 @@
-//! What a debugging session says of the state of a run: its lines of text, and why an arm does not go on.
+//! What a debugging session says of the state of a run, and why an arm does not go on.
 #![tactic(auto)]
 
 mod circle;
 mod does;
+mod event_objects;
 mod fault;
+mod forms;
 pub mod laws;
+mod lines;
 mod listed;
+mod members;
 mod next;
+mod objects;
 mod operators;
-mod source;
-mod text;
+mod said;
+mod speaking;
+mod states;
 mod values;
 mod who;
 mod why;
 
-pub use circle::put_circle;
-pub use does::{Labelled, put_does};
-pub use fault::{put_fault, put_no_fault};
-pub use next::put_next_words;
-pub use source::put_source;
-pub use text::{
-    put_at, put_event, put_help, put_loans, put_mark, put_never, put_no_event, put_not_reached,
-    put_source_line, put_stack, put_threads, put_vars, put_why, put_wrote,
-};
-pub use who::put_who;
+pub use circle::say_circle;
+pub use does::Labelled;
+pub use fault::say_fault;
+pub use next::{put_next_words, say_does};
+pub use said::{Asker, Doing, Loan, Refusal, Said, Speech, Standing, Wording};
+pub use speaking::say;
+pub use states::{say_loans, say_source, say_stack, say_threads, say_vars, say_why};
+pub use who::say_who;
 pub use why::{Why, asked, reason};

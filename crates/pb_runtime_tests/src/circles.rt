@@ -7,7 +7,7 @@ use pb_banker::Lender;
 use pb_base::{Bundle, Capital, Claims, Lending, Pick};
 use pb_circles::{Link, find_circle};
 use pb_codegen::compile;
-use pb_debug_texts::{Why, put_circle, put_why, reason};
+use pb_debug_texts::{Speech, Why, Wording, reason, say_circle, say_why};
 use pb_machine::Machine;
 use pb_verifier::Verified;
 use std::alloc::Global;
@@ -128,8 +128,13 @@ fn machine_after(alloc: Global, verified: &Verified, picks: &[Pick]) -> Option<M
 fn says(alloc: Global, text: &[u8], picks: &[Pick], said: &[u8]) -> Option<bool> {
     let (verified, _labels) = compile(alloc, alloc, text).ok()?.into_parts();
     let machine = machine_after(alloc, &verified, picks)?;
+    let speech = Speech {
+        alloc,
+        wording: Wording::Lines,
+        names: verified.names(),
+    };
     let mut lines = Vec::new(alloc);
-    put_circle(&mut lines, alloc, &verified, &machine).ok()?;
+    say_circle(&mut lines, speech, &verified, &machine).ok()?;
     Some(lines.as_slice() == said)
 }
 
@@ -237,8 +242,13 @@ fn a_banker_gives_its_reasons(rt: HostRuntime) {
 /// Returns whether the line of a request that the cash grants is said.
 fn says_granted(alloc: Global) -> Option<bool> {
     let (verified, _labels) = compile(alloc, alloc, CASH).ok()?.into_parts();
+    let speech = Speech {
+        alloc,
+        wording: Wording::Lines,
+        names: verified.names(),
+    };
     let mut text = Vec::new(alloc);
-    put_why(&mut text, verified.names(), &Why::Granted).ok()?;
+    say_why(&mut text, speech, &Why::Granted).ok()?;
     Some(text.as_slice() == b"granted\n".as_slice())
 }
 

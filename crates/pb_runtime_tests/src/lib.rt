@@ -30,6 +30,8 @@ mod replays;
 #[cfg(test)]
 mod sessions;
 #[cfg(test)]
+mod spoken;
+#[cfg(test)]
 mod stops;
 #[cfg(test)]
 mod strangers;

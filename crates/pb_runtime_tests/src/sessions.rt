@@ -2,7 +2,7 @@
 
 use pb_base::{FaultyInput, FaultyOutput, Input, Lending, MemoryInput, MemoryOutput, Output, Pick};
 use pb_codegen::compile;
-use pb_debug::{DebugFault, Debugger};
+use pb_debug::{DebugFault, Debugger, Wording};
 use std::alloc::{AllocError, Global};
 
 const A: Pick = Pick { process: 0, arm: 0 };
@@ -162,7 +162,10 @@ fn answers(alloc: Global, debugger: Debugger<'_>, commands: &[u8], said: &[u8]) 
     let mut input = MemoryInput::new(commands);
     match MemoryOutput::new(alloc, 4096) {
         Ok(mut output) => {
-            debugger.session(&mut input, &mut output).is_ok() && output.as_slice() == said
+            debugger
+                .session(Wording::Lines, &mut input, &mut output)
+                .is_ok()
+                && output.as_slice() == said
         }
         Err(_) => false,
     }
@@ -290,7 +293,8 @@ fn fails_at<I: Input, O: Output>(
     position: u32,
 ) -> bool {
     let mut debugger = debugger;
-    debugger.session(input, output) == Err(DebugFault::Device) && debugger.position() == position
+    debugger.session(Wording::Lines, input, output) == Err(DebugFault::Device)
+        && debugger.position() == position
 }
 
 /// Returns whether the lines before a read that fails are answered.

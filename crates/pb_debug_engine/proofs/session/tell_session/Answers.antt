@@ -1,7 +1,8 @@
 use Rattle.std.proofs.Common.{[], subst}
 use Rattle.std.proofs.lemmas.Option.{IfSome_then}
 use Rattle.pb_debug_commands.specs.Lines.{cut}
-use Rattle.pb_debug.specs.Sessions.{CountsBoth, SaysSome, Session}
+use Rattle.pb_debug.specs.Sessions.{CountsBoth, SaysSome, SessionText}
+use Rattle.pb_debug_texts.specs.declared.said.Wording.TheVariants.{Lines}
 use Rattle.pb_debug_engine.specs.Live.{AnswersLines}
 use Rattle.pb_debug_engine.proofs.PartLemmas.{says_weaker}
 use Rattle.pb_debug_engine.proofs.SessionLemmas.{one_failed, told_all, told_some, told_until_broken}
@@ -21,7 +22,7 @@ returns-in-NoMemory-clause-text g c =
     let end = c.session.new.self in
     IfSome_then (g.I.Input.rest c.args.commands.now) c.in-Err.ensures.some
     (λ bytes some. told_some d end bytes old mid new c.new.result c.finish_with.result
-    (subst (λ e. SaysSome e d bytes old mid end) c.in-NoMemory.is some) c.new.ensures c.finish_with.ensures.text)
+    (subst (λ e. SaysSome Lines e d bytes old mid end) c.in-NoMemory.is some) c.new.ensures c.finish_with.ensures.text)
 
 pub returns-in-Ok-clause-answered : goal.returns-in-Ok-clause-answered
 returns-in-Ok-clause-answered g c grew = absurd (grew c.in-Ok.ensures.counted_reads)
@@ -37,7 +38,7 @@ returns-in_default g c = record {
   text = IfSome_then (g.I.Input.rest c.args.commands.now) c.in-Err.ensures.some
       (λ bytes. told_until_broken c.args.debugger.now c.session.new.self bytes _ c.in-Err.fault _ c.in_default.not-NoMemory);
   answered = λ grew.
-      says_weaker (λ read text. Session c.args.debugger.now (cut [] read).lines text c.session.new.self) (AnswersLines c.args.debugger.now)
+      says_weaker (λ read text. SessionText Lines c.args.debugger.now (cut [] read).lines text c.session.new.self) (AnswersLines c.args.debugger.now)
       (λ read text says. (c.session.new.self, says)) (g.I.Input.rest c.args.commands.now) _ _ _ (c.session.ensures.answered grew);
   taken = c.session.ensures.taken;
   faults = one_failed c.in-Err.fault

@@ -1,8 +1,11 @@
-use Rattle.std.proofs.Common.{refl, sym, subst, ap, rules}
+use Rattle.std.proofs.Common.{◌∷◌, [], refl, sym, subst, ap}
 use Rattle.pb_debug.specs.Answers.{AnswersCommand}
 use Rattle.pb_debug_commands.specs.Commands.{Command}
 use Rattle.pb_debug_commands.specs.View.{command_view}
 use Rattle.pb_base.proofs.Results.{on_ok}
+use Rattle.pb_debug.specs.Value.{bank_state}
+use Rattle.pb_debug_texts.specs.States.{loans_said}
+use Rattle.pb_debug_texts.specs.Things.{Help, Mark}
 use Rattle.pb_debug.proofs.debugger.Debugger.carry_out.Goals as goal
 
 pub returns-in-Vars-clause-answer : goal.returns-in-Vars-clause-answer
@@ -101,5 +104,41 @@ returns-in-Pick-clause-answer c =
     on_ok c.say_pick.result _ _ c.say_pick.ensures.said
     (λ s. (s.0, subst (λ (k : Command). AnswersCommand d k s.0 c.say_pick.new.self) (sym (ap command_view c.in-Pick.is)) s.1, s.2))
 
-pub returns-in-To-2-clause-answer : goal.returns-in-To-2-clause-answer
-returns-in-To-2-clause-answer c = search rules fits 100
+pub returns-in-To-clause-answer : goal.returns-in-To-clause-answer
+returns-in-To-clause-answer c =
+    let d = c.args.self.now in
+    on_ok c.say_to.result _ _ c.say_to.ensures.said
+    (λ s. (s.0, subst (λ (k : Command). AnswersCommand d k s.0 c.say_to.new.self) (sym (ap command_view c.in-To.is)) s.1, s.2))
+
+pub returns-in-Step-clause-answer : goal.returns-in-Step-clause-answer
+returns-in-Step-clause-answer c =
+    let d = c.args.self.now in
+    on_ok c.say_on.result _ _ c.say_on.ensures.said
+    (λ s. (s.0, subst (λ (k : Command). AnswersCommand d k s.0 c.say_on.new.self) (sym (ap command_view c.in-Step.is)) s.1, s.2))
+
+pub returns-in-Back-clause-answer : goal.returns-in-Back-clause-answer
+returns-in-Back-clause-answer c =
+    let d = c.args.self.now in
+    on_ok c.say_back.result _ _ c.say_back.ensures.said
+    (λ s. (s.0, subst (λ (k : Command). AnswersCommand d k s.0 c.say_back.new.self) (sym (ap command_view c.in-Back.is)) s.1, s.2))
+
+pub returns-in-Mark-clause-answer : goal.returns-in-Mark-clause-answer
+returns-in-Mark-clause-answer c =
+    let d = c.args.self.now in
+    let said = Mark c.in-Mark.number ∷ [] in
+    on_ok c.say.result _ _ c.say.ensures
+    (λ e. (said, subst (λ (k : Command). AnswersCommand d k said d) (sym (ap command_view c.in-Mark.is)) (refl, refl), e))
+
+pub returns-in-Loans-clause-answer : goal.returns-in-Loans-clause-answer
+returns-in-Loans-clause-answer c =
+    let d = c.args.self.now in
+    let said = loans_said (bank_state d) in
+    on_ok c.say_loans.result _ _ c.say_loans.ensures
+    (λ e. (said, subst (λ (k : Command). AnswersCommand d k said d) (sym (ap command_view c.in-Loans.is)) (refl, refl), e))
+
+pub returns-in-Help-clause-answer : goal.returns-in-Help-clause-answer
+returns-in-Help-clause-answer c =
+    let d = c.args.self.now in
+    let said = Help ∷ [] in
+    on_ok c.say-in-Help.result _ _ c.say-in-Help.ensures
+    (λ e. (said, subst (λ (k : Command). AnswersCommand d k said d) (sym (ap command_view c.in-Help.is)) (refl, refl), e))

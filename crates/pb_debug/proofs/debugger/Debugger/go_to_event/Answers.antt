@@ -1,20 +1,16 @@
-use Rattle.std.proofs.Common.{sym, subst, rules}
-use Rattle.pb_base.specs.Lines.{NameTable, HasNames}
-use Rattle.pb_history.specs.Entries.{picks_of}
-use Rattle.pb_debug_positions.specs.Searches.{Shows}
-use Rattle.pb_debug.proofs.NamedPicks.{shown_named}
+use Rattle.std.proofs.Common.{◌∷◌, [], ℕ, Option, refl, sym, subst}
+use Rattle.pb_base.proofs.Results.{on_ok}
+use Rattle.pb_debug.specs.Answers.{SaysEvent}
+use Rattle.pb_debug_texts.specs.Things.{NoEvent}
 use Rattle.pb_debug.proofs.debugger.Debugger.go_to_event.Goals as goal
 
-pub put_event-requires : goal.put_event-requires
-put_event-requires c =
-    let i = c.self.inside in
-    let v = i.verified.now in
-    let picks = picks_of i.trace.entries in
-    let k = c.in-Some.k in
-    let event = c.in_ok-event.event in
-    let shows : Shows v.code picks k event = rw (← c.self.view_is) at c.in_ok-event.ensures in
-    subst (λ (n : NameTable). HasNames n event) (sym c.names.ensures)
-    (shown_named v picks k event c.self.invariant.verified c.self.invariant.enabled shows)
+pub returns-in-Some-clause-said : goal.returns-in-Some-clause-said
+returns-in-Some-clause-said c =
+    on_ok c.go_after.result _ _ c.go_after.ensures.said
+    (λ s. (s.0, subst (λ (o : Option ℕ). SaysEvent c.args.self.now o s.0 c.go_after.new.self) (sym c.in-Some.is) s.1, s.2))
 
-pub returns-in-Ok-clause-said : goal.returns-in-Ok-clause-said
-returns-in-Ok-clause-said c = search rules fits 100
+pub returns-in-None-clause-said : goal.returns-in-None-clause-said
+returns-in-None-clause-said c =
+    let d = c.args.self.now in
+    on_ok c.say.result _ _ c.say.ensures
+    (λ e. (NoEvent ∷ [], subst (λ (o : Option ℕ). SaysEvent d o (NoEvent ∷ []) d) (sym c.in-None.is) (refl, refl), e))

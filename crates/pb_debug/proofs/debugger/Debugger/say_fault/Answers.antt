@@ -1,8 +1,10 @@
-use Rattle.std.proofs.Common.{ℕ, Option, Some, None, inl, refl, subst}
+use Rattle.std.proofs.Common.{◌∷◌, [], ℕ, Option, Some, None, inl, refl, subst, inr}
 use Rattle.pb_base.proofs.Results.{on_ok}
 use Rattle.pb_debug_positions.specs.Searches.{Does, IsLast}
 use Rattle.pb_debug_positions.specs.declared.search.Watch.TheVariants as watch
-use Rattle.pb_debug_texts.specs.Faults.{no_fault_text}
+use Rattle.pb_debug_texts.specs.Things.{NoFault}
+use Rattle.pb_debug.specs.Refusals.{refusal_said}
+use Rattle.pb_debug.specs.declared.fault.DebugFault.TheVariants.{NoProcess}
 use Rattle.pb_debug.proofs.debugger.Debugger.say_fault.Goals as goal
 
 pub returns-in-Some-2 : goal.returns-in-Some-2
@@ -24,4 +26,8 @@ returns-in-None c =
     let last : IsLast holds 0 d.position None =
     subst (λ (n : ℕ). IsLast holds 0 n None) c.position.ensures.position
     (subst (λ (o : Option ℕ). IsLast holds 0 c.position.result o) c.in-None.is c.in_ok-k.ensures) in
-    on_ok c.put_no_fault.result _ _ c.put_no_fault.ensures (λ e. (no_fault_text, inl (p, c.in-Some.ensures.some, (None, last, refl)), e))
+    on_ok c.say.result _ _ c.say.ensures (λ e. (NoFault ∷ [], inl (p, c.in-Some.ensures.some, (None, last, refl)), e))
+
+pub returns-in_default : goal.returns-in_default
+returns-in_default c =
+    on_ok c.say_refusal.result _ _ c.say_refusal.ensures (λ e. (refusal_said NoProcess, inr (c.in_default.ensures.none, refl), e))

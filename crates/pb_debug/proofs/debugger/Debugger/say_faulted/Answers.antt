@@ -1,19 +1,17 @@
 use Rattle.std.proofs.Common.{◌≡◌, ◌<◌, length, slice_get, Some, sym, ap, ◌∙◌, subst, arith}
 use Rattle.std.proofs.lemmas.Option.{slice_get_within}
 use Rattle.pb_base.proofs.Results.{on_ok}
-use Rattle.pb_base.specs.Lines.{names_view}
 use Rattle.pb_base.specs.Steppers.{State}
 use Rattle.pb_code.specs.Code.{CodeProcess}
 use Rattle.pb_code.specs.View.{process_view}
-use Rattle.pb_code.specs.Whole.{Code}
 use Rattle.pb_history.specs.Positions.{state_after}
 use Rattle.pb_machine.proofs.GivenCode.{codes_number, code_at}
 use Rattle.pb_machine.specs.Views.{machine_view, proc_view, thread_view}
 use Rattle.pb_debug.specs.Value.{Debugging}
 use Rattle.pb_debug_positions.specs.Searches.{line_in}
-use Rattle.pb_debug_texts.specs.Faults.{fault_text}
+use Rattle.pb_debug_texts.specs.Faults.{fault_said}
 use Rattle.pb_debug.proofs.Faults.{says_faulted}
-use Rattle.pb_debug.proofs.NamedPicks.{pick_named, pick_stands}
+use Rattle.pb_debug.proofs.NamedPicks.{pick_stands}
 use Rattle.pb_debug.proofs.ResourceTexts.{placed}
 use Rattle.pb_debug.proofs.debugger.Debugger.say_faulted.Goals as goal
 
@@ -65,15 +63,6 @@ index-requires c =
     let lt = slice_get_within d.verified.code.processes pick.process stands.0 stands.2 in
     omega (arith, lt, codes_number given d.verified.code same, given.processes.ok.0, c.from-p.ensures)
 
-pub put_fault-requires : goal.put_fault-requires
-put_fault-requires c =
-    let d = c.args.self.now in
-    let pick = c.pick-pick.result in
-    let here = placed c.self.inside c.self.invariant d c.self.view_is in
-    let there = subst (λ (x : Debugging). slice_get x.picks c.args.k ≡ Some pick) c.self.view_is c.pick-pick.ensures in
-    let same = c.code-verified.ensures.code ∙ ap (λ (x : Debugging). x.verified.code) c.self.view_is in
-    subst (λ (x : Code). pick.process < length x.names.processes) (sym same) (pick_named d.verified d.picks c.args.k pick here.verified here.enabled there)
-
 pub returns : goal.returns
 returns c =
     let d = c.args.self.now in
@@ -95,10 +84,10 @@ returns c =
     let shown = thread_view c.thread-thread.result.now in
     let lined = c.line_of_arm-line.ensures
     ∙ ap (λ (x : Debugging). line_in (slice_get x.labels p) (slice_get (machine_view machine).processes p) a) c.self.view_is in
-    on_ok c.put_fault.result _ _ c.put_fault.ensures (λ e. (
-      fault_text (names_view given.names) pick c.line_of_arm-line.result code shown,
-      says_faulted d k pick p a (machine_view machine) (names_view given.names) c.line_of_arm-line.result code (proc_view c.proc.result.now) shown there
-          c.from-p.ensures c.from-arm.ensures state (ap (λ (x : Code). x.names) same) (code_at given d.verified.code same p c.index.result.now within c.index.ensures)
+    on_ok c.say_fault.result _ _ c.say_fault.ensures (λ e. (
+      fault_said pick c.line_of_arm-line.result code shown,
+      says_faulted d k pick p a (machine_view machine) c.line_of_arm-line.result code (proc_view c.proc.result.now) shown there
+          c.from-p.ensures c.from-arm.ensures state (code_at given d.verified.code same p c.index.result.now within c.index.ensures)
           c.proc.ensures.state c.thread-thread.ensures lined,
       e,
     ))

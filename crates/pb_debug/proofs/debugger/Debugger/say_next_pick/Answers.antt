@@ -6,7 +6,7 @@ use Rattle.pb_base.specs.Lines.{NameTable, names_view}
 use Rattle.pb_code.specs.Code.{CodeProcess}
 use Rattle.pb_code.specs.View.{process_labels_view, process_view}
 use Rattle.pb_code.specs.Whole.{Code}
-use Rattle.pb_debug_texts.specs.Does.{does_text}
+use Rattle.pb_debug_texts.specs.Does.{does_said}
 use Rattle.pb_machine.proofs.GivenCode.{code_at, codes_number}
 use Rattle.pb_machine.specs.Views.{proc_view}
 use Rattle.pb_debug.specs.Value.{Debugging}
@@ -30,8 +30,8 @@ index-requires-2 c =
     let same = ap (λ (d : Debugging). length d.labels) c.self.view_is in
     omega (arith, lt, same, length-map given.processes.items process_labels_view, given.processes.ok.0)
 
-pub put_does-requires : goal.put_does-requires
-put_does-requires c =
+pub say_does-requires : goal.say_does-requires
+say_does-requires c =
     let has = c.requires.arm in
     let both : Some has.0 ≡ Some (proc_view c.in-Ok.process.now) = sym has.1 ∙ c.in-Ok.ensures.shown in
     let same : has.0 ≡ proc_view c.in-Ok.process.now = cc in
@@ -57,8 +57,8 @@ returns c =
     let labels_there = labels_here d given l p (ap (λ (d : Debugging). d.labels) c.self.view_is) l_there in
     let names : names_view code.names ≡ d.verified.code.names = ap (λ (c : Code). c.names) same in
     let process = proc_view c.in-Ok.process.now in
-    on_ok c.put_does.result _ _ c.put_does.ensures (λ e. (
-      does_text (names_view code.names) p (process_labels_view l) (process_view c.index.result.now) process c.args.arm c.args.why.now,
+    on_ok c.say_does.result _ _ c.say_does.ensures (λ e. (
+      does_said (names_view code.names) p (process_labels_view l) (process_view c.index.result.now) process c.args.arm c.args.why.now,
       record {
         labels = process_labels_view l;
         code = process_view c.index.result.now;
@@ -68,8 +68,8 @@ returns c =
         code_there = code_there;
         there = shown;
         why_is = c.requires.why;
-        text_is =
-            ap (λ (n : NameTable). does_text n p (process_labels_view l) (process_view c.index.result.now) process c.args.arm c.args.why.now) names;
+        said_is =
+            ap (λ (n : NameTable). does_said n p (process_labels_view l) (process_view c.index.result.now) process c.args.arm c.args.why.now) names;
       },
       e,
     ))

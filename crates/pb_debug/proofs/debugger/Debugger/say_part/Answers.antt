@@ -11,7 +11,7 @@ loop-p-init c = ([], nothing, sym (append-nil c.args.text.now.items))
 
 pub loop-p-preserved : goal.loop-p-preserved
 loop-p-preserved c =
-    said_next (SaysOfProcess c.args.self.now c.args.part) c.loop-p.p c.args.text.now.items c.loop-p.text.items c.say_process.new.text.items
+    said_next c.args.speech (SaysOfProcess c.args.self.now c.args.part) c.loop-p.p c.args.text.now.items c.loop-p.text.items c.say_process.new.text.items
     c.loop-p.invariant c.in_ok-say_process.ensures
 
 pub returns : goal.returns

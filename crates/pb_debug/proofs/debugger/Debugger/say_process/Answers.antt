@@ -15,7 +15,7 @@ say_arm-requires c =
 
 pub loop-arm-preserved : goal.loop-arm-preserved
 loop-arm-preserved c =
-    said_next (SaysOfArm c.args.self.now c.args.part c.args.p) c.loop-arm.arm c.args.text.now.items c.loop-arm.text.items c.say_arm.new.text.items
+    said_next c.args.speech (SaysOfArm c.args.self.now c.args.part c.args.p) c.loop-arm.arm c.args.text.now.items c.loop-arm.text.items c.say_arm.new.text.items
     c.loop-arm.invariant c.in_ok-say_arm.ensures
 
 pub returns : goal.returns

@@ -1,12 +1,14 @@
-use Rattle.std.proofs.Common.{◌<◌, ℕ, List, length, map, inl, refl, sym, ap, ◌∙◌, arith, Vec, Global}
+use Rattle.std.proofs.Common.{◌<◌, ℕ, List, length, map, inl, refl, sym, ap, ◌∙◌, arith, Vec, Global, inr}
 use Rattle.std.proofs.lemmas.List.{length-map}
 use Rattle.std.proofs.lemmas.Option.{slice_get_read}
 use Rattle.pb_code.specs.View.{process_labels_view}
-use Rattle.pb_debug_texts.specs.Texts.{vars_text}
+use Rattle.pb_debug_texts.specs.States.{vars_said}
 use Rattle.pb_debug.specs.Value.{Debugging}
 use Rattle.pb_debug.proofs.Positions.{in_labels, named_vars}
 use Rattle.pb_debug.proofs.Lines.{labels_here}
 use Rattle.pb_base.proofs.Results.{on_ok}
+use Rattle.pb_debug.specs.Refusals.{refusal_said}
+use Rattle.pb_debug.specs.declared.fault.DebugFault.TheVariants.{NoProcess}
 use Rattle.pb_debug.proofs.debugger.Debugger.say_vars.Goals as goal
 
 pub index-requires : goal.index-requires
@@ -18,8 +20,8 @@ index-requires c =
     let same = ap (λ (d : Debugging). length d.labels) c.self.view_is in
     omega (arith, lt, same, length-map given.processes.items process_labels_view, given.processes.ok.0)
 
-pub put_vars-requires : goal.put_vars-requires
-put_vars-requires c =
+pub say_vars-requires : goal.say_vars-requires
+say_vars-requires c =
     let d = c.args.self.now in
     let given = c.self.inside.labels.now in
     let l = c.index.result.now in
@@ -43,8 +45,8 @@ returns c =
     let l_there = slice_get_read given.processes.items (length given.processes.items) c.in-Some.p l refl within c.index.ensures in
     let labels_there = labels_here d given l c.in-Some.p (ap (λ (d : Debugging). d.labels) c.self.view_is) l_there in
     let names : List (List ℕ) = map (λ name. name.items) c.deref.result.now in
-    let said = vars_text names c.in-Ok.vars.now in
-    on_ok c.put_vars.result _ _ c.put_vars.ensures (λ e. (
+    let said = vars_said names c.in-Ok.vars.now in
+    on_ok c.say_vars.result _ _ c.say_vars.ensures (λ e. (
       said,
       inl (
         c.in-Some.p,
@@ -54,10 +56,14 @@ returns c =
           process = shown.0;
           labels_there = labels_there;
           there = shown.1;
-          text_is =
-              ap (λ (ns : List (Vec ℕ Global)). vars_text (map (λ name. name.items) ns) c.in-Ok.vars.now) c.deref.ensures.value
-              ∙ ap (vars_text (map (λ name. name.items) l.integers.items)) shown.2;
+          said_is =
+              ap (λ (ns : List (Vec ℕ Global)). vars_said (map (λ name. name.items) ns) c.in-Ok.vars.now) c.deref.ensures.value
+              ∙ ap (vars_said (map (λ name. name.items) l.integers.items)) shown.2;
         },
       ),
       e,
     ))
+
+pub returns-in_default : goal.returns-in_default
+returns-in_default c =
+    on_ok c.say_refusal.result _ _ c.say_refusal.ensures (λ e. (refusal_said NoProcess, inr (c.in_default.ensures.none, refl), e))

@@ -1,14 +1,14 @@
-use Rattle.std.proofs.Common.{◌≡◌, ◌<◌, ℕ, List, length, map, Option, Some, None, slice_get, inl, inr, refl, sym, ap}
+use Rattle.std.proofs.Common.{◌≡◌, ◌<◌, ◌∷◌, [], ℕ, List, length, map, Option, Some, None, slice_get, inl, inr, refl, sym, ap}
 use Rattle.std.proofs.Common.{◌∙◌, subst, arith, Vec, Global}
 use Rattle.std.proofs.lemmas.List.{length-map}
 use Rattle.std.proofs.lemmas.Option.{slice_get_read}
 use Rattle.pb_base.proofs.Lists.{get_some}
 use Rattle.pb_code.specs.View.{process_labels_view}
 use Rattle.pb_debug_positions.specs.Searches.{Does, IsLast}
-use Rattle.pb_debug.specs.Refusals.{refusal_text}
-use Rattle.pb_debug_texts.specs.Texts.{never_text}
+use Rattle.pb_debug.specs.Refusals.{refusal_said}
+use Rattle.pb_debug_texts.specs.Things.{Never}
 use Rattle.pb_debug.specs.Value.{Debugging, state_of}
-use Rattle.pb_debug.specs.declared.fault.DebugFault.TheVariants.{BadCommand}
+use Rattle.pb_debug.specs.declared.fault.DebugFault.TheVariants.{BadCommand, NoProcess}
 use Rattle.pb_debug_positions.specs.declared.search.Watch.TheVariants as watch
 use Rattle.pb_debug.proofs.Positions.{in_labels}
 use Rattle.pb_debug.proofs.Lines.{labels_here}
@@ -41,8 +41,8 @@ returns-in_default-find_name c =
     let none : (x : ℕ) → slice_get (map (λ (name : Vec ℕ Global). name.items) l.integers.items) x ≡ Some name → ⊥ =
     subst (λ (ns : List (Vec ℕ Global)). (x : ℕ) → slice_get (map (λ name. name.items) ns) x ≡ Some name → ⊥) c.deref.ensures.value
     c.in_default-find_name.ensures.none in
-    on_ok c.put_refusal-in_default-find_name.result _ _ c.put_refusal-in_default-find_name.ensures (λ e. (
-      refusal_text BadCommand,
+    on_ok c.say_refusal-in_default-find_name.result _ _ c.say_refusal-in_default-find_name.ensures (λ e. (
+      refusal_said BadCommand,
       inl (p, c.in-Some.ensures.some, record { labels = process_labels_view l; labels_there = labels_there; says = inr (none, refl) }),
       e,
     ))
@@ -94,8 +94,12 @@ returns-in-None c =
     let last : IsLast holds 0 d.position None =
     subst (λ (n : ℕ). IsLast holds 0 n None) c.position.ensures.position
     (subst (λ (o : Option ℕ). IsLast holds 0 c.position.result o) c.in-None.is c.in_ok-k.ensures) in
-    on_ok c.put_never.result _ _ c.put_never.ensures (λ e. (
-      never_text,
+    on_ok c.say.result _ _ c.say.ensures (λ e. (
+      Never ∷ [],
       inl (p, c.in-Some.ensures.some, record { labels = process_labels_view l; labels_there = labels_there; says = inl (x, x_there, None, last, refl) }),
       e,
     ))
+
+pub returns-in_default : goal.returns-in_default
+returns-in_default c =
+    on_ok c.say_refusal.result _ _ c.say_refusal.ensures (λ e. (refusal_said NoProcess, inr (c.in_default.ensures.none, refl), e))

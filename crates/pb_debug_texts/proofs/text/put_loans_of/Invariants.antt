@@ -1,9 +1,0 @@
-use Rattle.std.proofs.Common.{◌≡◌, ◌++◌}
-use Rattle.pb_banker.specs.Lenders.{lender_state}
-use Rattle.pb_base.specs.Lines.{names_view, each_below}
-use Rattle.pb_debug_texts.specs.Texts.{loan_text}
-use Rattle.pb_debug_texts.proofs.text.put_loans_of.Given as goal
-
-abbrev pub invariant-loop-r : goal.invariant-loop-r
-invariant-loop-r l =
-    l.text.items ≡ l.initial.text.items ++ each_below (loan_text (names_view l.names) (lender_state l.bank) l.p) l.r

@@ -1,9 +1,0 @@
-use Rattle.std.proofs.Common.{◌≡◌, ◌++◌, codes}
-use Rattle.std.specs.Prelude.{slice_index}
-use Rattle.pb_base.specs.Lines.{names_view, name_of, each_below}
-use Rattle.pb_debug_texts.proofs.text.put_names.Given as goal
-
-abbrev pub invariant-loop-k : goal.invariant-loop-k
-invariant-loop-k l =
-    l.text.items ≡ l.initial.text.items
-    ++ each_below (λ k. codes " " ++ name_of (names_view l.names).processes (slice_index l.processes k)) l.k
