@@ -11,7 +11,10 @@ pub mod PlaceLemmas
 pub mod QueueTexts
 pub mod QueuedWishes
 pub mod ReadingDesks
+pub mod ReadBack
 pub mod RefusedDesks
+pub mod SavedRows
+pub mod SavedSteps
 pub mod SlotNames
 pub mod StartDesks
 pub mod Waiting

@@ -6,6 +6,7 @@ pub mod Queues
 pub mod Reading
 pub mod Refusals
 pub mod Requests
+pub mod Saved
 pub mod Words
 pub mod Objects
 pub mod Sayings
