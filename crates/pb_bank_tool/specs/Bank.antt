@@ -1,6 +1,5 @@
 -- What the tool that answers `bank` says.
-use Rattle.std.specs.Prelude.{ℕ, Bool, false, List, [], ◌∷◌, IfSome, Option, codes}
-use Rattle.std.specs.Str.{bytes_eq}
+use Rattle.std.specs.Prelude.{ℕ, List, IfSome, Option}
 use Rattle.pb_bank_engine.specs.Forms.{text_of}
 use Rattle.pb_bank_engine.specs.Sessions.{AnswersLines, SaysBefore, SaysOfBank}
 use Rattle.pb_command_io.specs.declared.status.Status.{Status}
@@ -8,12 +7,6 @@ use Rattle.pb_voice.specs.Voices.{Written}
 use Rattle.pb_voice.specs.declared.form.Form.{Form}
 use Rattle.pb_words.specs.declared.words.Options.{Options}
 use Rattle.pb_words.specs.declared.words.Options.TheVariants as option
-
--- whether the command of some words writes objects as it writes lines: `bank` does, the word after the program's name
-abbrev pub in_objects : List (List ℕ) → Bool
-in_objects [] = false
-in_objects (name ∷ []) = false
-in_objects (name ∷ command ∷ words) = bytes_eq command (codes "bank")
 
 -- what its command may say of an input in a form
 abbrev pub says : Form → Options → List ℕ → List ℕ → Status → Type 0

@@ -1,6 +1,6 @@
 //! What the tool does with its command.
 
-ghost use Rattle.pb_bank_tool.specs.Bank.{in_objects, leaves, says};
+ghost use Rattle.pb_bank_tool.specs.Bank.{leaves, says};
 ghost use Rattle.pb_words.specs.declared.tool.Tool.TheVariants.{Bank};
 
 use pb_bank_engine::bank_engine;
@@ -22,18 +22,9 @@ impl Commands for BankTool {
 
     ghost MaySay = { says };
 
-    ghost in_objects = { in_objects };
-
     ghost Leaves = { leaves };
 
     ghost TellsRefused = { λ o bytes told. ⊥ };
-
-    fn has_objects(&self, words: &[&str]) -> bool {
-        match words {
-            [_, command, ..] => *command == "bank",
-            _ => false,
-        }
-    }
 
     fn answer<R: Threads + Wait + Sync, I: Input, O: Output>(
         &self,

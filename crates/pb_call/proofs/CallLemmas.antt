@@ -1,12 +1,12 @@
 -- From what was said to what a call writes, and what a command tells of its devices.
-use Rattle.std.proofs.Common.{◌≡◌, ◌≢◌, List, ℕ, Option, inl, inr, subst, sym}
+use Rattle.std.proofs.Common.{◌≡◌, ◌≢◌, ◌⊎◌, List, ℕ, Option, inl, inr, refl, subst, sym}
 use Rattle.std.specs.Prelude.{IfSome}
 use Rattle.std.specs.Borrow.{Bor}
 use Rattle.pb_call.specs.Calls.{AfterRead, CallWrites, Saying, bytes_for, fault_status, words_fault_text}
 use Rattle.pb_command_io.specs.Answers.{Says, Tells}
 use Rattle.pb_command_io.specs.Faults.{Devices, TellsAnyFault, TellsFaults, TellsWriteFaults}
 use Rattle.pb_command_io.specs.declared.status.Status.{Status}
-use Rattle.pb_json_lines.proofs.ReplyLemmas.{is_device}
+use Rattle.pb_command_io.specs.declared.status.Status.TheVariants.{Done, Refused, Words, Limit, Fault, Memory, Device, Threads, Deadlock, Unexpected}
 use Rattle.pb_voice.specs.declared.form.Form.{Form}
 use Rattle.pb_words.specs.Read.{BlamesWords, WordsSay}
 use Rattle.pb_words.specs.declared.tool.Tool.{Tool}
@@ -30,6 +30,19 @@ any_fault old new status tells = (
     | inr write ↦ inr write
   ],
 )
+
+-- the status is that of a device, or not
+is_device : (status : Status) → (status ≡ Device) ⊎ (status ≢ Device)
+is_device Done = inr (λ e. cc)
+is_device Refused = inr (λ e. cc)
+is_device Words = inr (λ e. cc)
+is_device Limit = inr (λ e. cc)
+is_device Fault = inr (λ e. cc)
+is_device Memory = inr (λ e. cc)
+is_device Device = inl refl
+is_device Threads = inr (λ e. cc)
+is_device Deadlock = inr (λ e. cc)
+is_device Unexpected = inr (λ e. cc)
 
 -- and if a read fails, nothing is written
 pub nothing_left : (old new : Devices) (status : Status) → TellsFaults old new status → new.reads ≢ old.reads → new.written ≡ old.written

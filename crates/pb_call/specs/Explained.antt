@@ -1,16 +1,12 @@
 -- What a call of a tool writes on its output and on standard error: its answer, and what a person is told of a refusal.
-use Rattle.std.specs.Prelude.{◌≡◌, ◌⊎◌, ◌↔◌, IsTrue, ℕ, Bool, true, false, List, [], ◌∷◌, map, Option, Some, codes}
+use Rattle.std.specs.Prelude.{◌≡◌, ◌⊎◌, ◌↔◌, IsTrue, ℕ, Bool, true, false, List, [], ◌∷◌, Option, Some, codes}
 use Rattle.std.specs.Borrow.{Bor}
 use Rattle.clap.specs.Words.{Text}
 use Rattle.pb_base.specs.Device.{appended, one_more_failure, AddsPrefix}
 use Rattle.pb_call.specs.Calls.{AfterRead, CallTellsFaults, CallWrites, Saying}
-use Rattle.pb_command_io.specs.Faults.{Devices, TellsFaults}
+use Rattle.pb_command_io.specs.Faults.{Devices}
 use Rattle.pb_command_io.specs.declared.status.Status.{Status}
-use Rattle.pb_command_io.specs.declared.status.Status.TheVariants.{Device, Done, Fault, Limit, Refused}
-use Rattle.pb_json_lines.specs.Dialects.{comes_live, dialect_of}
-use Rattle.pb_json_lines.specs.Live.{IsEnded, LiveSink, begun, failures_of_writers, seen_by_writers}
-use Rattle.pb_json_lines.specs.Replies.{TellsInJson}
-use Rattle.pb_json_lines.specs.declared.form.Dialect.{Dialect}
+use Rattle.pb_command_io.specs.declared.status.Status.TheVariants.{Device, Fault, Limit, Refused}
 use Rattle.pb_voice.specs.declared.form.Form.{Form}
 use Rattle.pb_voice.specs.declared.form.Form.TheVariants.{Lines, Objects}
 use Rattle.pb_words.specs.Read.{WordsSay}
@@ -145,69 +141,24 @@ TellsPerson TellsRefused words heard status kept old new =
     ⊎ ((status ≡ Limit) × ExplainsLimit heard old new ⊎ ((status ≡ Fault) × ExplainsFault heard old new
     ⊎ (status ≡ Device) × Wrote old new device_message))))
 
--- what a call writes as JSON lines: those of what it would write to memory, if there is enough, in the forms of its
--- command, with its status
-abbrev pub WritesJson : Tool → Saying → (words : List (Bor Text)) → (rest old new : Option (List ℕ)) → Status → Type 0
-WritesJson tool MaySay words rest old new status =
-    (bytes : List ℕ) × (given : Status) × CallWrites tool MaySay Lines words rest (Some []) (Some bytes) given
-    × TellsInJson (dialect_of (map (λ word. word.now) words) given) bytes given old new status
+-- the form of an answer, by whether it is to be JSON lines
+abbrev pub form_of : (json : Bool) → Form
+form_of true = Objects
+form_of false = Lines
 
--- the devices of a call, as they are seen who writes to its output
-abbrev pub devices_of : (reads : ℕ) → LiveSink → Devices
-devices_of reads s = record { reads = reads; writes = failures_of_writers s; written = seen_by_writers s }
-
--- an answer in JSON lines that come as the command goes on: the command writes to the output, which has begun to tell
--- lines in these forms, and then what is left of them is told
-pub record AnswersLive (tool : Tool) (MaySay : Saying) (Leaves : Form → AfterRead) (dialect : Dialect) (words : List (Bor Text))
-    (rest left : Option (List ℕ)) (reads_old reads_new : ℕ) (old new : LiveSink) (status : Status) : Type 0 where
-  pub given : Status
-  pub heard : LiveSink
-  pub writes : CallWrites tool MaySay Lines words rest (seen_by_writers (begun dialect old)) (seen_by_writers heard) given
-  pub faults : CallTellsFaults tool (Leaves Lines) words rest left (devices_of reads_old (begun dialect old)) (devices_of reads_new heard) given
-  pub ended : IsEnded heard given new status
-
--- an answer in JSON lines, by whether those of the command come as it goes on, or at its end
-abbrev pub AnswersInJson : Tool → Saying → (Form → AfterRead) → (live : Bool) → (words : List (Bor Text)) → (rest left : Option (List ℕ))
-    → (reads_old reads_new : ℕ) → (old new : LiveSink) → Status → Type 0
-AnswersInJson tool MaySay Leaves true words rest left reads_old reads_new old new status =
-    AnswersLive tool MaySay Leaves (dialect_of (map (λ word. word.now) words) Done) words rest left reads_old reads_new old new status
-AnswersInJson tool MaySay Leaves false words rest left reads_old reads_new old new status =
-    WritesJson tool MaySay words rest (seen_by_writers old) (seen_by_writers new) status
-    × TellsFaults (devices_of reads_old old) (devices_of reads_new new) status
-
--- the answer of a call whose command writes in this form
+-- a call writes its answer in a form, and tells which device failed
 abbrev pub AnswersInForm : Tool → Saying → (Form → AfterRead) → Form → (words : List (Bor Text)) → (rest left : Option (List ℕ))
-    → (reads_old reads_new : ℕ) → (old new : LiveSink) → Status → Type 0
-AnswersInForm tool MaySay Leaves form words rest left reads_old reads_new old new status =
-    CallWrites tool MaySay form words rest (seen_by_writers old) (seen_by_writers new) status
-    × CallTellsFaults tool (Leaves form) words rest left (devices_of reads_old old) (devices_of reads_new new) status
-
--- the answer of a call in JSON, by whether its command writes objects itself; if it does not, they are made of its lines
-abbrev pub AnswersAsObjects : Tool → Saying → (Form → AfterRead) → (itself : Bool) → (words : List (Bor Text)) → (rest left : Option (List ℕ))
-    → (reads_old reads_new : ℕ) → (old new : LiveSink) → Status → Type 0
-AnswersAsObjects tool MaySay Leaves true words rest left reads_old reads_new old new status =
-    AnswersInForm tool MaySay Leaves Objects words rest left reads_old reads_new old new status
-AnswersAsObjects tool MaySay Leaves false words rest left reads_old reads_new old new status =
-    AnswersInJson tool MaySay Leaves (comes_live (dialect_of (map (λ word. word.now) words) Done)) words rest left reads_old reads_new old new status
-
--- by the words of a call, whether its command writes its objects of JSON itself
-abbrev pub InObjects : Type 0
-InObjects = List Text → Bool
-
--- the answer of a call, in lines or in JSON
-abbrev pub Answers : Tool → Saying → (Form → AfterRead) → InObjects → (json : Bool) → (words : List (Bor Text)) → (rest left : Option (List ℕ))
-    → (reads_old reads_new : ℕ) → (old new : LiveSink) → Status → Type 0
-Answers tool MaySay Leaves in_objects false words rest left reads_old reads_new old new status =
-    AnswersInForm tool MaySay Leaves Lines words rest left reads_old reads_new old new status
-Answers tool MaySay Leaves in_objects true words rest left reads_old reads_new old new status =
-    AnswersAsObjects tool MaySay Leaves (in_objects (map (λ word. word.now) words)) words rest left reads_old reads_new old new status
+    → (old new : Devices) → Status → Type 0
+AnswersInForm tool MaySay Leaves form words rest left old new status =
+    CallWrites tool MaySay form words rest old.written new.written status
+    × CallTellsFaults tool (Leaves form) words rest left old new status
 
 -- the answer of a call is on its output, in JSON lines if `--json` is the first word but for `--quiet`, and what a
 -- person is told of it on standard error; the words are read without these two
-abbrev pub AnswersAndExplains : Tool → Saying → (Form → AfterRead) → InObjects → Telling → (words : List (Bor Text)) → (rest left kept : Option (List ℕ))
-    → (reads_old reads_new : ℕ) → (old new : LiveSink) → (error_old error_new : Devices) → Status → Type 0
-AnswersAndExplains tool MaySay Leaves in_objects TellsRefused words rest left kept reads_old reads_new old new error_old error_new status =
+abbrev pub AnswersAndExplains : Tool → Saying → (Form → AfterRead) → Telling → (words : List (Bor Text)) → (rest left kept : Option (List ℕ))
+    → (old new error_old error_new : Devices) → Status → Type 0
+AnswersAndExplains tool MaySay Leaves TellsRefused words rest left kept old new error_old error_new status =
     (heard : List (Bor Text)) × (said : List (Bor Text)) × (json : Bool)
     × IsWithout (codes "--quiet") words heard × IsWithout (codes "--json") heard said × (IsTrue json ↔ IsInJson heard)
-    × Answers tool MaySay Leaves in_objects json said rest left reads_old reads_new old new status
+    × AnswersInForm tool MaySay Leaves (form_of json) said rest left old new status
     × TellsPerson TellsRefused words said status kept error_old error_new

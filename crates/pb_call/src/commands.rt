@@ -1,6 +1,6 @@
 //! What a tool does with its commands.
 
-ghost use Rattle.std.specs.Prelude.{◌≡◌, ◌≢◌, ℕ, Bool, List, Option as MaybeBytes, IfNone, IfOk, IfSome, map};
+ghost use Rattle.std.specs.Prelude.{◌≡◌, ◌≢◌, ℕ, List, Option as MaybeBytes, IfNone, IfOk, IfSome};
 ghost use Rattle.std.specs.Thread.{IsSync};
 ghost use Rattle.pb_command_io.specs.Answers.{Tells};
 ghost use Rattle.pb_command_io.specs.Faults.{TellsAnyFault};
@@ -27,9 +27,6 @@ pub trait Commands {
     /// What a command may say of the bytes of its input in a form, and with which status.
     ghost MaySay: { AnyForm → AnyOptions → List ℕ → List ℕ → AnyStatus → Type 0 };
 
-    /// Whether the command of some words writes its objects of JSON itself. If it does not, they are made of its lines.
-    ghost in_objects: { List (List ℕ) → Bool };
-
     /// What a command has written in a form if a read of it fails, by the bytes that were to come before the command and
     /// after it, and what was written before.
     ghost Leaves: { AnyForm → AnyOptions → (rest left : MaybeBytes (List ℕ)) → (old new : MaybeBytes (List ℕ)) → Type 0 };
@@ -37,12 +34,7 @@ pub trait Commands {
     /// What a person is told of bytes that a command refused.
     ghost TellsRefused: { AnyOptions → (bytes told : List ℕ) → Type 0 };
 
-    /// Returns whether the command of some words, of which the first is the program's own name, writes its objects of
-    /// JSON itself.
-    fn has_objects(&self, words: &[&str]) -> bool
-        ensures { result ≡ in_objects (map (λ w. w.now) words.now) };
-
-    /// Does what the options say, writes it in this form if the command has it, and returns the status. If another tool
+    /// Does what the options say, writes it in this form, and returns the status. If another tool
     /// answers the command, nothing is read or written, and nothing is returned. Commands that start threads or wait do
     /// so by the handle.
     fn answer<R: Threads + Wait + Sync, I: Input, O: Output>(

@@ -1,7 +1,8 @@
 //! The answer of a call, and what a person is told of it.
 
 ghost use Rattle.std.specs.Prelude.{◌≡◌, ◌↔◌, IsTrue, codes, map};
-ghost use Rattle.pb_call.specs.Explained.{Answers, AnswersAndExplains, AnswersAsObjects, IsFirst, IsWithout};
+ghost use Rattle.pb_call.specs.Explained as spec;
+ghost use Rattle.pb_call.specs.Explained.{AnswersAndExplains, AnswersInForm, IsFirst, IsWithout};
 
 use crate::answer::answer;
 use crate::commands::Commands;
@@ -9,11 +10,9 @@ use crate::explain_device::explain_device;
 use crate::explain_fault::explain_fault;
 use crate::explain_limit::explain_limit;
 use crate::explain_refusal::explain_refusal;
-use crate::in_json::answer_in_json;
 use crate::kept::KeptInput;
 use pb_base::{Input, Output};
 use pb_command_io::Status;
-use pb_json_lines::LiveOutput;
 use pb_voice::Form;
 use std::alloc::Global;
 use std::sync::Wait;
@@ -21,34 +20,28 @@ use std::thread::Threads;
 
 /// Does what the words of a call say, of which the first is the program's own name, and explains a refusal, how a
 /// limit is raised, how it is seen where a process faulted, or that input or output failed, on standard error, unless the
-/// next word is `--quiet`. If
-/// `--json` is the next word, or the one after `--quiet`, the answer is JSON lines. Returns the status of the call.
+/// next word is `--quiet`. If `--json` is the next word, or the one after `--quiet`, the answer is JSON lines. Returns
+/// the status of the call.
 pub fn answer_and_explain<R: Threads + Wait + Sync, C: Commands, I: Input, O: Output, E: Output>(
     commands: &C,
     rt: &R,
     alloc: Global,
     words: &[&str],
     input: &mut KeptInput<I>,
-    output: &mut LiveOutput<O>,
+    output: &mut O,
     error: &mut E,
 ) -> Status
-    ensures { AnswersAndExplains C.tool C.MaySay C.Leaves C.in_objects C.TellsRefused words.now input.old.rest input.new.rest input.new.kept
-        input.old.failures input.new.failures output.old output.new
+    ensures { AnswersAndExplains C.tool C.MaySay C.Leaves C.TellsRefused words.now input.old.rest input.new.rest input.new.kept
+        (record { reads = input.old.failures; writes = O.failures output.old; written = O.written output.old })
+        (record { reads = input.new.failures; writes = O.failures output.new; written = O.written output.new })
         (record { reads = input.old.failures; writes = E.failures error.old; written = E.written error.old })
         (record { reads = input.new.failures; writes = E.failures error.new; written = E.written error.new })
         result }
 {
     let heard = without(words, "--quiet");
     let said = without(heard, "--json");
-    let status = answer_as(
-        commands,
-        rt,
-        alloc,
-        is_first(heard, "--json"),
-        said,
-        input,
-        output,
-    );
+    let json = is_first(heard, "--json");
+    let status = answer_as(commands, rt, alloc, json, said, input, output);
     if is_first(words, "--quiet") {
         return status;
     }
@@ -70,7 +63,7 @@ pub fn answer_and_explain<R: Threads + Wait + Sync, C: Commands, I: Input, O: Ou
     status
 }
 
-/// Answers a call, as it is or in JSON lines.
+/// Answers a call in lines, or in JSON lines.
 fn answer_as<R: Threads + Wait + Sync, C: Commands, I: Input, O: Output>(
     commands: &C,
     rt: &R,
@@ -78,35 +71,22 @@ fn answer_as<R: Threads + Wait + Sync, C: Commands, I: Input, O: Output>(
     json: bool,
     words: &[&str],
     input: &mut KeptInput<I>,
-    output: &mut LiveOutput<O>,
+    output: &mut O,
 ) -> Status
-    ensures { Answers C.tool C.MaySay C.Leaves C.in_objects json words.now input.old.rest input.new.rest input.old.failures input.new.failures
-        output.old output.new result }
+    ensures { AnswersInForm C.tool C.MaySay C.Leaves (spec.form_of json) words.now input.old.rest input.new.rest
+        (record { reads = input.old.failures; writes = O.failures output.old; written = O.written output.old })
+        (record { reads = input.new.failures; writes = O.failures output.new; written = O.written output.new })
+        result }
 {
-    if json {
-        answer_as_objects(commands, rt, alloc, words, input, output)
-    } else {
-        answer(commands, rt, alloc, Form::Lines, words, input, output)
-    }
+    let form = form_of(json);
+    answer(commands, rt, alloc, form, words, input, output)
 }
 
-/// Answers a call in JSON lines: by its command itself, if it writes objects; else they are made of its lines.
-fn answer_as_objects<R: Threads + Wait + Sync, C: Commands, I: Input, O: Output>(
-    commands: &C,
-    rt: &R,
-    alloc: Global,
-    words: &[&str],
-    input: &mut KeptInput<I>,
-    output: &mut LiveOutput<O>,
-) -> Status
-    ensures { AnswersAsObjects C.tool C.MaySay C.Leaves (C.in_objects (map (λ w. w.now) words.now)) words.now
-        input.old.rest input.new.rest input.old.failures input.new.failures output.old output.new result }
+/// Returns the form of an answer, by whether it is to be JSON lines.
+fn form_of(json: bool) -> Form
+    ensures { result ≡ spec.form_of json }
 {
-    if commands.has_objects(words) {
-        answer(commands, rt, alloc, Form::Objects, words, input, output)
-    } else {
-        answer_in_json(commands, rt, alloc, words, input, output)
-    }
+    if json { Form::Objects } else { Form::Lines }
 }
 
 /// Returns whether a word is the first after the program's name.

@@ -9,7 +9,6 @@ mod explain_fault;
 mod explain_limit;
 mod explain_refusal;
 mod explained;
-mod in_json;
 mod kept;
 mod standard_error;
 pub mod start;

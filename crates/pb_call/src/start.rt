@@ -6,7 +6,6 @@ use crate::kept::KeptInput;
 use crate::standard_error::StandardError;
 use pb_base::{StandardInput, StandardOutput};
 use pb_command_io::{Page, Status};
-use pb_json_lines::LiveOutput;
 use std::alloc::AllocError;
 use std::env;
 use std::io::ErrorKind;
@@ -19,11 +18,10 @@ pub fn start<R: env::Env + AllocGlobal + Threads + Wait + Sync, C: Commands>(
     commands: &C,
     rt: &R,
     input: StandardInput,
-    output: StandardOutput,
+    mut output: StandardOutput,
     mut error: StandardError,
 ) -> ExitCode {
     let mut input = KeptInput::new(rt.alloc(), input);
-    let mut output = LiveOutput::new(rt.alloc(), output);
     let status = answer_words(commands, rt, &mut input, &mut output, &mut error);
     ExitCode::from(status.number())
 }
@@ -33,7 +31,7 @@ fn answer_words<R: env::Env + AllocGlobal + Threads + Wait + Sync, C: Commands>(
     commands: &C,
     rt: &R,
     input: &mut KeptInput<StandardInput>,
-    output: &mut LiveOutput<StandardOutput>,
+    output: &mut StandardOutput,
     error: &mut StandardError,
 ) -> Status {
     let alloc = rt.alloc();

@@ -1,6 +1,5 @@
 -- What the tool that debugs and draws says.
-use Rattle.std.specs.Prelude.{◌≡◌, ℕ, Bool, true, false, List, [], ◌∷◌, IfSome, Option, codes}
-use Rattle.std.specs.Str.{bytes_eq}
+use Rattle.std.specs.Prelude.{◌≡◌, ℕ, Bool, true, false, List, IfSome, Option}
 use Rattle.pb_accept.specs.Claims.{SaysOfAny}
 use Rattle.pb_accept.specs.Objects.{text_of}
 use Rattle.pb_adapter_engine.specs.Adapters.{AnswersMessages, SaysOfAdapter}
@@ -24,16 +23,6 @@ use Rattle.pb_words.specs.declared.words.Options.TheVariants as option
 abbrev pub says_of_commands : (live : Bool) → Lending → List ℕ → List ℕ → Status → Type 0
 says_of_commands true lending = SaysOfLive lending
 says_of_commands false lending = SaysOfInput (SaysOfDebug lending)
-
--- this command tells data, and so writes objects as it writes lines
-abbrev pub is_data : (command : List ℕ) → Bool
-is_data command = bytes_eq command (codes "draw")
-
--- whether the command of some words does; it is the word after the program's name
-abbrev pub in_objects : List (List ℕ) → Bool
-in_objects [] = false
-in_objects (name ∷ []) = false
-in_objects (name ∷ command ∷ words) = is_data command
 
 -- what its commands may say of an input in a form; the others have lines alone
 abbrev pub says : Form → Options → List ℕ → List ℕ → Status → Type 0

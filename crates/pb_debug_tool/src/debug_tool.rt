@@ -1,7 +1,7 @@
 //! What the tool does with its commands.
 
-ghost use Rattle.std.specs.Prelude.{◌≡◌, IfOk};
-ghost use Rattle.pb_debug_tool.specs.Debug.{in_objects, is_data, leaves, says, tells_debugged, tells_refused};
+ghost use Rattle.std.specs.Prelude.{IfOk};
+ghost use Rattle.pb_debug_tool.specs.Debug.{leaves, says, tells_debugged, tells_refused};
 ghost use Rattle.pb_options.specs.Lends.{lending_for};
 ghost use Rattle.pb_words.specs.declared.tool.Tool.TheVariants.{Debug};
 
@@ -28,18 +28,9 @@ impl Commands for DebugTool {
 
     ghost MaySay = { says };
 
-    ghost in_objects = { in_objects };
-
     ghost Leaves = { λ form. leaves };
 
     ghost TellsRefused = { tells_refused };
-
-    fn has_objects(&self, words: &[&str]) -> bool {
-        match words {
-            [_, command, ..] => tells_data(command),
-            _ => false,
-        }
-    }
 
     fn answer<R: Threads + Wait + Sync, I: Input, O: Output>(
         &self,
@@ -74,13 +65,6 @@ impl Commands for DebugTool {
             _ => None,
         }
     }
-}
-
-/// Returns whether a command tells data, and so writes objects as it writes lines.
-fn tells_data(command: &str) -> bool
-    ensures { result ≡ is_data command.now }
-{
-    command == "draw"
 }
 
 /// Returns the message of what `debug` refused, by whether it reads the commands as they come.

@@ -24,15 +24,9 @@ impl Commands for EditTool {
 
     ghost MaySay = { says };
 
-    ghost in_objects = { λ words. false };
-
     ghost Leaves = { λ form. leaves };
 
     ghost TellsRefused = { λ o bytes told. ⊥ };
-
-    fn has_objects(&self, _words: &[&str]) -> bool {
-        false
-    }
 
     fn answer<R: Threads + Wait + Sync, I: Input, O: Output>(
         &self,

@@ -1,6 +1,5 @@
 -- What the tool that runs texts and objects says.
-use Rattle.std.specs.Prelude.{◌≡◌, ◌||◌, ℕ, Bool, false, List, [], ◌∷◌, Option, codes}
-use Rattle.std.specs.Str.{bytes_eq}
+use Rattle.std.specs.Prelude.{◌≡◌, ℕ, List, Option}
 use Rattle.pb_accept.specs.Checks.{SaysOfChecks}
 use Rattle.pb_accept.specs.Claims.{SaysOfAny, SaysOfClaims}
 use Rattle.pb_accept.specs.Emissions.{SaysOfEmission}
@@ -22,19 +21,6 @@ use Rattle.pb_voice.specs.Voices.{Written}
 use Rattle.pb_voice.specs.declared.form.Form.{Form}
 use Rattle.pb_words.specs.declared.words.Options.{Options}
 use Rattle.pb_words.specs.declared.words.Options.TheVariants as option
-
--- these commands tell data, and so write objects as they write lines
-abbrev pub is_data : (command : List ℕ) → Bool
-is_data command =
-    bytes_eq command (codes "check") || bytes_eq command (codes "claims") || bytes_eq command (codes "emit")
-    || bytes_eq command (codes "exec") || bytes_eq command (codes "explain") || bytes_eq command (codes "migrate")
-    || bytes_eq command (codes "record") || bytes_eq command (codes "replay") || bytes_eq command (codes "run")
-
--- whether the command of some words does; it is the word after the program's name
-abbrev pub in_objects : List (List ℕ) → Bool
-in_objects [] = false
-in_objects (name ∷ []) = false
-in_objects (name ∷ command ∷ words) = is_data command
 
 -- what its commands may say of an input in a form
 abbrev pub says : Form → Options → List ℕ → List ℕ → Status → Type 0

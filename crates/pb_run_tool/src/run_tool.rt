@@ -1,7 +1,7 @@
 //! What the tool does with its commands.
 
 ghost use Rattle.std.specs.Prelude.{◌≡◌};
-ghost use Rattle.pb_run_tool.specs.Run.{format_reading, is_data, leaves, says, tells_refused, in_objects};
+ghost use Rattle.pb_run_tool.specs.Run.{format_reading, leaves, says, tells_refused};
 ghost use Rattle.pb_words.specs.declared.tool.Tool.TheVariants.{Run};
 
 use pb_base::{Input, NoMemory, Output};
@@ -30,18 +30,9 @@ impl Commands for RunTool {
 
     ghost MaySay = { says };
 
-    ghost in_objects = { in_objects };
-
     ghost Leaves = { λ form. leaves };
 
     ghost TellsRefused = { tells_refused };
-
-    fn has_objects(&self, words: &[&str]) -> bool {
-        match words {
-            [_, command, ..] => tells_data(command),
-            _ => false,
-        }
-    }
 
     fn answer<R: Threads + Wait + Sync, I: Input, O: Output>(
         &self,
@@ -99,19 +90,4 @@ fn reading_of(format: Format) -> Reading
         Format::One => Reading::FirstFormat,
         Format::Two => Reading::Text,
     }
-}
-
-/// Returns whether a command tells data, and so writes objects as it writes lines.
-fn tells_data(command: &str) -> bool
-    ensures { result ≡ is_data command.now }
-{
-    command == "check"
-        || command == "claims"
-        || command == "emit"
-        || command == "exec"
-        || command == "explain"
-        || command == "migrate"
-        || command == "record"
-        || command == "replay"
-        || command == "run"
 }

@@ -1,7 +1,5 @@
 -- What the tool that goes through all runs says.
-use Rattle.std.specs.Prelude.{◌≡◌, ◌&&◌, ◌||◌, ℕ, Bool, true, false, not, nat_eq, List, [], ◌∷◌, Option, codes}
-use Rattle.std.specs.List.{list_any, starts_with}
-use Rattle.std.specs.Str.{bytes_eq}
+use Rattle.std.specs.Prelude.{◌≡◌, ℕ, Bool, true, false, List, Option}
 use Rattle.pb_accept.specs.Claims.{SaysOfAny}
 use Rattle.pb_accept.specs.Objects as told
 use Rattle.pb_capitals.specs.Changes.{changes_in}
@@ -24,24 +22,6 @@ use Rattle.pb_words.specs.declared.words.Options.TheVariants as option
 -- the part of a run that the options of `states` name
 abbrev pub shown_by : StatesOptions → PartOfRun
 shown_by numbers = record { from = numbers.from; rows = numbers.rows }
-
--- a word asks `outcomes` for something else than all outcomes, which has lines alone
-abbrev pub asks_else : List ℕ → Bool
-asks_else word =
-    starts_with nat_eq word (codes "--expect") || starts_with nat_eq word (codes "--endless") || starts_with nat_eq word (codes "--graph")
-    || starts_with nat_eq word (codes "--run") || starts_with nat_eq word (codes "--deadlock")
-
--- a command with these words after it tells data, and so writes objects as it writes lines
-abbrev pub tells_data : (command : List ℕ) → List (List ℕ) → Bool
-tells_data command words =
-    bytes_eq command (codes "plan") || bytes_eq command (codes "states")
-    || (bytes_eq command (codes "outcomes") && not (list_any asks_else words))
-
--- whether the command of some words does; it is the word after the program's name
-abbrev pub in_objects : List (List ℕ) → Bool
-in_objects [] = false
-in_objects (name ∷ []) = false
-in_objects (name ∷ command ∷ words) = tells_data command words
 
 -- what its commands may say of an input in a form; the others have lines alone
 abbrev pub says : Form → Options → List ℕ → List ℕ → Status → Type 0

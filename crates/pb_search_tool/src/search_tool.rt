@@ -1,9 +1,6 @@
 //! What the tool does with its commands.
 
-ghost use Rattle.std.specs.Prelude.{◌≡◌, map};
-ghost use Rattle.std.specs.List.{list_any};
-ghost use Rattle.pb_search_tool.specs.Search as spec;
-ghost use Rattle.pb_search_tool.specs.Search.{in_objects, leaves, says, tells_refused};
+ghost use Rattle.pb_search_tool.specs.Search.{leaves, says, tells_refused};
 ghost use Rattle.pb_words.specs.declared.tool.Tool.TheVariants.{Search};
 
 use crate::expected::outcomes_message;
@@ -30,18 +27,9 @@ impl Commands for SearchTool {
 
     ghost MaySay = { says };
 
-    ghost in_objects = { in_objects };
-
     ghost Leaves = { λ form. leaves };
 
     ghost TellsRefused = { tells_refused };
-
-    fn has_objects(&self, words: &[&str]) -> bool {
-        match words {
-            [_, command, rest @ ..] => tells_data(command, rest),
-            _ => false,
-        }
-    }
 
     fn answer<R: Threads + Wait + Sync, I: Input, O: Output>(
         &self,
@@ -83,30 +71,4 @@ impl Commands for SearchTool {
             _ => None,
         }
     }
-}
-
-/// Returns whether a word asks `outcomes` for something else than all outcomes, which has lines alone.
-fn asks_else(word: &str) -> bool
-    ensures { result ≡ spec.asks_else word.now }
-{
-    let word = word.as_bytes();
-    word.starts_with(b"--expect")
-        || word.starts_with(b"--endless")
-        || word.starts_with(b"--graph")
-        || word.starts_with(b"--run")
-        || word.starts_with(b"--deadlock")
-}
-
-/// Returns whether some word asks `outcomes` for something else than all outcomes.
-fn some_asks_else(words: &[&str]) -> bool
-    ensures { result ≡ list_any spec.asks_else (map (λ w. w.now) words.now) }
-{
-    words.iter().any(|word| asks_else(word))
-}
-
-/// Returns whether a command with these words after it tells data, and so writes objects as it writes lines.
-fn tells_data(command: &str, words: &[&str]) -> bool
-    ensures { result ≡ spec.tells_data command.now (map (λ w. w.now) words.now) }
-{
-    command == "plan" || command == "states" || (command == "outcomes" && !some_asks_else(words))
 }

@@ -9,20 +9,20 @@ returns-in-Refused-Some g c =
       | inl untouched ↦ (
         c.without-heard.result.now,
         c.without-said.result.now,
-        c.is_first.result,
+        c.is_first-json.result,
         c.without-heard.ensures,
         c.without-said.ensures,
-        c.is_first.ensures,
+        c.is_first-json.ensures,
         c.answer_as-status.ensures,
         inl untouched,
       )
       | inr explains ↦ (
         c.without-heard.result.now,
         c.without-said.result.now,
-        c.is_first.result,
+        c.is_first-json.result,
         c.without-heard.ensures,
         c.without-said.ensures,
-        c.is_first.ensures,
+        c.is_first-json.ensures,
         c.answer_as-status.ensures,
         inr (loud, inl (search rules, (c.in-Refused-Some.bytes.now, search rules, explains))),
       )
