@@ -8,7 +8,8 @@ use Rattle.pb_base.specs.Bundle.{IsDistinct}
 use Rattle.pb_base.specs.Steppers.{Bundle}
 use Rattle.pb_base.specs.Tables.{HasWidth}
 use Rattle.pb_base.specs.Banker.{cell}
-use Rattle.pb_code.specs.Code.{Instr, Push, Load, Store, Jump, JumpIfZero, Take, Give, Fork, Join, ProcessCode}
+use Rattle.pb_code.specs.Code.{Instr, Push, Load, Store, Jump, JumpIfZero, Take, Give, Fork, Join, Enter, Leave}
+use Rattle.pb_code.specs.Code.{ProcessCode}
 use Rattle.pb_code.specs.Whole.{Code, ProcessLabels}
 use Rattle.pb_code.specs.Names.{is_name_byte, reserved_words}
 
@@ -54,6 +55,8 @@ HasSmallNumbers (Take bundle) = IsSmallBundle bundle
 HasSmallNumbers (Give bundle) = IsSmallBundle bundle
 HasSmallNumbers (Fork first count) = IsUpTo (MAX_ARMS - 1) first × IsUpTo MAX_FORK count
 HasSmallNumbers (Join first count) = IsUpTo (MAX_ARMS - 1) first × IsUpTo MAX_FORK count
+HasSmallNumbers (Enter x) = x < MAX_INTEGERS
+HasSmallNumbers (Leave x) = x < MAX_INTEGERS
 HasSmallNumbers i = ⊤
 
 -- the integers, the arms, the places and the numbers of a process are within their limits

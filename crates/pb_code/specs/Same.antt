@@ -15,6 +15,8 @@ IsBare (given.Take k) = ⊥
 IsBare (given.Give k) = ⊥
 IsBare (given.Fork first count) = ⊥
 IsBare (given.Join first count) = ⊥
+IsBare (given.Enter x) = ⊥
+IsBare (given.Leave x) = ⊥
 IsBare i = ⊤
 
 -- process p has the same name, claims, number of integers, entries and instructions in both

@@ -16,6 +16,8 @@
 /// | `take`, `give` | | | the loan of the process rises, or falls, by a bundle |
 /// | `fork f n` | | | arms f to f+n-1 begin at their entries |
 /// | `join f n` | | | waits until these arms have ended; they are idle again |
+/// | `enter x` | | | waits until no arm of the process is inside the region of integer x; the arm is inside |
+/// | `leave x` | | | the arm is outside |
 /// | `end` | | | the arm has ended |
 // To add one: specs/, same.rt, pb_object, pb_groups, pb_verifier, pb_machine, pb_generator; docs/CHANGING.md.
 #[derive(Clone, Copy, Debug, PartialEq, Eq)]
@@ -70,6 +72,10 @@ pub enum Instr {
     Fork { first: u8, count: u8 },
     /// `join f n`
     Join { first: u8, count: u8 },
+    /// `enter x`
+    Enter(u8),
+    /// `leave x`
+    Leave(u8),
     /// `end`
     End,
 }

@@ -71,6 +71,8 @@ fn same_numbers(one: Instr, two: Instr) -> bool
         Instr::Join { first, count } => {
             matches!(two, Instr::Join { first: f, count: n } if first == f && count == n)
         }
+        Instr::Enter(x) => matches!(two, Instr::Enter(y) if x == y),
+        Instr::Leave(x) => matches!(two, Instr::Leave(y) if x == y),
         _ => same_bare(one, two),
     }
 }

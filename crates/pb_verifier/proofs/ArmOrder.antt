@@ -5,7 +5,7 @@ use Rattle.std.specs.Prelude.{slice_get}
 use Rattle.std.proofs.lemmas.List.{get_or_default, get_or_past}
 use Rattle.std.proofs.lemmas.Bool.{cases_lt}
 use Rattle.pb_code.specs.Code.{Instr, Push, Load, Store, Compute1, Compute2, Jump, JumpIfZero, PrintTop, Take, Give}
-use Rattle.pb_code.specs.Code.{Fork, Join, End, ProcessCode}
+use Rattle.pb_code.specs.Code.{Fork, Join, Enter, Leave, End, ProcessCode}
 use Rattle.pb_verifier.specs.Arms.{Closes, EntriesRise, IsClosed, JumpsStay}
 use Rattle.pb_verifier.specs.Faults.{HasArms}
 use Rattle.pb_verifier.specs.Flow.{target_of}
@@ -25,6 +25,8 @@ jumps_from (Take bundle) t e = cc
 jumps_from (Give bundle) t e = cc
 jumps_from (Fork first count) t e = cc
 jumps_from (Join first count) t e = cc
+jumps_from (Enter number) t e = cc
+jumps_from (Leave number) t e = cc
 jumps_from End t e = cc
 
 pub jumps_to : (i : Instr) (t : ℕ) → JumpsTo i t → target_of i ≡ Some t
@@ -63,6 +65,8 @@ module _ (code : ProcessCode) where
   pub closed_by : (a last : ℕ) (i : Instr) → last + 1 ≡ arm_end code a → InstrAt code last i → Closes i ↔ IsClosed code a
   closed_by a last i e read = (λ c place u. forth i read c place (omega arith), λ closed. back i read (closed last e))
     where
+      forth (Enter number) read c place same = elim c [ ]
+      forth (Leave number) read c place same = elim c [ ]
       forth : (i : Instr) → InstrAt code last i → Closes i → (place : ℕ) → place ≡ last → InstrAt code place End ⊎
           ((target : ℕ) × InstrAt code place (Jump target))
       forth (Push v) read c place same = elim c [ ]

@@ -5,10 +5,10 @@ use Rattle.std.specs.Prelude.{slice_get}
 use Rattle.std.proofs.lemmas.Bool.{cases_lt}
 use Rattle.pb_base.specs.Steppers.{Bundle}
 use Rattle.pb_code.specs.Code.{Instr, Push, Load, Store, Compute1, Compute2, Jump, JumpIfZero, PrintTop, Take, Give}
-use Rattle.pb_code.specs.Code.{Fork, Join, End, ProcessCode}
+use Rattle.pb_code.specs.Code.{Fork, Join, Enter, Leave, End, ProcessCode}
 use Rattle.pb_verifier.specs.Places.{InstrAt, arms, entry, arm_end, IsInArm, Follows, Reached}
 use Rattle.pb_verifier.specs.Faults.{HasArms, HasForks, pops, pushes, AreDepths, TurnsHoldings, AreHoldings}
-use Rattle.pb_verifier.specs.Faults.{EndsClear}
+use Rattle.pb_verifier.specs.Faults.{EndsClear, HasRegions}
 
 -- what the parts of the definition say of one process
 pub record Checked (code : ProcessCode) : Type 0 where
@@ -20,6 +20,7 @@ pub record Checked (code : ProcessCode) : Type 0 where
   pub held : ℕ → List Bundle
   pub holdings : AreHoldings code held
   pub clear : EndsClear code
+  pub regions : HasRegions code
 
 pub any_default : (xs : List ℕ) (i d e : ℕ) → i < length xs → get_or xs i d ≡ get_or xs i e
 any_default [] i d e u = elim (let w : ⊥ = omega arith in w) [ ]
@@ -119,6 +120,8 @@ module _ (code : ProcessCode) (lie : HasArms code) where
   follows_in_arm a p q (Give bundle) h at f = next_of a p q (Give bundle) h at tt f
   follows_in_arm a p q (Fork first count) h at f = next_of a p q (Fork first count) h at tt f
   follows_in_arm a p q (Join first count) h at f = next_of a p q (Join first count) h at tt f
+  follows_in_arm a p q (Enter number) h at f = next_of a p q (Enter number) h at tt f
+  follows_in_arm a p q (Leave number) h at f = next_of a p q (Leave number) h at tt f
   follows_in_arm a p q End h at f = elim f [ ]
 
   pub place_has : (a p : ℕ) → IsInArm code a p → (i : Instr) × InstrAt code p i
@@ -160,6 +163,8 @@ module _ (code : ProcessCode) (lie : HasArms code) (fork : HasForks code) where
   no_join p q (Give bundle) f n at plain g join = no_plain_before p q (Give bundle) f n at plain g join
   no_join p q (Fork first count) f n at plain g join = plain
   no_join p q (Join first count) f n at plain g join = plain
+  no_join p q (Enter number) f n at plain g join = no_plain_before p q (Enter number) f n at plain g join
+  no_join p q (Leave number) f n at plain g join = no_plain_before p q (Leave number) f n at plain g join
   no_join p q End f n at plain g join = plain
 
   pub no_join_at_entry : (a f n : ℕ) → a < arms code → InstrAt code (entry code a) (Join f n) → ⊥

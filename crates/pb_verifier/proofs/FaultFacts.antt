@@ -8,7 +8,7 @@ use Rattle.std.proofs.lemmas.List.Elements.{Contains-get_or}
 use Rattle.std.proofs.lemmas.Bool.{eq-eqb}
 use Rattle.std.proofs.Common.{eqb-true}
 use Rattle.pb_code.specs.Code.{Instr, Push, Load, Store, Compute1, Compute2, Jump, JumpIfZero, PrintTop, Take, Give}
-use Rattle.pb_code.specs.Code.{Fork, Join, End, ProcessCode}
+use Rattle.pb_code.specs.Code.{Fork, Join, Enter, Leave, End, ProcessCode}
 use Rattle.pb_verifier.specs.Places.{arms, entry, InstrAt, Reached, at_entry, from, Spreads, Follows}
 use Rattle.pb_verifier.specs.Flow.{IsReachedPlace, reached_entry, reached_next, followers, goes_on, StaysInside}
 use Rattle.pb_base.specs.Steppers.{Bundle}
@@ -35,6 +35,8 @@ follows_from (Take bundle) p q c = all_followers (Take bundle) p (Follows (Take 
 follows_from (Give bundle) p q c = all_followers (Give bundle) p (Follows (Give bundle) p) (λ q t. cc) (λ _. refl) q c
 follows_from (Fork first count) p q c = all_followers (Fork first count) p (Follows (Fork first count) p) (λ q t. cc) (λ _. refl) q c
 follows_from (Join first count) p q c = all_followers (Join first count) p (Follows (Join first count) p) (λ q t. cc) (λ _. refl) q c
+follows_from (Enter number) p q c = all_followers (Enter number) p (Follows (Enter number) p) (λ q t. cc) (λ _. refl) q c
+follows_from (Leave number) p q c = all_followers (Leave number) p (Follows (Leave number) p) (λ q t. cc) (λ _. refl) q c
 follows_from End p q c = all_followers End p (Follows End p) (λ q t. cc) (λ on. let n : false ≡ true = on in cc) q c
 
 next_is : (i : Instr) (p q : ℕ) → goes_on i ≡ true → q ≡ p + 1 → Contains (followers i p) q
@@ -54,6 +56,8 @@ follows_to (Take bundle) p q e = next_is (Take bundle) p q refl e
 follows_to (Give bundle) p q e = next_is (Give bundle) p q refl e
 follows_to (Fork first count) p q e = next_is (Fork first count) p q refl e
 follows_to (Join first count) p q e = next_is (Join first count) p q refl e
+follows_to (Enter number) p q e = next_is (Enter number) p q refl e
+follows_to (Leave number) p q e = next_is (Leave number) p q refl e
 follows_to End p q e = elim e [ ]
 
 -- ---- what is reached
@@ -206,6 +210,8 @@ holdings_by_rules = record { forth = forth; back = back }
     forth (Give bundle) (last ∷ x) f = ap (λ b. b ∷ x) f
     forth (Fork first count) x f = refl
     forth (Join first count) x f = refl
+    forth (Enter number) x f = refl
+    forth (Leave number) x f = refl
     forth End x f = refl
 
     given : (bundle : Bundle) (x y : List Bundle) → x ≡ bundle ∷ y → HoldFits (Give bundle) x × (y ≡ tail x)
@@ -225,4 +231,6 @@ holdings_by_rules = record { forth = forth; back = back }
     back (Give bundle) x y t = given bundle x y t
     back (Fork first count) x y t = (tt, t)
     back (Join first count) x y t = (tt, t)
+    back (Enter number) x y t = (tt, t)
+    back (Leave number) x y t = (tt, t)
     back End x y t = (tt, t)

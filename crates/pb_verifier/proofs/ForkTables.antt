@@ -10,7 +10,7 @@ use Rattle.pb_code.specs.declared.instr.Instr.{Instr as Given}
 use Rattle.pb_code.specs.declared.instr.Instr.TheVariants as given
 use Rattle.pb_code.specs.View.{instr_view}
 use Rattle.pb_code.specs.Code.{Instr, Push, Load, Store, Compute1, Compute2, Jump, JumpIfZero, PrintTop, Take, Give}
-use Rattle.pb_code.specs.Code.{Fork, Join, End, ProcessCode}
+use Rattle.pb_code.specs.Code.{Fork, Join, Enter, Leave, End, ProcessCode}
 use Rattle.pb_verifier.specs.Arms.{EntriesRise, ForksLater, IsPaired, IsMarked, IsNamedBefore, IsOnceBefore, AreNamed}
 use Rattle.pb_verifier.specs.Faults.{HasArms, HasForks}
 use Rattle.pb_verifier.specs.Places.{InstrAt, arms, entry, arm_end, IsInArm, JumpsTo, IsAmong}
@@ -45,6 +45,8 @@ fork_given bundles (given.Give k) first count e = cc
 fork_given bundles (given.Fork f n) first count e = let same : Fork f n ≡ Fork first count = e in let a : f ≡ first =
     cc in let b : n ≡ count = cc in ap (λ x. given.Fork x n) a ∙ ap (given.Fork first) b
 fork_given bundles (given.Join f n) first count e = cc
+fork_given bundles (given.Enter number) first count e = cc
+fork_given bundles (given.Leave number) first count e = cc
 fork_given bundles given.End first count e = cc
 
 -- an instruction that is seen as a join is one
@@ -75,6 +77,8 @@ join_given bundles (given.Give k) first count e = cc
 join_given bundles (given.Fork f n) first count e = cc
 join_given bundles (given.Join f n) first count e = let same : Join f n ≡ Join first count = e in let a : f ≡ first =
     cc in let b : n ≡ count = cc in ap (λ x. given.Join x n) a ∙ ap (given.Join first) b
+join_given bundles (given.Enter number) first count e = cc
+join_given bundles (given.Leave number) first count e = cc
 join_given bundles given.End first count e = cc
 
 module _ (code : ProcessCode) where
@@ -132,6 +136,8 @@ module _ (code : ProcessCode) where
   paired_of h place PrintTop read = tt
   paired_of h place (Take bundle) read = tt
   paired_of h place (Give bundle) read = tt
+  paired_of h place (Enter number) read = tt
+  paired_of h place (Leave number) read = tt
   paired_of h place End read = tt
 
   pub named_of : HasForks code → AreNamed code

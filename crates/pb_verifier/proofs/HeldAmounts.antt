@@ -6,7 +6,7 @@ use Rattle.pb_base.specs.Bundle.{amount_in}
 use Rattle.pb_base.specs.Steppers.{Bundle}
 use Rattle.pb_base.proofs.LoanRows.{amount_in-le}
 use Rattle.pb_code.specs.Code.{Instr, Push, Load, Store, Compute1, Compute2, Jump, JumpIfZero, PrintTop, Take, Give}
-use Rattle.pb_code.specs.Code.{Fork, Join, End, ProcessCode}
+use Rattle.pb_code.specs.Code.{Fork, Join, Enter, Leave, End, ProcessCode}
 use Rattle.pb_verifier.specs.declared.amounts.Amount.{Amount}
 use Rattle.pb_verifier.specs.Amounts.{AmountFits, amount_after, TurnsAmount, held_at}
 use Rattle.pb_verifier.specs.Faults.{TurnsHoldings, AreHoldings, in_holdings}
@@ -48,6 +48,8 @@ small_turn r (Take bundle) x y n t h = subst (AllSmall r) (sym t.0) (small_amoun
 small_turn r (Give bundle) x y n t h = (subst (AllSmall r) t h).1
 small_turn r (Fork first count) x y n t h = subst (AllSmall r) (sym t) h
 small_turn r (Join first count) x y n t h = subst (AllSmall r) (sym t) h
+small_turn r (Enter number) x y n t h = subst (AllSmall r) (sym t) h
+small_turn r (Leave number) x y n t h = subst (AllSmall r) (sym t) h
 small_turn r End x y n t h = subst (AllSmall r) (sym t) h
 
 turn_amount : (r : ℕ) (i : Instr) (x y : List Bundle) → TurnsHoldings i x y → AllSmall r y → TurnsAmount i (r, in_holdings r x) (r, in_holdings r y)
@@ -70,6 +72,8 @@ turn_amount r (Give bundle) x y t h =
     (tt, ap (λ (n : ℕ). (r, n)) left)
 turn_amount r (Fork first count) x y t h = (tt, ap (λ (z : List Bundle). (r, in_holdings r z)) t)
 turn_amount r (Join first count) x y t h = (tt, ap (λ (z : List Bundle). (r, in_holdings r z)) t)
+turn_amount r (Enter number) x y t h = (tt, ap (λ (z : List Bundle). (r, in_holdings r z)) t)
+turn_amount r (Leave number) x y t h = (tt, ap (λ (z : List Bundle). (r, in_holdings r z)) t)
 turn_amount r End x y t h = (tt, ap (λ (z : List Bundle). (r, in_holdings r z)) t)
 
 module _ (code : ProcessCode) (small : IsSmallProcess code) (r : ℕ) where

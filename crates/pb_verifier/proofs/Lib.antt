@@ -19,6 +19,8 @@ pub mod PeakTables
 pub mod ProcessFaults
 pub mod ReachedPlaces
 pub mod ReachSearch
+pub mod RegionTables
+pub mod Regions
 pub mod Requests
 pub mod SharedHolds
 pub mod SoundBehaviour

@@ -6,7 +6,7 @@ use Rattle.std.proofs.lemmas.Bool.{cases_lt, cases_eq, eq-eqb}
 use Rattle.std.proofs.lemmas.List.{get_or_past, get_or-replicate, length-replicate}
 use Rattle.std.proofs.lemmas.Option.{slice_get_within}
 use Rattle.pb_code.specs.Code.{Instr, Push, Load, Store, Compute1, Compute2, Jump, JumpIfZero, PrintTop, Take, Give}
-use Rattle.pb_code.specs.Code.{Fork, Join, End, ProcessCode}
+use Rattle.pb_code.specs.Code.{Fork, Join, Enter, Leave, End, ProcessCode}
 use Rattle.pb_verifier.specs.declared.amounts.Amount.{Amount}
 use Rattle.pb_verifier.specs.declared.peaks.TheConstants.{OVER}
 use Rattle.pb_verifier.specs.Amounts.{TurnsAmount, HasHoldings, held_at, clamped, IsPeakOf, AreCutOff}
@@ -63,6 +63,8 @@ joined_by P Q (Take bundle) f g C same join = same 0
 joined_by P Q (Give bundle) f g C same join = same 0
 joined_by P Q (Fork first count) f g C same join = same 0
 joined_by P Q (Join first count) f g C same join = join first count refl
+joined_by P Q (Enter number) f g C same join = same 0
+joined_by P Q (Leave number) f g C same join = same 0
 joined_by P Q End f g C same join = same 0
 
 module _ (code : ProcessCode) (lie : HasArms code) (fork : HasForks code) (some : 1 ≤ arms code) where

@@ -12,11 +12,11 @@ use Rattle.pb_code.specs.Code.{ProcessCode}
 use Rattle.pb_verifier.specs.declared.fault.VerifyFault.{VerifyFault}
 use Rattle.pb_verifier.specs.declared.fault.VerifyFault.TheVariants.{OutOfLimits, OverCapital, OutOfRange, WrongArms}
 use Rattle.pb_verifier.specs.declared.fault.VerifyFault.TheVariants.{WrongForks, NoDepths, NoHoldings, LeftAtEnd}
-use Rattle.pb_verifier.specs.declared.fault.VerifyFault.TheVariants.{OverClaim, NoMemory}
+use Rattle.pb_verifier.specs.declared.fault.VerifyFault.TheVariants.{OverClaim, WrongRegions, NoMemory}
 use Rattle.pb_code.specs.Whole.{Code}
 use Rattle.pb_verifier.specs.Limits.{KeepsLimits}
 use Rattle.pb_verifier.specs.Faults.{ClaimsFitCapital, IsInRange, HasArms, HasForks, AreDepths, AreHoldings}
-use Rattle.pb_verifier.specs.Faults.{EndsClear, PeakFits}
+use Rattle.pb_verifier.specs.Faults.{EndsClear, HasRegions, PeakFits}
 use Rattle.pb_verifier.specs.Process.{IsEarlier, IsFirstOfProcess, IsProcessFreeOf, IsSoundProcess}
 use Rattle.pb_verifier.specs.Verified.{AreArmDepths, IsFaultless, IsFreeOf, IsRefusedFor, turn_of}
 use Rattle.pb_code.proofs.ListElements.{each_more}
@@ -24,20 +24,21 @@ use Rattle.pb_code.proofs.ListElements.{each_more}
 -- a process free of each fault whose turn is before n
 pub free_below : (n resources : ℕ) (claim : ℕ → ℕ) (code : ProcessCode)
     → (2 < n → IsInRange resources code) → (3 < n → HasArms code) → (4 < n → HasForks code) → (5 < n → (depth : ℕ → ℕ) × AreDepths code depth)
-    → (6 < n → (held : ℕ → List Bundle) × AreHoldings code held) → (7 < n → EndsClear code) → (8 < n → (r : ℕ) → r < resources → PeakFits code r (claim r))
+    → (6 < n → (held : ℕ → List Bundle) × AreHoldings code held) → (7 < n → EndsClear code) → (8 < n → (r : ℕ) → r < resources → PeakFits code r (claim r)) → (9 < n → HasRegions code)
     → (other : VerifyFault) → turn_of other < n → IsProcessFreeOf resources claim code other
-free_below n resources claim code range arms forks depths holdings ends peaks OutOfLimits u = tt
-free_below n resources claim code range arms forks depths holdings ends peaks OverCapital u = tt
-free_below n resources claim code range arms forks depths holdings ends peaks OutOfRange u = range u
-free_below n resources claim code range arms forks depths holdings ends peaks WrongArms u = arms u
-free_below n resources claim code range arms forks depths holdings ends peaks WrongForks u = forks u
-free_below n resources claim code range arms forks depths holdings ends peaks NoDepths u = depths u
-free_below n resources claim code range arms forks depths holdings ends peaks NoHoldings u = holdings u
-free_below n resources claim code range arms forks depths holdings ends peaks LeftAtEnd u = ends u
-free_below n resources claim code range arms forks depths holdings ends peaks OverClaim u = peaks u
-free_below n resources claim code range arms forks depths holdings ends peaks NoMemory u = tt
+free_below n resources claim code range arms forks depths holdings ends peaks regions OutOfLimits u = tt
+free_below n resources claim code range arms forks depths holdings ends peaks regions OverCapital u = tt
+free_below n resources claim code range arms forks depths holdings ends peaks regions OutOfRange u = range u
+free_below n resources claim code range arms forks depths holdings ends peaks regions WrongArms u = arms u
+free_below n resources claim code range arms forks depths holdings ends peaks regions WrongForks u = forks u
+free_below n resources claim code range arms forks depths holdings ends peaks regions NoDepths u = depths u
+free_below n resources claim code range arms forks depths holdings ends peaks regions NoHoldings u = holdings u
+free_below n resources claim code range arms forks depths holdings ends peaks regions LeftAtEnd u = ends u
+free_below n resources claim code range arms forks depths holdings ends peaks regions OverClaim u = peaks u
+free_below n resources claim code range arms forks depths holdings ends peaks regions WrongRegions u = regions u
+free_below n resources claim code range arms forks depths holdings ends peaks regions NoMemory u = tt
 
-pub turn_below : (fault : VerifyFault) → turn_of fault < 10
+pub turn_below : (fault : VerifyFault) → turn_of fault < 11
 turn_below OutOfLimits = omega arith
 turn_below OverCapital = omega arith
 turn_below OutOfRange = omega arith
@@ -47,6 +48,7 @@ turn_below NoDepths = omega arith
 turn_below NoHoldings = omega arith
 turn_below LeftAtEnd = omega arith
 turn_below OverClaim = omega arith
+turn_below WrongRegions = omega arith
 turn_below NoMemory = omega arith
 
 -- ---- all processes
@@ -165,6 +167,7 @@ module _ (code : Code) where
     free_of_all NoHoldings each = each
     free_of_all LeftAtEnd each = each
     free_of_all OverClaim each = λ p r process at. each p process at r
+    free_of_all WrongRegions each = each
     free_of_all NoMemory each = tt
 
     free_of_each : (fault : VerifyFault) → IsFreeOf fault code → (p : ℕ) (process : ProcessCode) → slice_get
@@ -178,6 +181,7 @@ module _ (code : Code) where
     free_of_each NoHoldings free p process at = free p process at
     free_of_each LeftAtEnd free p process at = free p process at
     free_of_each OverClaim free p process at = λ r. free p r process at
+    free_of_each WrongRegions free p process at = free p process at
     free_of_each NoMemory free p process at = tt
 
     pub refused_first : (n : ℕ) (fault : VerifyFault) → length code.processes ≤ n → IsFirstBefore code n fault → IsRefusedFor code fault

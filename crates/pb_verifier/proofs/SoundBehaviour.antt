@@ -7,7 +7,7 @@ use Rattle.pb_verifier.specs.Faults.{HasArms, HasForks, TurnsDepth, TurnsHolding
 use Rattle.pb_verifier.specs.Verified.{IsFaultless}
 use Rattle.pb_verifier.proofs.LoansWithinClaims.{asks_within_claims, ends_or_goes_on, kept_reached, not_deadlocked}
 use Rattle.pb_verifier.proofs.LoansWithinClaims.{well_formed}
-use Rattle.pb_verifier.proofs.LiveSteps.{can_step}
+use Rattle.pb_verifier.proofs.LiveSteps.{can_step, inside_goes_on}
 use Rattle.pb_verifier.proofs.UniqueFacts.{least, one_depth, one_holdings, spread_once}
 use Rattle.pb_verifier.proofs.States.{checked, passes_tests}
 
@@ -26,6 +26,10 @@ behaved code faultless = record {
   safe = λ s reached. (kept_reached code faultless s reached).safe;
   some_arm_steps = λ s reached p process state at here going.
       can_step process (checked code faultless p process at) state ((kept_reached code faultless s reached).good.fit p process state at here) going;
+  at_most_one_inside = λ s reached p x a b process state at here ia ib.
+      (kept_reached code faultless s reached).good.one p process state at here x a b ia ib;
+  inside_goes_on = λ s reached p x a process state at here inside.
+      inside_goes_on process (checked code faultless p process at) state ((kept_reached code faultless s reached).good.fit p process state at here) x a inside;
   ends_or_goes_on = λ s reached. ends_or_goes_on code faultless s (kept_reached code faultless s reached);
   not_deadlocked = λ s reached. not_deadlocked code faultless s (kept_reached code faultless s reached);
 }

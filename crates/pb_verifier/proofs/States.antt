@@ -19,7 +19,7 @@ use Rattle.pb_base.specs.Steppers.{Effect, Silent, Prints, Takes, Returns, Fault
 use Rattle.pb_base.specs.Steppers.{State, Move, moved, move_of}
 use Rattle.pb_base.proofs.Cases.{same_or_not}
 use Rattle.pb_code.specs.Code.{Instr, Push, Load, Store, Compute1, Compute2, Jump, JumpIfZero, PrintTop, Take, Give}
-use Rattle.pb_code.specs.Code.{Fork, Join, End, ProcessCode, Thread, Idle, Live, CodeProcess, thread, step_process}
+use Rattle.pb_code.specs.Code.{Fork, Join, Enter, Leave, End, ProcessCode, Thread, Idle, Live, CodeProcess, thread, step_process}
 use Rattle.pb_code.specs.Code.{code_step, code_process}
 use Rattle.pb_verifier.specs.Limits.{IsSmallBundle}
 use Rattle.pb_verifier.specs.Behaviour.{HasPlace, MeetsWhatItNeeds, PassesTests}
@@ -28,11 +28,13 @@ use Rattle.pb_verifier.specs.Faults.{in_holdings}
 use Rattle.pb_verifier.specs.Verified.{IsFaultless}
 use Rattle.pb_verifier.specs.declared.fault.VerifyFault.TheVariants.{OutOfLimits, OutOfRange, WrongArms, WrongForks}
 use Rattle.pb_verifier.specs.declared.fault.VerifyFault.TheVariants.{NoDepths, NoHoldings, LeftAtEnd, OverClaim}
+use Rattle.pb_verifier.specs.declared.fault.VerifyFault.TheVariants.{WrongRegions}
 use Rattle.pb_verifier.proofs.Threads.{taken, given}
 use Rattle.pb_verifier.proofs.ArmPlaces.{Checked, follows_in_arm, fork_in_arm, place_has, held_next}
 use Rattle.pb_verifier.proofs.ThreadTurns.{Turn, runs, traps, forks, joins, stops, Fit, turned, can_act}
 use Rattle.pb_verifier.proofs.PeakTables.{replicate_read}
 use Rattle.pb_verifier.proofs.ThreadOrder.{idle_before, order_next, fails_or_lives, fit_next, fit_start}
+use Rattle.pb_verifier.proofs.Regions.{OneInside, entered, one_next, one_start}
 use Rattle.pb_verifier.proofs.ThreadHoldings.{holds, holds_next, holds_none, holds_start, part_of, under_peak}
 
 pub slice_set_same : {X : Type 0} (xs : List X) (i : ℕ) (x y : X) → slice_get (slice_set xs i x) i ≡ Some y → x ≡ y
@@ -163,6 +165,7 @@ module _ (whole : Code) (faultless : IsFaultless whole) where
     held = (faultless NoHoldings p code at).0;
     holdings = (faultless NoHoldings p code at).1;
     clear = faultless LeftAtEnd p code at;
+    regions = faultless WrongRegions p code at;
   }
 
   pub record Good (s : State CodeProcess) : Type 0 where
@@ -173,6 +176,8 @@ module _ (whole : Code) (faultless : IsFaultless whole) where
         s.processes p ≡ Some process → Fit code (checked p code at) process
     pub loans : (p : ℕ) (code : ProcessCode) (process : CodeProcess) (at : slice_get codes p ≡ Some code) → slice_get s.processes p ≡ Some process
         → (r : ℕ) → cell s.loans p r ≡ holds code (checked p code at) r (thread process.threads)
+    pub one : (p : ℕ) (code : ProcessCode) (process : CodeProcess) → slice_get codes p ≡ Some code → slice_get s.processes p ≡ Some process
+        → OneInside code (thread process.threads)
 
   -- bundles that are taken or given name resources that are there
   pub bundles_below : (p : ℕ) (code : ProcessCode) (at : slice_get codes p ≡ Some code) (T T' : ℕ → Thread) (a : ℕ)
@@ -242,6 +247,10 @@ module _ (whole : Code) (faultless : IsFaultless whole) where
         (λ ne. lent_there s.loans pick.process q m.effect r ne ∙ good.loans q code process at (sym (slice_set_other
         s.processes pick.process q m.after ne) ∙ here) r)
         (same_or_not q pick.process);
+    one = λ q code process at here. ⊎_elim
+        (λ e. one_at q e code process at here)
+        (λ ne. good.one q code process at (sym (slice_set_other s.processes pick.process q m.after ne) ∙ here))
+        (same_or_not q pick.process);
   })
     where
       within : pick.process < length codes
@@ -272,6 +281,15 @@ module _ (whole : Code) (faultless : IsFaultless whole) where
           let w = steps_at q e code process at here in
           let fit = good.fit q code m.before at w.0 in
           fit_next code (checked q code at) m.before process pick.arm m.effect fit (turned code (checked q code at) m.before process pick.arm m.effect fit w.1)
+
+      one_at : (q : ℕ) → q ≡ pick.process → (code : ProcessCode) (process : CodeProcess) (at : slice_get codes q ≡
+          Some code) → slice_get (slice_set s.processes pick.process m.after) q ≡ Some process → OneInside code (thread process.threads)
+      one_at q e code process at here =
+          let ok = checked q code at in
+          let w = steps_at q e code process at here in
+          let turn = turned code ok m.before process pick.arm m.effect (good.fit q code m.before at w.0) w.1 in
+          one_next code ok (thread m.before.threads) (thread process.threads) pick.arm m.effect (good.one q code m.before at w.0)
+          (entered code m.before process pick.arm m.effect w.1) turn.turn
 
       loans_at : (q : ℕ) → q ≡ pick.process → (code : ProcessCode) (process : CodeProcess) (at : slice_get codes q ≡
           Some code) → slice_get (slice_set s.processes pick.process m.after) q ≡ Some process
@@ -319,6 +337,8 @@ module _ (whole : Code) (faultless : IsFaultless whole) where
             no_loans (replicate (length whole.capital) 0) (map code_process codes) p r (replicate_read (length whole.capital) r 0)
             ∙ (sym (holds_start code (checked p code at) r) ∙ ap (λ x. holds code (checked p code at) r (thread
             x.threads)) (mapped code_process codes p code process at here));
+        one = λ p code process at here. subst (λ (x : CodeProcess). OneInside code (thread x.threads)) (mapped code_process codes p code process
+            at here) (one_start code);
       }
 
   -- ---- requests
@@ -421,4 +441,6 @@ module _ (whole : Code) (faultless : IsFaultless whole) where
               first count)) w.1 instr) in
               let u = ((checked p code at).fork.later a w.0 first count there w.2).1 in
               (next (Join first count) (place + 1) instr refl, omega (arith, u, n))
+          go (Enter x) instr = (next (Enter x) (place + 1) instr refl, var (Enter x) x instr (faultless OutOfRange p code at place (Enter x) instr))
+          go (Leave x) instr = (next (Leave x) (place + 1) instr refl, var (Leave x) x instr (faultless OutOfRange p code at place (Leave x) instr))
           go End instr = tt

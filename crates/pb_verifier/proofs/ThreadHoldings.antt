@@ -8,7 +8,7 @@ use Rattle.pb_base.specs.declared.operators.FaultKind.{FaultKind}
 use Rattle.pb_base.specs.Steppers.{Effect, Faults, ending}
 use Rattle.pb_base.proofs.Cases.{same_or_not}
 use Rattle.pb_code.specs.Code.{Instr, Push, Load, Store, Compute1, Compute2, Jump, JumpIfZero, PrintTop, Take, Give}
-use Rattle.pb_code.specs.Code.{Fork, Join, End, ProcessCode, Thread, Idle, Live, Ended, thread, code_process}
+use Rattle.pb_code.specs.Code.{Fork, Join, Enter, Leave, End, ProcessCode, Thread, Idle, Live, Ended, thread, code_process}
 use Rattle.pb_verifier.specs.Places.{arms}
 use Rattle.pb_verifier.specs.Faults.{in_holdings, in_joined, StayUnder}
 use Rattle.pb_verifier.proofs.Threads.{taken, given}
@@ -149,6 +149,8 @@ module _ (code : ProcessCode) (ok : Checked code) where
     leaves_le (Give bundle) = let z = total_zero (arms code) in omega (arith, z)
     leaves_le (Fork first count) = let z = total_zero (arms code) in omega (arith, z)
     leaves_le (Join first count) = range_le (arms code) peak first count
+    leaves_le (Enter number) = let z = total_zero (arms code) in omega (arith, z)
+    leaves_le (Leave number) = let z = total_zero (arms code) in omega (arith, z)
     leaves_le End = let z = total_zero (arms code) in omega (arith, z)
 
     -- what an arm holds and leaves is within its peak

@@ -10,8 +10,9 @@ use Rattle.pb_base.specs.Arithmetic.{apply, apply_unary, is_zero}
 use Rattle.pb_base.specs.Steppers.{Bundle}
 use Rattle.pb_base.specs.Steppers.{Effect, Silent, Prints, Takes, Returns, Faults, ending}
 use Rattle.pb_code.specs.Code.{Instr, Push, Load, Store, Compute1, Compute2, Jump, JumpIfZero, PrintTop, Take, Give}
-use Rattle.pb_code.specs.Code.{Fork, Join, End, ProcessCode, Thread, Idle, Live, Ended, CodeProcess, thread}
-use Rattle.pb_code.specs.Code.{ThreadStep, Runs, Traps, Forks, Joins, Stops, with_result, act, is_over, all_over}
+use Rattle.pb_code.specs.Code.{Fork, Join, Enter, Leave, End, ProcessCode, Thread, Idle, Live, Ended, CodeProcess, thread}
+use Rattle.pb_code.specs.Code.{ThreadStep, Runs, Traps, Forks, Joins, Enters, Stops, with_result, act, is_over}
+use Rattle.pb_code.specs.Code.{all_over, some_inside}
 use Rattle.pb_code.specs.Code.{dismiss, apply_step, step_thread, step_process}
 use Rattle.pb_verifier.specs.Places.{InstrAt, arms, entry, IsInArm, IsAmong, Follows, Reached}
 use Rattle.pb_verifier.specs.Faults.{in_holdings}
@@ -32,6 +33,8 @@ pub data Acts (code : ProcessCode) (ok : Checked code) (vars : List ℤ) (i : In
       ok.depth (p + 1) → ok.held (p + 1) ≡ ok.held p → Acts code ok vars i p s step
   acts_join : (first count : ℕ) → i ≡ Join first count → step ≡ Joins first count (Live (p + 1) s) → length s ≡
       ok.depth (p + 1) → ok.held (p + 1) ≡ ok.held p → Acts code ok vars i p s step
+  acts_enter : (x : ℕ) → i ≡ Enter x → step ≡ Enters x (Live (p + 1) s) → length s ≡ ok.depth (p + 1) → ok.held (p +
+      1) ≡ ok.held p → Acts code ok vars i p s step
   acts_stop : i ≡ End → step ≡ Stops → Acts code ok vars i p s step
 
 module _ (code : ProcessCode) (ok : Checked code) where
@@ -144,6 +147,16 @@ module _ (code : ProcessCode) (ok : Checked code) where
   can_act vars (Join first count) p s reached at len =
       let d = depth_next code ok (Join first count) p (p + 1) reached at refl in
       (_, refl, acts_join first count refl refl (omega (arith, d, len)) (held_next code ok (Join first count) p (p + 1) reached at refl))
+  can_act vars (Enter x) p s reached at len =
+      let d = depth_next code ok (Enter x) p (p + 1) reached at refl in
+      (_, refl, acts_enter x refl refl (omega (arith, d, len)) (held_next code ok (Enter x) p (p + 1) reached at refl))
+  can_act vars (Leave x) p s reached at len =
+      let d = depth_next code ok (Leave x) p (p + 1) reached at refl in (
+        _,
+        refl,
+        acts_run vars (p + 1) s Silent refl refl tt refl (omega (arith, d, len)) (keep p (p + 1) (held_next
+            code ok (Leave x) p (p + 1) reached at refl)) (λ kind e. cc) (λ bundle. (λ e. cc, λ e. cc)),
+      )
   can_act vars End p s reached at len = (_, refl, acts_stop refl refl)
 
 -- what a step of arm a does to all threads
@@ -319,6 +332,31 @@ module _ (code : ProcessCode) (ok : Checked code) where
             fails = λ kind z. cc;
             stays = λ none. refl;
           }) h'
+  applied before after a i p s step effect fit live at (acts_enter x is same depth held) h = go (some_inside
+      code.instrs x before.threads) refl (ap (apply_step code before a) (sym same) ∙ h)
+    where
+      go : (z : Bool) → some_inside code.instrs x before.threads ≡ z → cond {A = Option (CodeProcess × Effect)} z None (Some (
+        record {
+          vars = before.vars;
+          threads = set before.threads a (Live (p + 1) s);
+          faulted
+              = before.faulted;
+        },
+        Silent,
+      )) ≡ Some (after, effect) → Turned code ok before after a effect
+      go true inside h' = cc
+      go false inside h' =
+          let u = live_within before.threads a p s live in
+          made before _ after a Silent effect (record {
+            vars = refl;
+            threads = length-set before.threads a (Live (p + 1) s);
+            turn = runs p s (Enter x) (p + 1) s live (at ∙ ap Some is) tt refl
+                (get_or-set_same before.threads a (Live (p + 1) s) Idle u) depth
+                (λ b ne. get_or-set_other before.threads a b (Live (p + 1) s) Idle ne)
+                (keep code ok p (p + 1) held) (λ kind z. cc) (λ bundle. (λ e. cc, λ e. cc));
+            fails = λ kind z. cc;
+            stays = λ none. refl;
+          }) h'
   applied before after a i p s step effect fit live at (acts_stop is same) h =
       let u = live_within before.threads a p s live in
       made before _ after a (ending a) effect (record {
@@ -330,7 +368,7 @@ module _ (code : ProcessCode) (ok : Checked code) where
         stays = λ none. refl;
       }) (ap (apply_step code before a) (sym same) ∙ h)
 
-  -- each step of fitting threads is one of the five
+  -- each step of fitting threads is one of the five: whoever enters a region runs
   pub turned : (before after : CodeProcess) (a : ℕ) (effect : Effect) → Fit code ok before → step_process code before
       a ≡ Some (after, effect) → Turned code ok before after a effect
   turned before after a effect fit h = go (thread before.threads a) refl h

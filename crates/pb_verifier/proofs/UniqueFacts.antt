@@ -2,7 +2,7 @@
 use Rattle.std.proofs.Common.{◌≡◌, ℕ, zero, suc, ◌+◌, ◌<◌, ◌≤◌, List, ◌∷◌, sym, ap, ◌∙◌, subst, arith}
 use Rattle.pb_base.specs.Steppers.{Bundle}
 use Rattle.pb_code.specs.Code.{Instr, Push, Load, Store, Compute1, Compute2, Jump, JumpIfZero, PrintTop, Take, Give}
-use Rattle.pb_code.specs.Code.{Fork, Join, End, ProcessCode}
+use Rattle.pb_code.specs.Code.{Fork, Join, Enter, Leave, End, ProcessCode}
 use Rattle.pb_verifier.specs.Places.{InstrAt, arms, IsInArm, IsAmong, Reached, at_entry, from, Spreads}
 use Rattle.pb_verifier.specs.Faults.{HasArms, HasForks, TurnsDepth, TurnsHoldings, in_joined, sum_of_arms, StayUnder}
 use Rattle.pb_verifier.specs.Faults.{IsAttained}
@@ -28,6 +28,8 @@ one_holdings (Take bundle) held a b h g = h.0 ∙ sym g.0
 one_holdings (Give bundle) held a b h g = let e : bundle ∷ a ≡ bundle ∷ b = sym h ∙ g in cc
 one_holdings (Fork first count) held a b h g = h ∙ sym g
 one_holdings (Join first count) held a b h g = h ∙ sym g
+one_holdings (Enter number) held a b h g = h ∙ sym g
+one_holdings (Leave number) held a b h g = h ∙ sym g
 one_holdings End held a b h g = h ∙ sym g
 
 pub spread_once : {X : Type 0} (code : ProcessCode) (Turns : Instr → X → X → Type 0) (start : X) (f g : ℕ → X) → IsOne
@@ -73,6 +75,8 @@ module _ (code : ProcessCode) (lie : HasArms code) (fork : HasForks code) (some 
         go (Take bundle) place here at later = omega arith
         go (Give bundle) place here at later = omega arith
         go (Fork first count) place here at later = omega arith
+        go (Enter number) place here at later = omega arith
+        go (Leave number) place here at later = omega arith
         go End place here at later = omega arith
         go (Join first count) place here at later =
             let before = fork.after_fork place first count at in

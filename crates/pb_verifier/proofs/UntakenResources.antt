@@ -3,7 +3,7 @@ use Rattle.std.proofs.Common.{◌≡◌, ℕ, zero, suc, ◌+◌, List, refl, ap
 use Rattle.pb_base.specs.Bundle.{amount_in}
 use Rattle.pb_base.specs.Steppers.{Bundle}
 use Rattle.pb_code.specs.Code.{Instr, Push, Load, Store, Compute1, Compute2, Jump, JumpIfZero, PrintTop, Take, Give}
-use Rattle.pb_code.specs.Code.{Fork, Join, End, ProcessCode}
+use Rattle.pb_code.specs.Code.{Fork, Join, Enter, Leave, End, ProcessCode}
 use Rattle.pb_verifier.specs.Faults.{TurnsHoldings, AreHoldings, PeakFits, in_holdings, in_joined, sum_of_arms}
 use Rattle.pb_verifier.specs.Places.{Reached, at_entry, from}
 use Rattle.pb_verifier.specs.Amounts.{TakesNone, NeverTakes}
@@ -26,6 +26,8 @@ none_turn r (Give bundle) x y n t h =
     omega (arith, is, h)
 none_turn r (Fork first count) x y n t h = ap (in_holdings r) t ∙ h
 none_turn r (Join first count) x y n t h = ap (in_holdings r) t ∙ h
+none_turn r (Enter number) x y n t h = ap (in_holdings r) t ∙ h
+none_turn r (Leave number) x y n t h = ap (in_holdings r) t ∙ h
 none_turn r End x y n t h = ap (in_holdings r) t ∙ h
 
 none_held : (code : ProcessCode) (r : ℕ) → NeverTakes code r → (held : ℕ → List Bundle) → AreHoldings code held

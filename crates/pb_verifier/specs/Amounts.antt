@@ -6,7 +6,7 @@ use Rattle.pb_base.specs.declared.limits.TheConstants.{MAX_ARMS}
 use Rattle.pb_base.specs.Bundle.{amount_in}
 use Rattle.pb_base.specs.Steppers.{Bundle}
 use Rattle.pb_code.specs.Code.{Instr, Push, Load, Store, Compute1, Compute2, Jump, JumpIfZero, PrintTop, Take, Give}
-use Rattle.pb_code.specs.Code.{Fork, Join, End, ProcessCode}
+use Rattle.pb_code.specs.Code.{Fork, Join, Enter, Leave, End, ProcessCode}
 use Rattle.pb_verifier.specs.declared.amounts.Amount.{Amount}
 use Rattle.pb_verifier.specs.declared.amounts.TheConstants.{MAX_HELD}
 use Rattle.pb_verifier.specs.declared.peaks.TheConstants.{OVER}
@@ -32,6 +32,8 @@ AmountFits (Take bundle) x = amount_in bundle x.0 + x.1 ≤ MAX_HELD
 AmountFits (Give bundle) x = Unit {0}
 AmountFits (Fork first count) x = Unit {0}
 AmountFits (Join first count) x = Unit {0}
+AmountFits (Enter n) x = Unit {0}
+AmountFits (Leave n) x = Unit {0}
 AmountFits End x = Unit {0}
 
 -- how much of the resource is held after an instruction
@@ -48,6 +50,8 @@ amount_after (Take bundle) x = (x.0, amount_in bundle x.0 + x.1)
 amount_after (Give bundle) x = (x.0, x.1 - amount_in bundle x.0)
 amount_after (Fork first count) x = x
 amount_after (Join first count) x = x
+amount_after (Enter n) x = x
+amount_after (Leave n) x = x
 amount_after End x = x
 
 -- an instruction turns one amount, which fits, into another

@@ -1,12 +1,13 @@
 -- What verified code does and never does, from wherever it comes.
-use Rattle.std.specs.Prelude.{◌≡◌, ◌↔◌, ◌⊎◌, ℕ, ◌+◌, ◌<◌, ◌≤◌, ℤ, List, length, Some, slice_get, All, ⊤}
+use Rattle.std.specs.Prelude.{◌≡◌, ◌↔◌, ◌⊎◌, ℕ, ◌+◌, ◌<◌, ◌≤◌, ℤ, true, List, length, Some, slice_get, All, ⊤}
 use Rattle.pb_base.specs.declared.pick.Pick.{Pick}
 use Rattle.pb_base.specs.Bundle.{amount_in}
 use Rattle.pb_base.specs.Banker.{IsSafe, IsWellFormed, IsWithinClaim, cell}
 use Rattle.pb_base.specs.Steppers.{Bundle, Table, Effect, Takes, State, Move, banker_state, move_of, CanGoOn}
 use Rattle.pb_base.specs.Steppers.{IsFinished}
 use Rattle.pb_code.specs.Code.{ProcessCode, Instr, Push, Load, Store, Compute1, Compute2, Jump, JumpIfZero, PrintTop}
-use Rattle.pb_code.specs.Code.{Take, Give, Fork, Join, End, Idle, Live, ThreadStep, CodeProcess, thread, act}
+use Rattle.pb_code.specs.Code.{Take, Give, Fork, Join, Enter, Leave, End, Idle, Live, ThreadStep, CodeProcess}
+use Rattle.pb_code.specs.Code.{thread, act, is_inside}
 use Rattle.pb_code.specs.Code.{step_process, code_step, code_over}
 use Rattle.pb_code.specs.Reached.{CodeReaches}
 use Rattle.pb_code.specs.Whole.{Code, bank_of}
@@ -44,6 +45,10 @@ MeetsWhatItNeeds resources code loans p process place (Fork first count) =
     × ((a : ℕ) → first ≤ a → a < first + count → thread process.threads a ≡ Idle)
 MeetsWhatItNeeds resources code loans p process place (Join first count) =
     HasPlace code (place + 1) × (first + count ≤ length process.threads)
+MeetsWhatItNeeds resources code loans p process place (Enter x) =
+    HasPlace code (place + 1) × (x < length process.vars)
+MeetsWhatItNeeds resources code loans p process place (Leave x) =
+    HasPlace code (place + 1) × (x < length process.vars)
 MeetsWhatItNeeds resources code loans p process place End = ⊤
 
 -- each live arm is at an instruction that has its operands and meets what it needs
@@ -72,10 +77,34 @@ AsksWithin code s =
     → move_of (code_step code.processes) s pick ≡ Some move
     → move.effect ≡ Takes bundle → IsWithinClaim (banker_state (bank_of code) s.loans) pick.process bundle
 
+-- the arm can step, and asks the lender for nothing
+abbrev pub StepsUnasked : ProcessCode → CodeProcess → ℕ → Type 0
+StepsUnasked code process a =
+    (after : CodeProcess) × (effect : Effect) × (step_process code process a ≡ Some (after, effect))
+    × ((bundle : Bundle) → effect ≡ Takes bundle → ⊥)
+
 -- some arm of the process can step, the banker left aside
 abbrev pub SomeArmSteps : ProcessCode → CodeProcess → Type 0
 SomeArmSteps code process =
     (a : ℕ) × (after : CodeProcess) × (effect : Effect) × (step_process code process a ≡ Some (after, effect))
+
+-- an arm is inside the region of integer x
+abbrev pub IsInside : ProcessCode → CodeProcess → (x a : ℕ) → Type 0
+IsInside code process x a = is_inside code.instrs x (thread process.threads a) ≡ true
+
+-- of all arms of a process at most one is inside the region of an integer
+abbrev pub AtMostOneInside : Code → State CodeProcess → Type 0
+AtMostOneInside code s =
+    (p x a b : ℕ) (process : ProcessCode) (state : CodeProcess)
+    → slice_get code.processes p ≡ Some process → slice_get s.processes p ≡ Some state
+    → IsInside process state x a → IsInside process state x b → a ≡ b
+
+-- an arm that is inside a region can step, and asks the lender for nothing
+abbrev pub InsideGoesOn : Code → State CodeProcess → Type 0
+InsideGoesOn code s =
+    (p x a : ℕ) (process : ProcessCode) (state : CodeProcess)
+    → slice_get code.processes p ≡ Some process → slice_get s.processes p ≡ Some state
+    → IsInside process state x a → StepsUnasked process state a
 
 -- all has ended, or some pick is enabled
 abbrev pub EndsOrGoesOn : Code → State CodeProcess → Type 0
@@ -87,7 +116,8 @@ IsDeadlocked code s = (IsFinished code_over s → ⊥) × (CanGoOn (bank_of code
 
 -- in every state that the code reaches: no test fails, stacks are as deep as their places say, no request
 -- passes its claim, each loan is within its claim and all loans together within the capital, the loans are
--- safe, and not all wait
+-- safe, of all arms of a process at most one is inside the region of an integer and it can go on, and not all
+-- wait
 pub record IsWellBehaved (code : Code) : Type 0 where
   pub passes_tests : (s : State CodeProcess) → CodeReaches code s → PassesTests code s
   pub stacks_have_their_depth : (s : State CodeProcess) → CodeReaches code s → StacksHaveTheirDepth code s
@@ -99,6 +129,8 @@ pub record IsWellBehaved (code : Code) : Type 0 where
       → (p : ℕ) (process : ProcessCode) (state : CodeProcess) → slice_get code.processes p ≡ Some process
       → slice_get s.processes p ≡ Some state
       → (code_over state → ⊥) → SomeArmSteps process state
+  pub at_most_one_inside : (s : State CodeProcess) → CodeReaches code s → AtMostOneInside code s
+  pub inside_goes_on : (s : State CodeProcess) → CodeReaches code s → InsideGoesOn code s
   pub ends_or_goes_on : (s : State CodeProcess) → CodeReaches code s → EndsOrGoesOn code s
   pub not_deadlocked : (s : State CodeProcess) → CodeReaches code s → IsDeadlocked code s → ⊥
 

@@ -1,11 +1,12 @@
 -- What code must have to be free of each fault but that of limits.
 use Rattle.std.specs.Prelude.{◌≡◌, ◌≤◌, ◌<◌, ◌⊎◌, ℕ, zero, suc, ◌+◌, List, [], ◌∷◌, length, slice_index, All, ⊤}
+use Rattle.std.specs.Prelude.{Option, Some, None}
 use Rattle.pb_base.specs.declared.limits.TheConstants.{MAX_DEPTH, MAX_HOLDS}
 use Rattle.pb_base.specs.Bundle.{amount_in}
 use Rattle.pb_base.specs.Banker.{cell}
 use Rattle.pb_base.specs.Steppers.{Bundle}
 use Rattle.pb_code.specs.Code.{Instr, Push, Load, Store, Compute1, Compute2, Jump, JumpIfZero, PrintTop, Take, Give}
-use Rattle.pb_code.specs.Code.{Fork, Join, End, ProcessCode}
+use Rattle.pb_code.specs.Code.{Fork, Join, Enter, Leave, End, ProcessCode, region_at}
 use Rattle.pb_code.specs.Whole.{Code}
 use Rattle.pb_verifier.specs.Places.{InstrAt, arms, entry, arm_end, IsInArm, JumpsTo, IsAmong, Reached, Spreads}
 
@@ -21,6 +22,8 @@ ClaimsFitCapital code =
 abbrev pub UsesWhatIsThere : (integers resources : ℕ) → Instr → Type 0
 UsesWhatIsThere integers resources (Load x) = x < integers
 UsesWhatIsThere integers resources (Store x) = x < integers
+UsesWhatIsThere integers resources (Enter x) = x < integers
+UsesWhatIsThere integers resources (Leave x) = x < integers
 UsesWhatIsThere integers resources (Take bundle) = All (λ pair. pair.resource < resources) bundle
 UsesWhatIsThere integers resources (Give bundle) = All (λ pair. pair.resource < resources) bundle
 UsesWhatIsThere integers resources i = ⊤
@@ -106,6 +109,26 @@ AreHoldings code held = Spreads code TurnsHoldings [] held
 abbrev pub EndsClear : ProcessCode → Type 0
 EndsClear code = (depth : ℕ → ℕ) (held : ℕ → List Bundle) → AreDepths code depth → AreHoldings code held
     → (place : ℕ) → Reached code place → InstrAt code place End → (depth place ≡ 0) × (held place ≡ [])
+
+-- ---- regions: entered from outside and left from inside; nothing inside waits, lends or ends an arm
+
+-- an instruction may be at a place with this region
+abbrev pub FitsRegion : Instr → Option ℕ → Type 0
+FitsRegion (Take bundle) region = region ≡ None
+FitsRegion (Give bundle) region = region ≡ None
+FitsRegion (Fork first count) region = region ≡ None
+FitsRegion (Join first count) region = region ≡ None
+FitsRegion (Enter x) region = region ≡ None
+FitsRegion (Leave x) region = region ≡ Some x
+FitsRegion End region = region ≡ None
+FitsRegion i region = ⊤
+
+-- arms begin outside, each instruction fits the region of its place, and no jump leads into a region or out of one
+pub record HasRegions (code : ProcessCode) : Type 0 where
+  pub outside : (a : ℕ) → a < arms code → region_at code.instrs (entry code a) ≡ None
+  pub fits : (place : ℕ) (i : Instr) → InstrAt code place i → FitsRegion i (region_at code.instrs place)
+  pub jumps_stay : (place target : ℕ) (i : Instr) → InstrAt code place i → JumpsTo i target
+      → region_at code.instrs target ≡ region_at code.instrs place
 
 -- ---- peaks: the most that an arm and those that it forks ever hold
 

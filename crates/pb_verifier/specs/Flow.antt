@@ -6,7 +6,7 @@ use Rattle.std.specs.Prelude.{option_to_list}
 use Rattle.pb_base.specs.declared.limits.TheConstants.{MAX_PLACES}
 use Rattle.pb_code.specs.Code.{Instr}
 use Rattle.pb_code.specs.Code.{Push, Load, Store, Compute1, Compute2, Jump, JumpIfZero, PrintTop, Take, Give, Fork}
-use Rattle.pb_code.specs.Code.{Join, End}
+use Rattle.pb_code.specs.Code.{Join, Enter, Leave, End}
 
 -- the place to which an instruction may jump, if there is one
 abbrev pub target_of : Instr → Option ℕ
@@ -22,6 +22,8 @@ target_of (Take bundle) = None
 target_of (Give bundle) = None
 target_of (Fork first count) = None
 target_of (Join first count) = None
+target_of (Enter x) = None
+target_of (Leave x) = None
 target_of End = None
 
 -- whether the next place may follow an instruction
@@ -38,6 +40,8 @@ goes_on (Take bundle) = true
 goes_on (Give bundle) = true
 goes_on (Fork first count) = true
 goes_on (Join first count) = true
+goes_on (Enter x) = true
+goes_on (Leave x) = true
 goes_on End = false
 
 -- the places that may follow an instruction at a place

@@ -7,7 +7,7 @@ use Rattle.pb_base.specs.declared.limits.TheConstants.{MAX_HOLDS}
 use Rattle.pb_base.specs.Steppers.{Bundle}
 use Rattle.pb_code.specs.Code.{Instr}
 use Rattle.pb_code.specs.Code.{Push, Load, Store, Compute1, Compute2, Jump, JumpIfZero, PrintTop, Take, Give, Fork}
-use Rattle.pb_code.specs.Code.{Join, End}
+use Rattle.pb_code.specs.Code.{Join, Enter, Leave, End}
 use Rattle.pb_verifier.specs.declared.holdings.Holding.{Holding}
 use Rattle.pb_verifier.specs.Spread.{fact_at}
 
@@ -25,6 +25,8 @@ bundle_of (Take bundle) = bundle
 bundle_of (Give bundle) = []
 bundle_of (Fork first count) = []
 bundle_of (Join first count) = []
+bundle_of (Enter x) = []
+bundle_of (Leave x) = []
 bundle_of End = []
 
 -- the same, if there is an instruction

@@ -9,6 +9,7 @@ pub mod Holdings
 pub mod Limits
 pub mod Places
 pub mod Process
+pub mod Regions
 pub mod Requests
 pub mod Spread
 pub mod Verified

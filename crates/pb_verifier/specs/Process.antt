@@ -5,9 +5,10 @@ use Rattle.pb_code.specs.Code.{ProcessCode}
 use Rattle.pb_verifier.specs.declared.fault.VerifyFault.{VerifyFault}
 use Rattle.pb_verifier.specs.declared.fault.VerifyFault.TheVariants.{OutOfLimits, OverCapital, OutOfRange, WrongArms}
 use Rattle.pb_verifier.specs.declared.fault.VerifyFault.TheVariants.{WrongForks, NoDepths, NoHoldings, LeftAtEnd}
-use Rattle.pb_verifier.specs.declared.fault.VerifyFault.TheVariants.{OverClaim, NoMemory}
+use Rattle.pb_verifier.specs.declared.fault.VerifyFault.TheVariants.{OverClaim, WrongRegions, NoMemory}
 use Rattle.pb_verifier.specs.Places.{arms}
-use Rattle.pb_verifier.specs.Faults.{IsInRange, HasArms, HasForks, AreDepths, AreHoldings, EndsClear, PeakFits}
+use Rattle.pb_verifier.specs.Faults.{IsInRange, HasArms, HasForks, AreDepths, AreHoldings, EndsClear, HasRegions}
+use Rattle.pb_verifier.specs.Faults.{PeakFits}
 use Rattle.pb_verifier.specs.Verified.{IsDepthOf, turn_of}
 
 -- the process, under these claims, doesn't have this fault
@@ -21,6 +22,7 @@ IsProcessFreeOf resources claim code NoDepths = (depth : ℕ → ℕ) × AreDept
 IsProcessFreeOf resources claim code NoHoldings = (held : ℕ → List Bundle) × AreHoldings code held
 IsProcessFreeOf resources claim code LeftAtEnd = EndsClear code
 IsProcessFreeOf resources claim code OverClaim = (r : ℕ) → r < resources → PeakFits code r (claim r)
+IsProcessFreeOf resources claim code WrongRegions = HasRegions code
 IsProcessFreeOf resources claim code NoMemory = ⊤
 
 -- none of the faults, and these are the depths of its arms

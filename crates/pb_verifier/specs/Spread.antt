@@ -7,7 +7,7 @@ use Rattle.pb_base.specs.declared.limits.TheConstants.{MAX_DEPTH, MAX_HOLDS}
 use Rattle.pb_base.specs.Steppers.{Bundle}
 use Rattle.pb_code.specs.Code.{Instr, ProcessCode}
 use Rattle.pb_code.specs.Code.{Push, Load, Store, Compute1, Compute2, Jump, JumpIfZero, PrintTop, Take, Give, Fork}
-use Rattle.pb_code.specs.Code.{Join, End}
+use Rattle.pb_code.specs.Code.{Join, Enter, Leave, End}
 use Rattle.pb_verifier.specs.Faults.{pops, pushes}
 use Rattle.pb_verifier.specs.Flow.{IsReachedPlace, followers}
 use Rattle.pb_verifier.specs.Places.{Spreads, Reached}
@@ -65,6 +65,8 @@ HoldFits (Give bundle) [] = ⊥
 HoldFits (Give bundle) (last ∷ held) = last ≡ bundle
 HoldFits (Fork first count) held = Unit {0}
 HoldFits (Join first count) held = Unit {0}
+HoldFits (Enter x) held = Unit {0}
+HoldFits (Leave x) held = Unit {0}
 HoldFits End held = Unit {0}
 
 -- the holds without the last one
@@ -86,6 +88,8 @@ held_after (Take bundle) held = bundle ∷ held
 held_after (Give bundle) held = tail held
 held_after (Fork first count) held = held
 held_after (Join first count) held = held
+held_after (Enter x) held = held
+held_after (Leave x) held = held
 held_after End held = held
 
 -- what was taken and not yet given, the last first

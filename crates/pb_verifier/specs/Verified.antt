@@ -7,11 +7,11 @@ use Rattle.pb_code.specs.Whole.{Code}
 use Rattle.pb_verifier.specs.declared.fault.VerifyFault.{VerifyFault}
 use Rattle.pb_verifier.specs.declared.fault.VerifyFault.TheVariants.{OutOfLimits, OverCapital, OutOfRange, WrongArms}
 use Rattle.pb_verifier.specs.declared.fault.VerifyFault.TheVariants.{WrongForks, NoDepths, NoHoldings, LeftAtEnd}
-use Rattle.pb_verifier.specs.declared.fault.VerifyFault.TheVariants.{OverClaim, NoMemory}
+use Rattle.pb_verifier.specs.declared.fault.VerifyFault.TheVariants.{OverClaim, WrongRegions, NoMemory}
 use Rattle.pb_verifier.specs.Places.{Reached, IsInArm, arms}
 use Rattle.pb_verifier.specs.Limits.{EachProcess, KeepsLimits, PushesFit}
 use Rattle.pb_verifier.specs.Faults.{ClaimsFitCapital, IsInRange, HasArms, HasForks, AreDepths, AreHoldings}
-use Rattle.pb_verifier.specs.Faults.{EndsClear, PeakFits, HasPeakWithin, HasPeakOver}
+use Rattle.pb_verifier.specs.Faults.{EndsClear, HasRegions, PeakFits, HasPeakWithin, HasPeakOver}
 
 -- the code doesn't have this fault; being out of memory is not a fault of the code
 abbrev pub IsFreeOf : VerifyFault → Code → Type 0
@@ -26,6 +26,7 @@ IsFreeOf LeftAtEnd code = EachProcess code EndsClear
 IsFreeOf OverClaim code =
     (p r : ℕ) (process : ProcessCode) → slice_get code.processes p ≡ Some process → r < length code.capital
     → PeakFits process r (cell code.claims p r)
+IsFreeOf WrongRegions code = EachProcess code HasRegions
 IsFreeOf NoMemory code = ⊤
 
 -- the order in which faults are looked for
@@ -39,7 +40,8 @@ turn_of NoDepths = 5
 turn_of NoHoldings = 6
 turn_of LeftAtEnd = 7
 turn_of OverClaim = 8
-turn_of NoMemory = 9
+turn_of WrongRegions = 9
+turn_of NoMemory = 10
 
 -- none of the faults
 abbrev pub IsFaultless : Code → Type 0

@@ -33,6 +33,10 @@ pub enum VerifyFault {
     /// A process can hold more of a resource than it claims.
     #[error("a peak is over its claim")]
     OverClaim,
+    /// An arm begins inside a region, a region is entered from inside one or left from outside, a jump leads into
+    /// one or out of one, or inside one an instruction waits, lends or ends its arm.
+    #[error("a region is not sound")]
+    WrongRegions,
     /// Out of memory.
     #[error("out of memory")]
     NoMemory,

@@ -18,6 +18,7 @@ mod places;
 mod process;
 mod range;
 mod reach;
+mod regions;
 mod verified;
 
 pub use checking::verify;

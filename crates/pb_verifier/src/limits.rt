@@ -85,7 +85,9 @@ fn has_small_numbers(code: &ProcessCode, instr: Instr) -> bool
     ensures pushes { (v : ℤ) → plain code.now instr ≡ Push v → IsSigned v }
 {
     match instr {
-        Instr::Load(x) | Instr::Store(x) => x < MAX_INTEGERS as u8,
+        Instr::Load(x) | Instr::Store(x) | Instr::Enter(x) | Instr::Leave(x) => {
+            x < MAX_INTEGERS as u8
+        }
         Instr::Jump(target) | Instr::JumpIfZero(target) => (target as usize) < MAX_PLACES,
         Instr::Take(bundle) | Instr::Give(bundle) => is_small_bundle(code, bundle),
         Instr::Fork { first, count } | Instr::Join { first, count } => are_small_arms(first, count),

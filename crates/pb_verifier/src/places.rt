@@ -77,6 +77,8 @@ pub fn pushed(instr: Instr) -> u16
         | Instr::Give(_)
         | Instr::Fork { .. }
         | Instr::Join { .. }
+        | Instr::Enter(_)
+        | Instr::Leave(_)
         | Instr::End => 0,
         _ => 1,
     }

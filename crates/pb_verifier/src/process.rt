@@ -17,6 +17,7 @@ use crate::holdings::holdings;
 use crate::peaks::peaks_fit;
 use crate::range::is_in_range;
 use crate::reach::reached_places;
+use crate::regions::has_regions;
 use pb_base::Claims;
 use pb_base::limits::{MAX_AMOUNT, MAX_RESOURCES};
 use pb_code::ProcessCode;
@@ -68,6 +69,12 @@ pub fn check_process(
         Ok(true) => {}
         Ok(false) => return Err(VerifyFault::OverClaim),
         Err(_) => return Err(VerifyFault::NoMemory),
+    }
+    let Ok(regions) = has_regions(alloc, code) else {
+        return Err(VerifyFault::NoMemory);
+    };
+    if !regions {
+        return Err(VerifyFault::WrongRegions);
     }
     match arm_depths(alloc, code, &depths) {
         Ok(row) => Ok(row),

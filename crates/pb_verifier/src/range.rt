@@ -58,7 +58,7 @@ fn uses_what_is_there(code: &ProcessCode, instr: Instr, resources: usize) -> boo
     ensures { (result ≡ true) ↔ UsesWhatIsThere code.now.integers resources (plain code.now instr) }
 {
     match instr {
-        Instr::Load(x) | Instr::Store(x) => x < code.integers,
+        Instr::Load(x) | Instr::Store(x) | Instr::Enter(x) | Instr::Leave(x) => x < code.integers,
         Instr::Take(bundle) | Instr::Give(bundle) => names_resources(code, bundle, resources),
         _ => true,
     }
