@@ -1,6 +1,6 @@
 -- The region of a place, that of the place after it, and who is inside.
-use Rattle.std.proofs.Common.{◌≡◌, ℕ, zero, suc, ◌+◌, ℤ, Bool, true, false, ◌||◌, List, [], ◌∷◌, Option, Some, None}
-use Rattle.std.proofs.Common.{refl, sym, ap, ◌∙◌, add-one, eqb-true}
+use Rattle.std.proofs.Common.{◌≡◌, ℕ, zero, suc, ◌+◌, ◌<◌, ℤ, Bool, true, false, ◌||◌, List, [], ◌∷◌, length, Option}
+use Rattle.std.proofs.Common.{Some, None, refl, ap, add-one, eqb-true, arith}
 use Rattle.std.specs.Prelude.{slice_get}
 use Rattle.pb_code.specs.Code.{Instr, Thread, Idle, Live, Ended, thread, region_after, region_from, region_at}
 use Rattle.pb_code.specs.Code.{is_region_of, is_inside, some_inside}
@@ -58,3 +58,21 @@ none_inside instrs x (t ∷ threads) e a = go (is_inside instrs x t) refl e (non
     go true here e' later b = cc
     go false here e' later zero = here
     go false here e' later (suc b) = later e' b
+
+pub some_from : (instrs : List Instr) (x : ℕ) (threads : List Thread) (a : ℕ) → is_inside instrs x (thread threads a) ≡ true
+    → some_inside instrs x threads ≡ true
+some_from instrs x [] a e = cc
+some_from instrs x (t ∷ threads) zero e = rw e refl
+some_from instrs x (t ∷ threads) (suc a) e = or_right (is_inside instrs x t) (some_inside instrs x threads) (some_from instrs x threads a e)
+  where
+    or_right : (b c : Bool) → c ≡ true → (b || c) ≡ true
+    or_right true c h = refl
+    or_right false c h = h
+
+pub none_from : (instrs : List Instr) (x : ℕ) (threads : List Thread)
+    → ((a : ℕ) → a < length threads → is_inside instrs x (thread threads a) ≡ false) → some_inside instrs x threads ≡ false
+none_from instrs x [] none = refl
+none_from instrs x (t ∷ threads) none =
+    let here : is_inside instrs x t ≡ false = none 0 (omega arith) in
+    let later : some_inside instrs x threads ≡ false = none_from instrs x threads (λ a u. none (suc a) (omega (arith, u))) in
+    rw (here, later) refl

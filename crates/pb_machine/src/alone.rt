@@ -21,7 +21,8 @@ impl Proc {
         let process = pick.process;
         let arm = pick.arm as usize;
         let code = &verified.code().processes[process as usize];
-        match self.turn(code, arm) {
+        let table = verified.regions(process as usize);
+        match self.turn(code, table, arm) {
             Turn::Silent => Step::Silent,
             Turn::NotEnabled => Step::NotEnabled,
             Turn::Prints => {

@@ -8,6 +8,7 @@ ghost use Rattle.pb_machine.specs.Acts.{IsReadyThread};
 ghost use Rattle.pb_machine.specs.Looks.{look_of, peek_of};
 ghost use Rattle.pb_machine.specs.Ready.{AreReady};
 ghost use Rattle.pb_machine.specs.Views.{proc_view, rooms_of, IsProcessOf};
+ghost use Rattle.pb_verifier.specs.Regions.{AreRegions};
 
 use crate::process::Proc;
 use crate::stack::Stack;
@@ -19,7 +20,8 @@ use pb_verifier::Verified;
 /// What a pick would come to.
 #[derive(Clone, Copy, Debug, PartialEq, Eq)]
 pub enum Look {
-    /// The arm cannot step: it is not live, or waits for arms that have not all ended.
+    /// The arm cannot step: it is not live, or waits for arms that have not all ended, or for an arm that is inside
+    /// a region.
     Stays,
     /// It would show nothing.
     Silent,
@@ -33,6 +35,7 @@ pub enum Peek {
     Silent,
     Visible,
     Joins { first: u8, count: u8 },
+    Enters(u8),
     Ends,
 }
 
@@ -44,12 +47,14 @@ impl Proc {
         ensures { result ≡ look_of (code_step verified.now.code.processes pick.process (proc_view self.now) pick.arm) }
     {
         let code = &verified.code().processes[pick.process as usize];
-        self.glance(code, pick.arm as usize)
+        let table = verified.regions(pick.process as usize);
+        self.glance(code, table, pick.arm as usize)
     }
 
     /// Returns the same, beside the code of the process.
-    fn glance(&self, code: &ProcessCode, arm: usize) -> Look
-        requires { AreReady (process_view code.now) (proc_view self.now) (rooms_of self.now) }
+    fn glance(&self, code: &ProcessCode, regions: &[Option<u8>], arm: usize) -> Look
+        requires ready { AreReady (process_view code.now) (proc_view self.now) (rooms_of self.now) }
+        requires regions { AreRegions (process_view code.now).instrs regions.now }
         ensures { result ≡ look_of (step_process (process_view code.now) (proc_view self.now) arm) }
     {
         if arm >= self.threads.len() {
@@ -68,6 +73,13 @@ impl Proc {
                     Look::Silent
                 } else {
                     Look::Stays
+                }
+            }
+            Peek::Enters(integer) => {
+                if self.some_inside(regions, integer) {
+                    Look::Stays
+                } else {
+                    Look::Silent
                 }
             }
             Peek::Ends => {
@@ -113,6 +125,8 @@ fn peek_at(stack: &Stack, instr: Instr) -> Peek
         Instr::Give(_) => Peek::Visible,
         Instr::Fork { .. } => Peek::Silent,
         Instr::Join { first, count } => Peek::Joins { first, count },
+        Instr::Enter(integer) => Peek::Enters(integer),
+        Instr::Leave(_) => Peek::Silent,
         Instr::End => Peek::Ends,
     }
 }

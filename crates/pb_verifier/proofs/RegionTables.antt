@@ -1,17 +1,19 @@
 -- Tables of regions, and what they say of code.
-use Rattle.std.proofs.Common.{◌≡◌, ◌⊎◌, inl, inr, ⊎_elim, ℕ, ◌+◌, ◌<◌, ◌≤◌, List, [], ◌∷◌, ◌++◌, length, get_or}
+use Rattle.std.proofs.Common.{◌≡◌, ◌⊎◌, inl, inr, ℕ, zero, suc, ◌+◌, ◌<◌, ◌≤◌, List, [], ◌∷◌, ◌++◌, length, get_or, map}
 use Rattle.std.proofs.Common.{Option, Some, None, refl, sym, ap, ◌∙◌, subst, arith, length-append}
 use Rattle.std.specs.Prelude.{slice_get}
 use Rattle.std.proofs.lemmas.Bool.{cases_lt}
-use Rattle.std.proofs.lemmas.List.{get_or_append_left}
-use Rattle.std.proofs.lemmas.Option.{slice_get_within}
+use Rattle.std.proofs.lemmas.List.{get_or_append_left, length-map}
+use Rattle.std.proofs.lemmas.Option.{slice_get-get_or, slice_get_within}
 use Rattle.std.proofs.Math.Seq.{get_or-append_seam}
-use Rattle.pb_code.specs.Code.{Instr, ProcessCode, region_after, region_at}
-use Rattle.pb_code.proofs.Regions.{region_at_next}
+use Rattle.pb_code.specs.Code.{Instr, ProcessCode, region_at}
+use Rattle.pb_code.specs.View.{code_view, process_view}
+use Rattle.pb_code.specs.declared.code.Code.{Code as GivenCode}
+use Rattle.pb_code.specs.declared.code.ProcessCode.{ProcessCode as GivenProcess}
 use Rattle.pb_verifier.specs.Faults.{FitsRegion, HasArms, HasRegions}
 use Rattle.pb_verifier.specs.Flow.{target_of}
 use Rattle.pb_verifier.specs.Places.{InstrAt, arms, entry, IsInArm, JumpsTo}
-use Rattle.pb_verifier.specs.Regions.{AreRegionsBelow, AreRegions, FitsAt, region_in}
+use Rattle.pb_verifier.specs.Regions.{AreRegionsBelow, AreRegions, AreRegionTables, FitsAt, region_in}
 use Rattle.pb_verifier.proofs.ArmOrder.{jumps_from, jumps_to}
 use Rattle.pb_verifier.proofs.ArmPlaces.{place_has}
 use Rattle.pb_verifier.proofs.ForkTables.{arm_of}
@@ -67,3 +69,30 @@ module _ (code : ProcessCode) (lie : HasArms code) (some : 1 ≤ arms code) (reg
 
   pub begin_of : HasRegions code → (a : ℕ) → a < arms code → region_in regions (entry code a) ≡ None
   begin_of has a u = at_entry_of a u ∙ has.outside a u
+
+-- ---- the tables of all processes
+
+-- a table is that of the process with its number
+abbrev pub IsTable : List GivenProcess → ℕ → List (Option ℕ) → Type 0
+IsTable processes p regions = (of : GivenProcess) → slice_get processes p ≡ Some of → AreRegions (process_view of).instrs regions
+
+-- so is each of these
+abbrev pub AreMade : List GivenProcess → List (List (Option ℕ)) → Type 0
+AreMade processes tables = (p : ℕ) (regions : List (Option ℕ)) → slice_get tables p ≡ Some regions → IsTable processes p regions
+
+read_back : (processes : List GivenProcess) (p : ℕ) (of : ProcessCode) → slice_get (map process_view processes) p ≡ Some of
+    → (given : GivenProcess) × (slice_get processes p ≡ Some given) × (process_view given ≡ of)
+read_back [] p of there = cc
+read_back (x ∷ xs) zero of there = (x, refl, (let same : process_view x ≡ of = cc in same))
+read_back (x ∷ xs) (suc p) of there = read_back xs p of there
+
+pub all_made : (code : GivenCode) (tables : List (List (Option ℕ))) → length tables ≡ length code.processes.items
+    → AreMade code.processes.items tables → AreRegionTables (code_view code) tables
+all_made code tables count made = record {
+  as_many = count ∙ sym (length-map code.processes.items process_view);
+  each = λ p of there.
+      let given = read_back code.processes.items p of there in
+      let lt = slice_get_within code.processes.items p given.0 given.1 in
+      let read = slice_get-get_or tables p [] (omega (arith, lt, count)) in
+      subst (λ (plain : ProcessCode). AreRegions plain.instrs (get_or tables p [])) given.2 (made p (get_or tables p []) read given.0 given.1);
+}

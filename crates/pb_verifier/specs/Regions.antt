@@ -1,6 +1,7 @@
--- The regions of places in a table, as the verifier makes it. No public contract but that of the table cites this file.
-use Rattle.std.specs.Prelude.{◌≡◌, ◌<◌, ℕ, List, length, slice_index_or, Option, Some, None}
-use Rattle.pb_code.specs.Code.{Instr, region_at}
+-- The regions of places in tables, which a machine reads.
+use Rattle.std.specs.Prelude.{◌≡◌, ◌<◌, ℕ, List, [], length, slice_get, slice_index_or, Option, Some, None}
+use Rattle.pb_code.specs.Code.{Instr, ProcessCode, region_at}
+use Rattle.pb_code.specs.Whole.{Code}
 use Rattle.pb_verifier.specs.Faults.{FitsRegion}
 use Rattle.pb_verifier.specs.Flow.{target_of}
 
@@ -16,6 +17,16 @@ pub record AreRegionsBelow (instrs : List Instr) (n : ℕ) (regions : List (Opti
 -- the region of each place
 abbrev pub AreRegions : List Instr → List (Option ℕ) → Type 0
 AreRegions instrs regions = AreRegionsBelow instrs (length instrs) regions
+
+-- those of process p of the code
+abbrev pub AreRegionsOf : Code → (p : ℕ) → List (Option ℕ) → Type 0
+AreRegionsOf code p regions =
+    (of : ProcessCode) → slice_get code.processes p ≡ Some of → AreRegions of.instrs regions
+
+-- those of each process
+pub record AreRegionTables (code : Code) (tables : List (List (Option ℕ))) : Type 0 where
+  pub as_many : length tables ≡ length code.processes
+  pub each : (p : ℕ) → AreRegionsOf code p (slice_index_or tables p [])
 
 -- an instruction fits the region of its place in a table, and jumps to no place with another one
 abbrev pub FitsAt : List (Option ℕ) → ℕ → Instr → Type 0

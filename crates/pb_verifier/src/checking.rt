@@ -11,6 +11,7 @@ use crate::fault::VerifyFault;
 use crate::limits::keeps_limits;
 use crate::process::check_process;
 use crate::range::fit_capital;
+use crate::regions::regions_of_code;
 use crate::verified::Verified;
 use pb_code::Code;
 use pb_groups::groups_of_code;
@@ -104,8 +105,11 @@ pub fn verify(alloc: Global, code: Code) -> Result<Verified, (Code, VerifyFault)
         Ok(depths) => depths,
         Err(fault) => return Err((code, fault)),
     };
+    let Ok(regions) = regions_of_code(alloc, &code) else {
+        return Err((code, VerifyFault::NoMemory));
+    };
     match groups_of_code(alloc, &code) {
-        Ok(groups) => Ok(Verified::new(code, depths, groups)),
+        Ok(groups) => Ok(Verified::new(code, depths, groups, regions)),
         Err(_) => Err((code, VerifyFault::NoMemory)),
     }
 }

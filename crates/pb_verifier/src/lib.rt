@@ -23,4 +23,5 @@ mod verified;
 
 pub use checking::verify;
 pub use fault::VerifyFault;
+pub use regions::region;
 pub use verified::Verified;

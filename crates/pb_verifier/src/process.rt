@@ -70,11 +70,10 @@ pub fn check_process(
         Ok(false) => return Err(VerifyFault::OverClaim),
         Err(_) => return Err(VerifyFault::NoMemory),
     }
-    let Ok(regions) = has_regions(alloc, code) else {
-        return Err(VerifyFault::NoMemory);
-    };
-    if !regions {
-        return Err(VerifyFault::WrongRegions);
+    match has_regions(alloc, code) {
+        Ok(true) => {}
+        Ok(false) => return Err(VerifyFault::WrongRegions),
+        Err(_) => return Err(VerifyFault::NoMemory),
     }
     match arm_depths(alloc, code, &depths) {
         Ok(row) => Ok(row),

@@ -1,19 +1,19 @@
 //! Whether regions are entered from outside and left from inside, and nothing inside waits, lends or ends an arm.
 
-ghost use Rattle.std.specs.Prelude.{◌≡◌, ◌↔◌, ◌≤◌, ◌<◌, ℕ, List, Option, None, Some, IfOk, slice_get, true};
+ghost use Rattle.std.specs.Prelude.{◌≡◌, ◌↔◌, ◌≤◌, ◌<◌, ℕ, List, None, Some, IfOk, map, slice_get, true};
 ghost use Rattle.pb_base.specs.Steppers.{Bundle};
 ghost use Rattle.pb_code.specs.Code.{Instr as PlainInstr, region_after};
-ghost use Rattle.pb_code.specs.View.{instr_view, process_view};
+ghost use Rattle.pb_code.specs.View.{code_view, instr_view, process_view};
 ghost use Rattle.pb_verifier.specs.Faults.{FitsRegion, HasArms, HasRegions};
 ghost use Rattle.pb_verifier.specs.Flow.{target_of};
 ghost use Rattle.pb_verifier.specs.Given.{instrs_of, plain};
 ghost use Rattle.pb_verifier.specs.Places.{arms, entry};
-ghost use Rattle.pb_verifier.specs.Regions.{AreRegions, FitsAt, region_in};
+ghost use Rattle.pb_verifier.specs.Regions.{AreRegions, AreRegionTables, FitsAt, region_in};
 
 use crate::arms::{arm_count, arm_entry};
 use crate::places::{instr_at, places, target};
 use pb_base::NoMemory;
-use pb_code::{Instr, ProcessCode};
+use pb_code::{Code, Instr, ProcessCode};
 use std::alloc::Global;
 
 /// Returns the region that is open after an instruction.
@@ -44,8 +44,23 @@ pub fn regions_of(alloc: Global, code: &ProcessCode) -> Result<Vec<Option<u8>>, 
     Ok(regions)
 }
 
+/// Returns the regions of each process of the code, by its number.
+///
+/// # Errors
+///
+/// `NoMemory` if `alloc` is out of memory.
+pub fn regions_of_code(alloc: Global, code: &Code) -> Result<Vec<Vec<Option<u8>>>, NoMemory>
+    ensures { IfOk result (λ tables. AreRegionTables (code_view code.now) (map (λ regions. regions.items) tables.items)) }
+{
+    let mut tables = Vec::with_capacity(alloc, code.processes.len())?;
+    for process in &code.processes {
+        tables.push(regions_of(alloc, process)?)?;
+    }
+    Ok(tables)
+}
+
 /// Returns the region of a place in a table.
-fn region(regions: &[Option<u8>], place: usize) -> Option<u8>
+pub fn region(regions: &[Option<u8>], place: usize) -> Option<u8>
     ensures { result ≡ region_in regions.now place }
 {
     match regions.get(place) {
@@ -126,6 +141,10 @@ pub fn has_regions(alloc: Global, code: &ProcessCode) -> Result<bool, NoMemory>
     requires arms { HasArms (process_view code.now) }
     ensures { IfOk result (λ has. (has ≡ true) ↔ HasRegions (process_view code.now)) }
 {
-    let regions = regions_of(alloc, code)?;
-    Ok(all_fit(code, &regions) && begin_outside(code, &regions))
+    let table = regions_of(alloc, code)?;
+    let regions: &[Option<u8>] = &table;
+    if !all_fit(code, regions) {
+        return Ok(false);
+    }
+    Ok(begin_outside(code, regions))
 }

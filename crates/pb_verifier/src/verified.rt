@@ -4,6 +4,7 @@ ghost use Rattle.std.specs.Prelude.{◌≡◌, ◌<◌, length, slice_index, sli
 ghost use Rattle.pb_base.specs.Lines.{names_view};
 ghost use Rattle.pb_code.specs.View.{code_view};
 ghost use Rattle.pb_groups.specs.Groups.{AreGroupsOf, AreTables};
+ghost use Rattle.pb_verifier.specs.Regions.{AreRegionsOf, AreRegionTables};
 ghost use Rattle.pb_verifier.specs.Verified.{IsVerified};
 
 use pb_base::Names;
@@ -17,6 +18,7 @@ pub struct Verified {
     code: Code,
     depths: Vec<Vec<u16>>,
     groups: Vec<Vec<Group>>,
+    regions: Vec<Vec<Option<u8>>>,
 }
 
 impl Model for Verified {
@@ -24,27 +26,36 @@ impl Model for Verified {
     ghost use Rattle.pb_verifier.specs.Verified.{VerifiedCode, IsVerified};
     ghost use Rattle.pb_code.specs.View.{code_view};
     ghost use Rattle.pb_groups.specs.Groups.{AreTables};
+    ghost use Rattle.pb_verifier.specs.Regions.{AreRegionTables};
 
     ghost Value = { VerifiedCode };
 
     ghost view = { λ v. record { code = code_view v.code; depths = map (λ row. row.items) v.depths.items } };
 
     ghost invariant = { λ v. IsVerified (record { code = code_view v.code; depths = map (λ row. row.items) v.depths.items })
-        × AreTables (code_view v.code) (map (λ table. table.items) v.groups.items) };
+        × AreTables (code_view v.code) (map (λ table. table.items) v.groups.items)
+        × AreRegionTables (code_view v.code) (map (λ table. table.items) v.regions.items) };
 }
 
 impl Verified {
-    /// Returns the code with a row for each process, which has the greatest depth of each of its arms, and a
-    /// table for each process, which has its groups.
-    pub(crate) fn new(code: Code, depths: Vec<Vec<u16>>, groups: Vec<Vec<Group>>) -> Verified
+    /// Returns the code with a row for each process, which has the greatest depth of each of its arms, and two
+    /// tables for each process, which have its groups and its regions.
+    pub(crate) fn new(
+        code: Code,
+        depths: Vec<Vec<u16>>,
+        groups: Vec<Vec<Group>>,
+        regions: Vec<Vec<Option<u8>>>,
+    ) -> Verified
         requires verified { IsVerified (record { code = code_view code; depths = map (λ row. row.items) depths.items }) }
         requires groups { AreTables (code_view code) (map (λ table. table.items) groups.items) }
+        requires regions { AreRegionTables (code_view code) (map (λ table. table.items) regions.items) }
         ensures { result ≡ record { code = code_view code; depths = map (λ row. row.items) depths.items } }
     {
         Verified {
             code,
             depths,
             groups,
+            regions,
         }
     }
 
@@ -87,5 +98,13 @@ impl Verified {
         ensures { AreGroupsOf self.now.code process result.now }
     {
         &self.groups[process]
+    }
+
+    /// Returns the region of each place of the code of a process, made when the code was verified.
+    pub fn regions(&self, process: usize) -> &[Option<u8>]
+        requires { process < length self.now.code.processes }
+        ensures { AreRegionsOf self.now.code process result.now }
+    {
+        &self.regions[process]
     }
 }

@@ -15,7 +15,7 @@ returns-then-not-has_forks-clause-refused c =
       earlier =
           free_below 4 (width_of c.args.claims.now) (cell c.args.claims.now c.args.process) (process_view
           c.args.code.now) (λ _. range) (λ _. arms) (λ u. absurd (omega arith)) (λ u. absurd (omega arith)) (λ u. absurd
-          (omega arith)) (λ u. absurd (omega arith)) (λ u. absurd (omega arith));
+          (omega arith)) (λ u. absurd (omega arith)) (λ u. absurd (omega arith)) (λ u. absurd (omega arith));
     }
 
 pub returns-in-Ok-None-holdings-clause-refused : goal.returns-in-Ok-None-holdings-clause-refused
@@ -29,7 +29,7 @@ returns-in-Ok-None-holdings-clause-refused c =
       earlier =
           free_below 6 (width_of c.args.claims.now) (cell c.args.claims.now c.args.process) (process_view
           c.args.code.now) (λ _. range) (λ _. arms) (λ _. forks) (λ _. (_, depths.spreads)) (λ u. absurd (omega arith))
-          (λ u. absurd (omega arith)) (λ u. absurd (omega arith));
+          (λ u. absurd (omega arith)) (λ u. absurd (omega arith)) (λ u. absurd (omega arith));
     }
 
 pub returns-then-not-ends_clear-clause-refused : goal.returns-then-not-ends_clear-clause-refused
@@ -44,7 +44,7 @@ returns-then-not-ends_clear-clause-refused c =
       earlier =
           free_below 7 (width_of c.args.claims.now) (cell c.args.claims.now c.args.process) (process_view
           c.args.code.now) (λ _. range) (λ _. arms) (λ _. forks) (λ _. (_, depths.spreads)) (λ _. (_, holdings.spreads))
-          (λ u. absurd (omega arith)) (λ u. absurd (omega arith));
+          (λ u. absurd (omega arith)) (λ u. absurd (omega arith)) (λ u. absurd (omega arith));
     }
 
 pub peaks_fit-requires-clause-holdings : goal.peaks_fit-requires-clause-holdings
@@ -65,7 +65,27 @@ returns-in-Ok-false-clause-refused c =
           c.in-Ok-false.field-0-test ∙ yes in cc;
       earlier = free_below 8 (width_of c.args.claims.now) (cell
           c.args.claims.now c.args.process) (process_view c.args.code.now) (λ _. range) (λ _. arms) (λ _. forks) (λ _.
-          (_, depths.spreads)) (λ _. (_, holdings.spreads)) (λ _. ends) (λ u. absurd (omega arith));
+          (_, depths.spreads)) (λ _. (_, holdings.spreads)) (λ _. ends) (λ u. absurd (omega arith)) (λ u. absurd (omega arith));
+    }
+
+pub has_regions-requires-clause-arms : goal.has_regions-requires-clause-arms
+has_regions-requires-clause-arms c = c.if-not-has_arms.ensures.0 refl
+
+pub returns-in-Ok-false-has_regions-clause-refused : goal.returns-in-Ok-false-has_regions-clause-refused
+returns-in-Ok-false-has_regions-clause-refused c =
+    let range = subst (λ (n : ℕ). IsInRange n (process_view c.args.code.now)) c.resources.ensures.number (c.if-not-is_in_range.ensures.0 refl) in
+    let arms = c.if-not-has_arms.ensures.0 refl in
+    let forks = c.if-not-has_forks.ensures.0 refl in
+    let depths = rw c.in-Ok-Some.field-0-is at c.in-Ok-Some.ensures.yes in
+    let holdings = rw c.in-Ok-Some-holdings.field-0-is at c.in-Ok-Some-holdings.ensures.yes in
+    let ends = c.if-not-ends_clear.ensures.0 refl in
+    let peaks = c.in-Ok-true.ensures.0 c.in-Ok-true.field-0-test in
+    λ _. record {
+      there = λ regions. let yes = c.in-Ok-false-has_regions.ensures.1 regions in let wrong : false ≡ true = sym
+          c.in-Ok-false-has_regions.field-0-test ∙ yes in cc;
+      earlier = free_below 9 (width_of c.args.claims.now) (cell
+          c.args.claims.now c.args.process) (process_view c.args.code.now) (λ _. range) (λ _. arms) (λ _. forks) (λ _.
+          (_, depths.spreads)) (λ _. (_, holdings.spreads)) (λ _. ends) (λ _. peaks) (λ u. absurd (omega arith));
     }
 
 pub returns-in-Ok-arm_depths-clause-sound : goal.returns-in-Ok-arm_depths-clause-sound
@@ -78,12 +98,13 @@ returns-in-Ok-arm_depths-clause-sound c =
     let ends = c.if-not-ends_clear.ensures.0 refl in
     let t = c.in-Ok-true.field-0-test in
     let peaks = c.in-Ok-true.ensures.0 t in
+    let regions = c.in-Ok-true-has_regions.ensures.0 c.in-Ok-true-has_regions.field-0-test in
     record {
-      free = λ fault. free_below 10 (width_of c.args.claims.now) (cell c.args.claims.now c.args.process) (process_view
+      free = λ fault. free_below 11 (width_of c.args.claims.now) (cell c.args.claims.now c.args.process) (process_view
           c.args.code.now) (λ _. range) (λ _. arms) (λ _. forks) (λ _. (_, depths.spreads)) (λ _. (
             _,
             holdings.spreads,
-          )) (λ _. ends) (λ _. peaks) fault (turn_below fault);
+          )) (λ _. ends) (λ _. peaks) (λ _. regions) fault (turn_below fault);
       all = c.in-Ok-arm_depths.ensures.all;
       greatest = c.in-Ok-arm_depths.ensures.greatest;
     }
