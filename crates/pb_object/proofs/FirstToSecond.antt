@@ -14,7 +14,7 @@ use Rattle.pb_base.specs.declared.pair.Pair.{Pair}
 use Rattle.pb_code.proofs.NameTests.{false_from}
 use Rattle.pb_code.specs.declared.format.Format.{Format}
 use Rattle.pb_code.specs.declared.format.Format.TheVariants.{One, Two}
-use Rattle.pb_code.specs.Code.{Instr, Take, Give}
+use Rattle.pb_code.specs.Code.{Instr, Take, Give, Enter, Leave}
 use Rattle.pb_code.specs.Whole.{Code, ProcessLabels}
 use Rattle.pb_code.specs.Names.{Word, is_name_byte, is_name, is_among}
 use Rattle.pb_object.specs.Words.{are_new}
@@ -97,6 +97,8 @@ bundle_moved ps good = record { some = good.some; few = (let h = good.few in ome
 instr_moved : (i : Instr) → IsInstr One i → IsInstr Two i
 instr_moved (Take ps) good = bundle_moved ps good
 instr_moved (Give ps) good = bundle_moved ps good
+instr_moved (Enter x) good = absurd good
+instr_moved (Leave x) good = absurd good
 instr_moved i good = good
 
 place_moved : (format : Format) (p : Option ℕ × Instr) → IsPlace format p → IsPlace Two p

@@ -20,15 +20,15 @@ use Rattle.pb_base.proofs.Cases.{both_true}
 use Rattle.pb_code.specs.declared.instr.Instr.{Instr as Given}
 use Rattle.pb_code.specs.declared.instr.Instr.TheVariants as given
 use Rattle.pb_code.specs.Code.{Instr, Push, Load, Store, Compute1, Compute2, Jump, JumpIfZero, PrintTop, Take, Give}
-use Rattle.pb_code.specs.Code.{Fork, Join, End}
+use Rattle.pb_code.specs.Code.{Fork, Join, Enter, Leave, End}
 use Rattle.pb_code.specs.View.{instr_view}
 use Rattle.pb_code.specs.Bundles.{IsPlain}
 use Rattle.pb_code.specs.Names.{Word}
 use Rattle.pb_object.specs.Words.{mapped, number}
 use Rattle.pb_object.specs.Instructions.{alone, two, signed, bare, push_of, bundle_of, operation, comparison, plain}
-use Rattle.pb_object.specs.Instructions.{instr_of, instr, instr_words, line_given, line_number, place, place_words}
+use Rattle.pb_object.specs.Instructions.{region_of, other, instr_of, instr, instr_words, line_given, line_number, place, place_words}
 use Rattle.pb_code.specs.Limits.{IsSigned, IsLine}
-use Rattle.pb_object.specs.Ranges.{AreArms, IsInstr, IsPlace}
+use Rattle.pb_object.specs.Ranges.{AreArms, IsInstr, IsPlace, IsRegion}
 use Rattle.pb_code.proofs.NumeralLemmas.{own}
 use Rattle.pb_object.proofs.Numbers.{number_takes, number_again}
 use Rattle.pb_code.proofs.NameTests.{false_from}
@@ -189,9 +189,34 @@ plain_says k ws i e =
     select_or k (codes "join") _ _ i e (arms_says (codes "join") k ws (λ a. given.Join a.0 a.1) i (λ n. refl) (λ n h f. h) (λ n. tt)) (λ e.
     select_or k (codes "end") _ _ i e (bare_says (codes "end") k ws given.End i refl (λ f. tt) tt) (comparison_says k ws i)))))))))
 
+-- ---- regions, and what has none
+
+-- the same in one format
+abbrev SaysIn : Format → Word → List Word → Given → Type 0
+SaysIn format k ws i = (k ∷ ws ≡ instr_words (instr_view [] i)) × IsInstr format (instr_view [] i) × IsPlain i
+
+region_says : (format : Format) (key k : Word) (ws : List Word) (make : ℕ → Given) (i : Given)
+    → ((n : ℕ) → instr_words (instr_view [] (make n)) ≡ key ∷ decimal n ∷ [])
+    → ((n : ℕ) → IsRegion format n → IsInstr format (instr_view [] (make n))) → ((n : ℕ) → IsPlain (make n))
+    → k ≡ key → region_of format make ws ≡ Read i → SaysIn format k ws i
+region_says One key k ws make i words good named h e = absurd cc
+region_says Two key k ws make i words good named h e =
+    let m = mapped_read make (alone (number 0 63) ws) i e in
+    let p = alone_takes 0 63 (omega arith) ws m.0 m.1 in
+    let most = p.2 in
+    let line : k ∷ ws ≡ key ∷ decimal m.0 ∷ [] = (let a = p.0 in cc) in
+    subst (λ (x : Given). SaysIn Two k ws x) m.2 (line ∙ sym (words m.0), good m.0 (omega (arith, most)), named m.0)
+
+other_says_of : (format : Format) (k : Word) (ws : List Word) (i : Given) → other format k ws ≡ Read i → SaysIn format k ws i
+unfolding other
+other_says_of format k ws i e =
+    select_or k (codes "enter") _ _ i e (region_says format (codes "enter") k ws given.Enter i (λ n. refl) (λ n h. h) (λ n. tt)) (λ e.
+    select_or k (codes "leave") _ _ i e (region_says format (codes "leave") k ws given.Leave i (λ n. refl) (λ n h. h) (λ n. tt)) (λ e.
+    let p = plain_says k ws i e in (p.0, p.1 format, p.2)))
+
 -- an instruction that was read takes and gives nothing
-pub plain_is : (k : Word) (ws : List Word) (i : Given) → plain k ws ≡ Read i → IsPlain i
-plain_is k ws i e = (plain_says k ws i e).2
+pub other_is : (format : Format) (k : Word) (ws : List Word) (i : Given) → other format k ws ≡ Read i → IsPlain i
+other_is format k ws i e = (other_says_of format k ws i e).2
 
 abbrev Reads : Format → Word → List Word → Instr → Type 0
 Reads format k ws i = (k ∷ ws ≡ instr_words i) × IsInstr format i
@@ -208,11 +233,11 @@ give_says format k ws i h e =
     let p = bundle_takes format ws m.0 m.1 in
     subst (λ (x : Instr). Reads format k ws x) m.2 ((let a = p.0 in cc), p.1)
 
-other_says : (format : Format) (k : Word) (ws : List Word) (i : Instr) → mapped (instr_view []) (plain k ws) ≡ Read i → Reads format k ws i
+other_says : (format : Format) (k : Word) (ws : List Word) (i : Instr) → mapped (instr_view []) (other format k ws) ≡ Read i → Reads format k ws i
 other_says format k ws i e =
-    let m = mapped_read (instr_view []) (plain k ws) i e in
-    let p = plain_says k ws m.0 m.1 in
-    subst (λ (x : Instr). Reads format k ws x) m.2 (p.0, p.1 format)
+    let m = mapped_read (instr_view []) (other format k ws) i e in
+    let p = other_says_of format k ws m.0 m.1 in
+    subst (λ (x : Instr). Reads format k ws x) m.2 (p.0, p.1)
 
 instr_takes : (format : Format) (ws : List Word) (i : Instr) → instr format ws ≡ Read i → (ws ≡ instr_words i) × IsInstr format i
 unfolding instr_of
@@ -223,8 +248,18 @@ instr_takes format (k ∷ ws) i e =
 
 -- ---- again
 
+enter_again : (format : Format) (x : ℕ) → IsRegion format x → instr format (instr_words (Enter x)) ≡ Read (Enter x)
+unfolding instr_of other
+enter_again One x good = absurd good
+enter_again Two x good = rw (number_again 0 63 x (omega arith) (omega arith) (omega (arith, good))) refl
+
+leave_again : (format : Format) (x : ℕ) → IsRegion format x → instr format (instr_words (Leave x)) ≡ Read (Leave x)
+unfolding instr_of other
+leave_again One x good = absurd good
+leave_again Two x good = rw (number_again 0 63 x (omega arith) (omega arith) (omega (arith, good))) refl
+
 instr_again : (format : Format) (i : Instr) → IsInstr format i → instr format (instr_words i) ≡ Read i
-unfolding instr_of plain comparison operation
+unfolding instr_of other plain comparison operation
 instr_again format (Push v) good = rw (signed_again v good) refl
 instr_again format (Load x) good = rw (number_again 0 63 x (omega arith) (omega arith) (omega (arith, good))) refl
 instr_again format (Store x) good = rw (number_again 0 63 x (omega arith) (omega arith) (omega (arith, good))) refl
@@ -258,6 +293,8 @@ instr_again format (Join f n) good =
       number_again 1 63 f (omega arith) good.0 (let b = good.1 in omega (arith, b)),
       number_again 1 16 n (omega arith) good.2 good.3,
     ) refl
+instr_again format (Enter x) good = enter_again format x good
+instr_again format (Leave x) good = leave_again format x good
 instr_again format End good = refl
 
 number_clean : (n high : ℕ) → n ≤ high → high < 2 ^ 64 → list_all is_inner (decimal n) ≡ true
@@ -266,6 +303,10 @@ number_clean n high le small = decimal_clean n (omega arith)
 signed_clean : (v : ℤ) → IsSigned v → list_all is_inner (signed_decimal v) ≡ true
 signed_clean (pos n) good = decimal_clean n (omega (arith, good))
 signed_clean (negsuc n) good = rw (decimal_clean (suc n) (omega (arith, good))) refl
+
+region_clean : (format : Format) (x : ℕ) → IsRegion format x → list_all is_inner (decimal x) ≡ true
+region_clean One x good = absurd good
+region_clean Two x good = number_clean x 63 (omega (arith, good)) (omega arith)
 
 instr_clean : (format : Format) (i : Instr) → IsInstr format i → AreWords (instr_words i)
 instr_clean format (Push v) good = (refl, (signed_clean v good, tt))
@@ -297,6 +338,8 @@ instr_clean format (Fork f n) good =
 instr_clean format (Join f n) good =
     let first = number_clean f 63 (let b = good.1 in omega (arith, b)) (omega arith) in
     (refl, (first, (number_clean n 16 good.3 (omega arith), tt)))
+instr_clean format (Enter x) good = (refl, (region_clean format x good, tt))
+instr_clean format (Leave x) good = (refl, (region_clean format x good, tt))
 instr_clean format End good = (refl, tt)
 
 as_line : (format : Format) (ws : List Word) (i : Instr) → ws ≡ instr_words i → instr format ws ≡ Read i → AreWords ws → AreLine ws

@@ -13,7 +13,7 @@ use Rattle.pb_base.proofs.Cases.{both_true, not_true}
 use Rattle.pb_code.specs.declared.instr.Instr.{Instr as Given}
 use Rattle.pb_code.specs.declared.instr.Instr.TheVariants as given
 use Rattle.pb_code.specs.Code.{Instr, Push, Load, Store, Compute1, Compute2, Jump, JumpIfZero, PrintTop, Take, Give}
-use Rattle.pb_code.specs.Code.{Fork, Join, End}
+use Rattle.pb_code.specs.Code.{Fork, Join, Enter, Leave, End}
 use Rattle.pb_code.specs.View.{instr_view}
 use Rattle.pb_code.specs.Names.{Word}
 use Rattle.pb_code.specs.Numerals.{is_numeral}
@@ -24,7 +24,7 @@ use Rattle.pb_code.specs.declared.format.Format.{Format}
 use Rattle.pb_code.specs.declared.format.Format.TheVariants.{One, Two}
 use Rattle.pb_object.specs.Words.{mapped, paired, number}
 use Rattle.pb_object.specs.Instructions.{alone, two, signed, bare, push_of, names_resource, pair_of, pairs_of, pair_words, most_pairs}
-use Rattle.pb_object.specs.Instructions.{bundle_of, operation, comparison, plain, instr_of, instr, instr_words, line_given, place, place_words}
+use Rattle.pb_object.specs.Instructions.{bundle_of, operation, comparison, plain, region_of, other, instr_of, instr, instr_words, line_given, place, place_words}
 use Rattle.pb_object.specs.Ranges.{ArePairs, IsBundle}
 use Rattle.pb_object.specs.Renumbered.{is_below, AreAlike, AllAlike, is_fixed, lends, is_once, takes_once, IsRenumbered, IsOfForm}
 use Rattle.pb_object.proofs.BundleForms.{length_pair_words, bundle_takes, bundle_again}
@@ -379,6 +379,16 @@ plain_kind k =
     by_bool (Kept k) (Needed k) (bytes_eq k (codes "join")) (arms_of (λ a. given.Join a.0 a.1)) _ (λ h. arms_kind k (λ a. given.Join a.0 a.1)) (
     by_bool (Kept k) (Needed k) (bytes_eq k (codes "end")) (bare given.End) (comparison k) (λ h. bare_kind k given.End) (comparison_kind k)))))))))
 
+region_kind : (format : Format) (k : Word) (make : ℕ → Given) → IsKind (Kept k) (Needed k) (region_of format make)
+region_kind One k make = record { stands = λ ws well. absurd (well refl); formed = λ vs ws x e a n bad. absurd cc }
+region_kind Two k make = number_kind k make 63 (omega arith) (omega arith)
+
+other_kind : (format : Format) (k : Word) → IsKind (Kept k) (Needed k) (other format k)
+unfolding other
+other_kind format k =
+    by_bool (Kept k) (Needed k) (bytes_eq k (codes "enter")) (region_of format given.Enter) _ (λ h. region_kind format k given.Enter) (
+    by_bool (Kept k) (Needed k) (bytes_eq k (codes "leave")) (region_of format given.Leave) (plain k) (λ h. region_kind format k given.Leave) (plain_kind k))
+
 lends_take : (k : Word) → bytes_eq k (codes "take") ≡ true → lends k ≡ true
 lends_take k h = rw (h) refl
 
@@ -394,9 +404,9 @@ unfolding instr_of
 instr_kind format k =
     by_bool (Kept k) (Needed k) (bytes_eq k (codes "take")) (λ ws. mapped Take (bundle_of format ws)) _
     (λ h. mapped_kind (Kept k) (Needed k) Take (bundle_of format) (bundle_kind format k (lends_take k h))) (
-    by_bool (Kept k) (Needed k) (bytes_eq k (codes "give")) (λ ws. mapped Give (bundle_of format ws)) (λ ws. mapped (instr_view []) (plain k ws))
+    by_bool (Kept k) (Needed k) (bytes_eq k (codes "give")) (λ ws. mapped Give (bundle_of format ws)) (λ ws. mapped (instr_view []) (other format k ws))
     (λ h. mapped_kind (Kept k) (Needed k) Give (bundle_of format) (bundle_kind format k (lends_give k h)))
-    (mapped_kind (Kept k) (Needed k) (instr_view []) (plain k) (plain_kind k)))
+    (mapped_kind (Kept k) (Needed k) (instr_view []) (other format k) (other_kind format k)))
 
 -- ---- places
 
@@ -433,6 +443,8 @@ instr_head (Take ps) = (refl, refl)
 instr_head (Give ps) = (refl, refl)
 instr_head (Fork f n) = (refl, refl)
 instr_head (Join f n) = (refl, refl)
+instr_head (Enter x) = (refl, refl)
+instr_head (Leave x) = (refl, refl)
 instr_head End = (refl, refl)
 
 instr_free : (i : Instr) → is_fixed (instr_words i) ≡ true → ⊥
@@ -463,6 +475,8 @@ instr_free (Give []) e = absurd cc
 instr_free (Give (p ∷ ps)) e = absurd cc
 instr_free (Fork f n) e = absurd cc
 instr_free (Join f n) e = absurd cc
+instr_free (Enter x) e = absurd cc
+instr_free (Leave x) e = absurd cc
 instr_free End e = absurd cc
 
 picked : (b c d : Bool) → b ≡ true → cond b c d ≡ true → c ≡ true
@@ -527,11 +541,11 @@ one_place_words i (k ∷ vs) (j ∷ ws) is e r bad =
     (instr_kind One k).formed vs ws m.0 m.1 r.alike.1 (needed_one k ws (ap (λ (w : Word). takes_once (w ∷ ws)) same ∙ r.once)) refused
 
 no_vars_one : place One (codes "vars" ∷ codes "1" ∷ codes "a" ∷ []) ≡ Malformed
-unfolding place instr_of plain comparison operation
+unfolding place instr_of other plain comparison operation
 no_vars_one = refl
 
 no_vars_two : place Two (codes "vars" ∷ codes "1" ∷ codes "a" ∷ []) ≡ Malformed
-unfolding place instr_of plain comparison operation number
+unfolding place instr_of other plain comparison operation number
 no_vars_two = refl
 
 one_place_formed : (vs ws : List Word) (x : Option ℕ × Instr) → place One vs ≡ Read x → IsOfForm vs ws → place One ws ≡ Malformed → ⊥

@@ -6,22 +6,23 @@ use Rattle.pb_object.specs.declared.words.Verdict.TheVariants.{Malformed, Beyond
 use Rattle.pb_code.specs.declared.instr.Instr.{Instr as Given}
 use Rattle.pb_code.specs.Names.{Word}
 use Rattle.pb_object.specs.Words.{mapped}
-use Rattle.pb_object.specs.Instructions.{plain}
+use Rattle.pb_object.specs.Instructions.{other}
+use Rattle.pb_code.specs.declared.format.Format.{Format}
 use Rattle.pb_code.specs.View.{instr_view}
 use Rattle.pb_object.specs.Rows.{IfRead}
 use Rattle.pb_code.specs.Bundles.{NamesBelow}
 use Rattle.pb_code.proofs.BundleTables.{plain_same, plain_names}
-use Rattle.pb_object.proofs.InstrForms.{plain_is}
+use Rattle.pb_object.proofs.InstrForms.{other_is}
 
-pub plain_view : (bundles : List (List Pair)) (k : Word) (ws : List Word) (v : Verdict Given)
-    → v ≡ plain k ws → mapped (instr_view bundles) v ≡ mapped (instr_view []) (plain k ws)
-plain_view bundles k ws Malformed e = ap (mapped (instr_view [])) e
-plain_view bundles k ws Beyond e = ap (mapped (instr_view [])) e
-plain_view bundles k ws (Read i) e =
-    ap Read (plain_same bundles [] i (plain_is k ws i (sym e))) ∙ ap (mapped (instr_view [])) e
+pub plain_view : (bundles : List (List Pair)) (format : Format) (k : Word) (ws : List Word) (v : Verdict Given)
+    → v ≡ other format k ws → mapped (instr_view bundles) v ≡ mapped (instr_view []) (other format k ws)
+plain_view bundles format k ws Malformed e = ap (mapped (instr_view [])) e
+plain_view bundles format k ws Beyond e = ap (mapped (instr_view [])) e
+plain_view bundles format k ws (Read i) e =
+    ap Read (plain_same bundles [] i (other_is format k ws i (sym e))) ∙ ap (mapped (instr_view [])) e
 
-pub plain_names_read : (n : ℕ) (k : Word) (ws : List Word) (v : Verdict Given)
-    → v ≡ plain k ws → IfRead v (NamesBelow n)
-plain_names_read n k ws Malformed e = tt
-plain_names_read n k ws Beyond e = tt
-plain_names_read n k ws (Read i) e = plain_names n i (plain_is k ws i (sym e))
+pub plain_names_read : (n : ℕ) (format : Format) (k : Word) (ws : List Word) (v : Verdict Given)
+    → v ≡ other format k ws → IfRead v (NamesBelow n)
+plain_names_read n format k ws Malformed e = tt
+plain_names_read n format k ws Beyond e = tt
+plain_names_read n format k ws (Read i) e = plain_names n i (other_is format k ws i (sym e))

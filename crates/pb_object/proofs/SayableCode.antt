@@ -12,7 +12,7 @@ use Rattle.pb_base.proofs.Lists.{get_mapped}
 use Rattle.pb_code.specs.declared.format.Format.{Format}
 use Rattle.pb_code.specs.declared.format.Format.TheVariants.{One, Two}
 use Rattle.pb_code.specs.Code.{Instr, Push, Load, Store, Compute1, Compute2, Jump, JumpIfZero, PrintTop, Take, Give}
-use Rattle.pb_code.specs.Code.{Fork, Join, End, ProcessCode}
+use Rattle.pb_code.specs.Code.{Fork, Join, Enter, Leave, End, ProcessCode}
 use Rattle.pb_code.specs.Whole.{Code, ProcessLabels}
 use Rattle.pb_code.specs.Names.{Word}
 use Rattle.pb_object.specs.Words.{are_new}
@@ -62,6 +62,8 @@ instr_two (Take ps) h s = bundle_good 16 ps h h.size.1
 instr_two (Give ps) h s = bundle_good 16 ps h h.size.1
 instr_two (Fork f n) h s = (h.0.0, (let b = h.0.1 in omega (arith, b)), h.1.0, h.1.1)
 instr_two (Join f n) h s = (h.0.0, (let b = h.0.1 in omega (arith, b)), h.1.0, h.1.1)
+instr_two (Enter x) h s = h
+instr_two (Leave x) h s = h
 instr_two End h s = tt
 
 instr_one : (i : Instr) → HasSmallNumbers i → Signed i → IsSingle i → IsInstr One i
@@ -77,6 +79,8 @@ instr_one (Take ps) h s one = bundle_good 1 ps h (omega (arith, one))
 instr_one (Give ps) h s one = bundle_good 1 ps h (omega (arith, one))
 instr_one (Fork f n) h s one = (h.0.0, (let b = h.0.1 in omega (arith, b)), h.1.0, h.1.1)
 instr_one (Join f n) h s one = (h.0.0, (let b = h.0.1 in omega (arith, b)), h.1.0, h.1.1)
+instr_one (Enter x) h s one = absurd one
+instr_one (Leave x) h s one = absurd one
 instr_one End h s one = tt
 
 abbrev EachPlace : List Instr → (Instr → Type 0) → Type 0
@@ -213,6 +217,8 @@ instr_single (Take ps) h = bundle_single ps h
 instr_single (Give ps) h = bundle_single ps h
 instr_single (Fork f n) h = tt
 instr_single (Join f n) h = tt
+instr_single (Enter x) h = h
+instr_single (Leave x) h = h
 instr_single End h = tt
 
 row_single : (m : ℕ) (before : List ProcessRow) (row : ProcessRow) → IsProcess One m before row → EachPlace (code_of_row row).instrs IsSingle

@@ -13,7 +13,7 @@ use Rattle.pb_base.proofs.Lists.{get_mapped}
 use Rattle.pb_code.specs.declared.format.Format.{Format}
 use Rattle.pb_code.specs.declared.format.Format.TheVariants.{Two}
 use Rattle.pb_code.specs.Code.{Instr, Push, Load, Store, Compute1, Compute2, Jump, JumpIfZero, PrintTop, Take, Give}
-use Rattle.pb_code.specs.Code.{Fork, Join, End, ProcessCode}
+use Rattle.pb_code.specs.Code.{Fork, Join, Enter, Leave, End, ProcessCode}
 use Rattle.pb_code.specs.Whole.{Code, ProcessLabels}
 use Rattle.pb_code.specs.Names.{Word, is_name, is_among}
 use Rattle.pb_object.specs.Words.{is_new_name, are_new}
@@ -123,6 +123,8 @@ instr_small (Take ps) h = bundle_small ps h
 instr_small (Give ps) h = bundle_small ps h
 instr_small (Fork f n) h = ((h.0, (let b = h.1 in omega (arith, b))), (h.2, h.3))
 instr_small (Join f n) h = ((h.0, (let b = h.1 in omega (arith, b))), (h.2, h.3))
+instr_small (Enter x) h = h
+instr_small (Leave x) h = h
 instr_small End h = tt
 
 module _ (m : ℕ) (before : List ProcessRow) (row : ProcessRow) (h : IsProcess Two m before row) where

@@ -1,7 +1,7 @@
 -- What each format can say of code within its limits.
 use Rattle.std.specs.Prelude.{◌≡◌, ◌≤◌, ℕ, List, length, slice_get, Some, ⊤}
 use Rattle.pb_base.specs.declared.limits.TheConstants.{MAX_FIRST_PROCESSES}
-use Rattle.pb_code.specs.Code.{Instr, Take, Give}
+use Rattle.pb_code.specs.Code.{Instr, Take, Give, Enter, Leave}
 use Rattle.pb_code.specs.Limits.{AreLabels, EachProcess, KeepsLimits, PushesFit}
 use Rattle.pb_code.specs.Whole.{Code, ProcessLabels}
 
@@ -11,10 +11,12 @@ pub record KeepsRanges (code : Code) (labels : List ProcessLabels) : Type 0 wher
   pub pushes : PushesFit code
   pub fit : AreLabels code labels
 
--- a take or a give is of one resource
+-- a take or a give is of one resource, and no region is entered
 abbrev pub IsSingle : Instr → Type 0
 IsSingle (Take bundle) = length bundle ≡ 1
 IsSingle (Give bundle) = length bundle ≡ 1
+IsSingle (Enter x) = ⊥
+IsSingle (Leave x) = ⊥
 IsSingle i = ⊤
 
 -- what of code within the limits the first format can say

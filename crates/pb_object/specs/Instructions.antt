@@ -15,7 +15,7 @@ use Rattle.pb_code.specs.declared.format.Format.TheVariants.{One, Two}
 use Rattle.pb_code.specs.declared.instr.Instr.{Instr as Given}
 use Rattle.pb_code.specs.declared.instr.Instr.TheVariants as given
 use Rattle.pb_code.specs.Code.{Instr, Push, Load, Store, Compute1, Compute2, Jump, JumpIfZero, PrintTop, Take, Give}
-use Rattle.pb_code.specs.Code.{Fork, Join, End}
+use Rattle.pb_code.specs.Code.{Fork, Join, Enter, Leave, End}
 use Rattle.pb_code.specs.View.{instr_view}
 use Rattle.pb_code.specs.Names.{Word}
 use Rattle.pb_object.specs.Words.{paired, mapped, number}
@@ -54,6 +54,8 @@ instr_words (Take pairs) = codes "take" ∷ pair_words pairs
 instr_words (Give pairs) = codes "give" ∷ pair_words pairs
 instr_words (Fork f n) = codes "fork" ∷ decimal f ∷ decimal n ∷ []
 instr_words (Join f n) = codes "join" ∷ decimal f ∷ decimal n ∷ []
+instr_words (Enter x) = codes "enter" ∷ decimal x ∷ []
+instr_words (Leave x) = codes "leave" ∷ decimal x ∷ []
 instr_words End = codes "end" ∷ []
 
 -- a source line, 0 for none
@@ -168,11 +170,22 @@ plain k ws =
     select k (codes "join") (mapped (λ a. given.Join a.0 a.1) (two 1 (MAX_ARMS - 1) 1 MAX_FORK ws)) (
     select k (codes "end") (bare given.End ws) (comparison k ws)))))))))
 
+-- an instruction of a region, which the first format does not have
+abbrev pub region_of : Format → (ℕ → Given) → List Word → Verdict Given
+region_of One make ws = Malformed
+region_of Two make ws = mapped make (alone (number 0 (MAX_INTEGERS - 1)) ws)
+
+-- an instruction of a region, or one of those above
+unfoldable pub other : Format → Word → List Word → Verdict Given
+other format k ws =
+    select k (codes "enter") (region_of format given.Enter ws) (
+    select k (codes "leave") (region_of format given.Leave ws) (plain k ws))
+
 -- an instruction, by its keyword k and the words after it
 unfoldable pub instr_of : Format → Word → List Word → Verdict Instr
 instr_of format k ws =
     select k (codes "take") (mapped Take (bundle_of format ws)) (
-    select k (codes "give") (mapped Give (bundle_of format ws)) (mapped (instr_view []) (plain k ws)))
+    select k (codes "give") (mapped Give (bundle_of format ws)) (mapped (instr_view []) (other format k ws)))
 
 -- an instruction, by all of its words
 abbrev pub instr : Format → List Word → Verdict Instr

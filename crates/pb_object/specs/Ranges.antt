@@ -10,7 +10,7 @@ use Rattle.pb_code.specs.Limits.{IsLine, IsSigned}
 use Rattle.pb_code.specs.declared.format.Format.{Format}
 use Rattle.pb_code.specs.declared.format.Format.TheVariants.{One, Two}
 use Rattle.pb_code.specs.Code.{Instr, Push, Load, Store, Compute1, Compute2, Jump, JumpIfZero, PrintTop, Take, Give}
-use Rattle.pb_code.specs.Code.{Fork, Join, End}
+use Rattle.pb_code.specs.Code.{Fork, Join, Enter, Leave, End}
 use Rattle.pb_code.specs.Names.{Word, is_name}
 use Rattle.pb_object.specs.Words.{is_new_name, are_new}
 use Rattle.pb_object.specs.Instructions.{most_pairs}
@@ -39,6 +39,11 @@ pub record IsBundle (most : ℕ) (ps : List Pair) : Type 0 where
 abbrev pub AreArms : ℕ → ℕ → Type 0
 AreArms f n = (1 ≤ f) × (f < MAX_ARMS) × (1 ≤ n) × (n ≤ MAX_FORK)
 
+-- the first format has no regions
+abbrev pub IsRegion : Format → ℕ → Type 0
+IsRegion One x = ⊥
+IsRegion Two x = x < MAX_INTEGERS
+
 -- an instruction with its numbers in range
 abbrev pub IsInstr : Format → Instr → Type 0
 IsInstr format (Push v) = IsSigned v
@@ -53,6 +58,8 @@ IsInstr format (Take pairs) = IsBundle (most_pairs format) pairs
 IsInstr format (Give pairs) = IsBundle (most_pairs format) pairs
 IsInstr format (Fork f n) = AreArms f n
 IsInstr format (Join f n) = AreArms f n
+IsInstr format (Enter x) = IsRegion format x
+IsInstr format (Leave x) = IsRegion format x
 IsInstr format End = ⊤
 
 -- the first format has no source lines

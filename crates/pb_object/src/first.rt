@@ -10,17 +10,18 @@ ghost use Rattle.pb_code.specs.View.{code_view, instr_view, process_view};
 use pb_base::limits::MAX_FIRST_PROCESSES;
 use pb_code::{Code, Instr, ProcessCode, pairs};
 
-/// Returns whether an instruction takes or gives no more than one resource.
+/// Returns whether an instruction takes or gives no more than one resource, and is none of a region.
 fn is_single(code: &ProcessCode, instr: Instr) -> bool
     ensures { (result ≡ true) ↔ IsSingle (instr_view code.now.bundles.items instr) }
 {
     match instr {
         Instr::Take(bundle) | Instr::Give(bundle) => pairs(code, bundle) == 1,
+        Instr::Enter(_) | Instr::Leave(_) => false,
         _ => true,
     }
 }
 
-/// Returns whether all instructions of a process take and give no more than one resource.
+/// Returns whether all instructions of a process take and give no more than one resource, and none is of a region.
 fn are_single(code: &ProcessCode) -> bool
     ensures { (result ≡ true)
         ↔ ((place : ℕ) (i : PlainInstr) → slice_get (process_view code.now).instrs place ≡ Some i → IsSingle i) }
@@ -33,7 +34,8 @@ fn are_single(code: &ProcessCode) -> bool
     true
 }
 
-/// Returns whether there are at most 32 processes, and each takes and gives one resource at a time.
+/// Returns whether there are at most 32 processes, and each takes and gives one resource at a time and has no
+/// region.
 fn fits_first(code: &Code) -> bool
     ensures { (result ≡ true) ↔ FitsFirst (code_view code.now) }
 {
@@ -49,7 +51,7 @@ fn fits_first(code: &Code) -> bool
 }
 
 /// Returns whether code that has a text in the second format also has one in the first: there are at most 32
-/// processes, and each `take` and `give` has one pair.
+/// processes, each `take` and `give` has one pair, and there is no region.
 pub fn fits_first_format(code: &Code) -> bool
     ensures fits { (result ≡ true) ↔ FitsFirst (code_view code.now) }
     // Of code within its limits this says whether it has a text in the first format.

@@ -1,12 +1,13 @@
 //! The lines of instructions that take and give nothing.
 
-ghost use Rattle.std.specs.Prelude.{◌≡◌, ◌<◌, ◌^◌, ◌-◌, ◌==◌, length, map, IfOk, Ok, codes, ◌≤◌, pos, negsuc, min, true};
+ghost use Rattle.std.specs.Prelude.{ℕ, ◌≡◌, ◌<◌, ◌^◌, ◌-◌, ◌==◌, length, map, IfOk, Ok, codes, ◌≤◌, pos, negsuc, min, true};
 ghost use Rattle.pb_object.specs.Instructions as spec;
-ghost use Rattle.pb_object.specs.Words.{number, IsBetween, AreWithin};
+ghost use Rattle.pb_code.specs.declared.instr.Instr.{Instr as GivenInstr};
+ghost use Rattle.pb_object.specs.Words.{mapped, number, IsBetween, AreWithin};
 
 use crate::words::{Verdict, is, number};
 use pb_base::limits::{MAX_ARMS, MAX_FORK, MAX_INTEGERS, MAX_PLACES};
-use pb_code::Instr;
+use pb_code::{Format, Instr};
 
 fn bare(instr: Instr, words: &[&[u8]]) -> Verdict<Instr>
     ensures { result ≡ spec.bare instr (map (λ w. w.now) words.now) }
@@ -158,7 +159,7 @@ fn two(
 
 /// Returns an instruction that takes and gives nothing.
 #[tactic(auto, unfolding(crate::specs::Instructions::plain))]
-pub(crate) fn plain(keyword: &[u8], words: &[&[u8]]) -> Verdict<Instr>
+fn plain(keyword: &[u8], words: &[&[u8]]) -> Verdict<Instr>
     ensures { result ≡ spec.plain keyword.now (map (λ w. w.now) words.now) }
 {
     if is(keyword, "push") {
@@ -211,5 +212,41 @@ pub(crate) fn plain(keyword: &[u8], words: &[&[u8]]) -> Verdict<Instr>
         bare(Instr::End, words)
     } else {
         comparison(keyword, words)
+    }
+}
+
+/// Returns the number of the integer whose region an instruction names, which the first format does not have.
+fn region(format: Format, words: &[&[u8]]) -> Verdict<u8>
+    ensures { (make : ℕ → GivenInstr) → mapped make result ≡ spec.region_of format make (map (λ w. w.now) words.now) }
+{
+    let Format::Two = format else {
+        return Verdict::Malformed;
+    };
+    match alone(0, MAX_INTEGERS as u64 - 1, words) {
+        Verdict::Malformed => Verdict::Malformed,
+        Verdict::Beyond => Verdict::Beyond,
+        Verdict::Read(x) => Verdict::Read(x as u8),
+    }
+}
+
+/// Returns an instruction of a region, or one that takes and gives nothing.
+#[tactic(auto, unfolding(crate::specs::Instructions::other))]
+pub(crate) fn other(format: Format, keyword: &[u8], words: &[&[u8]]) -> Verdict<Instr>
+    ensures { result ≡ spec.other format keyword.now (map (λ w. w.now) words.now) }
+{
+    if is(keyword, "enter") {
+        match region(format, words) {
+            Verdict::Malformed => Verdict::Malformed,
+            Verdict::Beyond => Verdict::Beyond,
+            Verdict::Read(integer) => Verdict::Read(Instr::Enter(integer)),
+        }
+    } else if is(keyword, "leave") {
+        match region(format, words) {
+            Verdict::Malformed => Verdict::Malformed,
+            Verdict::Beyond => Verdict::Beyond,
+            Verdict::Read(integer) => Verdict::Read(Instr::Leave(integer)),
+        }
+    } else {
+        plain(keyword, words)
     }
 }

@@ -124,6 +124,8 @@ fn keyword_of(instr: Instr) -> &'static str
         Instr::Give(_) => "give",
         Instr::Fork { .. } => "fork",
         Instr::Join { .. } => "join",
+        Instr::Enter(_) => "enter",
+        Instr::Leave(_) => "leave",
         Instr::End => "end",
     }
 }
@@ -136,7 +138,9 @@ pub(crate) fn put_instr(out: &mut Vec<u8>, bundles: &[Bundle], instr: Instr) -> 
     let keyword = keyword_of(instr);
     match instr {
         Instr::Push(value) => put_push(out, value),
-        Instr::Load(x) | Instr::Store(x) => put_one(out, keyword, x as u64),
+        Instr::Load(x) | Instr::Store(x) | Instr::Enter(x) | Instr::Leave(x) => {
+            put_one(out, keyword, x as u64)
+        }
         Instr::Jump(target) | Instr::JumpIfZero(target) => put_one(out, keyword, target as u64),
         Instr::Take(place) | Instr::Give(place) => put_bundle_at(out, keyword, bundles, place),
         Instr::Fork { first, count } | Instr::Join { first, count } => {

@@ -7,7 +7,7 @@ ghost use Rattle.pb_object.specs.Rows.{bundle_so_far, place_view, IfRead};
 ghost use Rattle.pb_code.specs.Bundles.{NamesBelow, Extends};
 ghost use Rattle.pb_code.specs.View.{instr_view};
 
-use crate::instr_reader::plain;
+use crate::instr_reader::other;
 use crate::words::{Verdict, is, number, same};
 use pb_base::limits::{MAX_AMOUNT, MAX_LINE, MAX_PAIRS, MAX_RESOURCES};
 use pb_base::{Bundle, Pair};
@@ -159,7 +159,7 @@ fn instr_of(
             Verdict::Read(bundle) => Ok(Verdict::Read(Instr::Give(added(bundles, bundle)?))),
         }
     } else {
-        Ok(plain(keyword, words))
+        Ok(other(format, keyword, words))
     }
 }
 

@@ -11,15 +11,15 @@ returns-else-is-2-clause-instr c =
     let no_give = sym c.is-else-is.ensures ∙ c.if-is-2.false in
     let words = map (λ w. w.now) c.args.words.now in
     rw (no_take, no_give)
-    (plain_view c.args.bundles.now.items c.args.keyword.now words c.plain.result c.plain.ensures)
+    (plain_view c.args.bundles.now.items c.args.format c.args.keyword.now words c.other.result c.other.ensures)
 
 pub returns-else-is-2-clause-names : goal.returns-else-is-2-clause-names
 returns-else-is-2-clause-names c =
     let words = map (λ w. w.now) c.args.words.now in
-    plain_names_read (length c.args.bundles.now.items) c.args.keyword.now words c.plain.result c.plain.ensures
+    plain_names_read (length c.args.bundles.now.items) c.args.format c.args.keyword.now words c.other.result c.other.ensures
 
-pub plain-requires : goal.plain-requires
-plain-requires c = search
+pub other-requires : goal.other-requires
+other-requires c = search
 
 pub returns-in-Malformed-clause-few : goal.returns-in-Malformed-clause-few
 returns-in-Malformed-clause-few c = search rules
