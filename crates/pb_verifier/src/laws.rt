@@ -9,8 +9,9 @@ ghost use Rattle.pb_verifier.specs.Verified.{IsFaultless, IsVerified, VerifiedCo
 /// Verified code, from wherever it comes, in every state that it reaches: no instruction meets a missing
 /// operand, a place, integer, resource or arm that is not there, a give of what is not held, or a fork of an
 /// arm that is not idle; each stack is as deep as the place of its arm says; no request passes its claim;
-/// each loan is within its claim and all loans together within the capital; the loans are safe; and if not
-/// all has ended, some pick is enabled.
+/// each loan is within its claim and all loans together within the capital; the loans are safe; of all arms of
+/// a process at most one is inside the region of an integer, and that one can go on; and if not all has ended,
+/// some pick is enabled.
 pub fn verified_code_is_well_behaved()
     ensures { (code : Code) → IsFaultless code → IsWellBehaved code }
 {}

@@ -11,6 +11,7 @@ returns c code s pick legal =
         live = (words.0 ready.steps).0;
         unmarked = ready.unmarked;
         joins = (words.0 ready.steps).1;
+        enters = (words.0 ready.steps).2;
       },
-      λ may. record { at_home = may.at_home; steps = words.1 (may.live, may.joins); unmarked = may.unmarked },
+      λ may. record { at_home = may.at_home; steps = words.1 (may.live, may.joins, may.enters); unmarked = may.unmarked },
     )
