@@ -1,8 +1,8 @@
 -- In a process that is not over some live arm can step, if the banker allows it.
 use Rattle.std.proofs.Common.{◌≡◌, inl, inr, ℕ, zero, suc, ◌+◌, ◌<◌, ◌≤◌, ℤ, Bool, true, false, cond, ◌&&◌, List}
 use Rattle.std.proofs.Common.{Option, Some, None, option_and_then, refl, sym, ap, ◌∙◌, subst, arith}
-use Rattle.pb_base.specs.Steppers.{Bundle, Effect, Silent, Takes, Faults, ending}
-use Rattle.pb_code.specs.Code.{Instr, Take, Fork, Join, Enter, End, ProcessCode, Thread, Idle, Live, Ended, CodeProcess}
+use Rattle.pb_base.specs.Steppers.{Effect, Silent, Faults}
+use Rattle.pb_code.specs.Code.{Instr, Join, ProcessCode, Thread, Idle, Live, Ended, CodeProcess}
 use Rattle.pb_code.specs.Code.{thread, ThreadStep, region_at, some_inside}
 use Rattle.pb_code.specs.Code.{act, is_over, all_over, dismiss, apply_step, step_thread, step_process}
 use Rattle.pb_code.specs.Code.{code_over}

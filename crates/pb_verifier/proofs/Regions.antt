@@ -9,7 +9,7 @@ use Rattle.pb_base.proofs.Cases.{same_or_not}
 use Rattle.pb_code.specs.Code.{Instr, Jump, JumpIfZero, Fork, Join, Enter, Leave, End, ProcessCode, Thread, Idle, Live}
 use Rattle.pb_code.specs.Code.{Ended, CodeProcess, thread, act, apply_step, step_thread, step_process, code_process}
 use Rattle.pb_code.specs.Code.{region_after, region_at, is_region_of, is_inside, some_inside}
-use Rattle.pb_code.proofs.Regions.{region_at_next, inside_lives, none_inside}
+use Rattle.pb_code.proofs.Regions.{region_at_next, none_inside}
 use Rattle.pb_verifier.specs.Places.{InstrAt, arms, entry, IsAmong, Follows}
 use Rattle.pb_verifier.proofs.ArmPlaces.{Checked}
 use Rattle.pb_verifier.proofs.ThreadTurns.{Turn, runs, traps, forks, joins, stops}

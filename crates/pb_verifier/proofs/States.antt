@@ -288,7 +288,7 @@ module _ (whole : Code) (faultless : IsFaultless whole) where
           let ok = checked q code at in
           let w = steps_at q e code process at here in
           let turn = turned code ok m.before process pick.arm m.effect (good.fit q code m.before at w.0) w.1 in
-          one_next code ok (thread m.before.threads) (thread process.threads) pick.arm m.effect (good.one q code m.before at w.0)
+          one_next code ok (thread m.before.threads) (thread process.threads) pick.arm (good.one q code m.before at w.0) m.effect
           (entered code m.before process pick.arm m.effect w.1) turn.turn
 
       loans_at : (q : ℕ) → q ≡ pick.process → (code : ProcessCode) (process : CodeProcess) (at : slice_get codes q ≡

@@ -17,13 +17,13 @@ use pb_code::{Code, Instr, ProcessCode};
 use std::alloc::Global;
 
 /// Returns the region that is open after an instruction.
-fn region_behind(instr: Instr, open: Option<u8>) -> Option<u8>
-    ensures { (bundles : List Bundle) → result ≡ region_after (instr_view bundles instr) open }
+fn region_behind(instr: Instr, before: Option<u8>) -> Option<u8>
+    ensures { (bundles : List Bundle) → result ≡ region_after (instr_view bundles instr) before }
 {
     match instr {
         Instr::Enter(integer) => Some(integer),
         Instr::Leave(_) => None,
-        _ => open,
+        _ => before,
     }
 }
 
@@ -36,10 +36,10 @@ pub fn regions_of(alloc: Global, code: &ProcessCode) -> Result<Vec<Option<u8>>, 
     ensures { IfOk result (λ regions. AreRegions (instrs_of code.now) regions.items) }
 {
     let mut regions = Vec::with_capacity(alloc, places(code))?;
-    let mut open = None;
+    let mut current = None;
     for place in 0..places(code) {
-        regions.push(open)?;
-        open = region_behind(instr_at(code, place), open);
+        regions.push(current)?;
+        current = region_behind(instr_at(code, place), current);
     }
     Ok(regions)
 }

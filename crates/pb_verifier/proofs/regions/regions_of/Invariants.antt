@@ -7,5 +7,5 @@ use Rattle.pb_verifier.proofs.regions.regions_of.Given as goal
 abbrev pub invariant-loop-place : goal.invariant-loop-place
 invariant-loop-place l = record {
   below : AreRegionsBelow (instrs_of l.code) l.place l.regions.items;
-  is : l.open ≡ region_at (instrs_of l.code) l.place;
+  is : l.current ≡ region_at (instrs_of l.code) l.place;
 }

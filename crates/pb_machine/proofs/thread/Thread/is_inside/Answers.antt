@@ -25,7 +25,7 @@ returns-in-Some c instrs are placed =
     let live : t.state ≡ given.Live = search rules in
     let view = state_is t given.Live live in
     let place : region_in c.args.regions.now t.place ≡ region_at instrs t.place = are.each t.place (placed t.place t.stack.items view) in
-    let found : region_in c.args.regions.now t.place ≡ Some c.in-Some.open =
+    let found : region_in c.args.regions.now t.place ≡ Some c.in-Some.other =
     ap (region_in c.args.regions.now) (sym c.from.ensures) ∙ sym c.region.ensures ∙ c.in-Some.is in
     sym (ap (is_inside instrs c.args.integer) view ∙ ap (is_region_of c.args.integer) (sym place ∙ found))
 
