@@ -1,6 +1,6 @@
 -- The region of a place, that of the place after it, and who is inside.
 use Rattle.std.proofs.Common.{◌≡◌, ℕ, zero, suc, ◌+◌, ◌<◌, ℤ, Bool, true, false, ◌||◌, List, [], ◌∷◌, length, Option}
-use Rattle.std.proofs.Common.{Some, None, refl, ap, add-one, eqb-true, arith}
+use Rattle.std.proofs.Common.{Some, None, set, refl, sym, ap, ◌∙◌, add-one, eqb-true, arith}
 use Rattle.std.specs.Prelude.{slice_get}
 use Rattle.pb_code.specs.Code.{Instr, Thread, Idle, Live, Ended, thread, region_after, region_from, region_at}
 use Rattle.pb_code.specs.Code.{is_region_of, is_inside, some_inside}
@@ -76,3 +76,24 @@ none_from instrs x (t ∷ threads) none =
     let here : is_inside instrs x t ≡ false = none 0 (omega arith) in
     let later : some_inside instrs x threads ≡ false = none_from instrs x threads (λ a u. none (suc a) (omega (arith, u))) in
     rw (here, later) refl
+
+-- if none of the arms is inside, none is after a step of one that enters nothing
+pub none_after : (instrs : List Instr) (x : ℕ) (threads : List Thread) (a : ℕ) (after : Thread)
+    → (is_inside instrs x after ≡ true → is_inside instrs x (thread threads a) ≡ true) → some_inside instrs x threads ≡ false
+    → some_inside instrs x (set threads a after) ≡ false
+none_after instrs x [] a after less none = refl
+none_after instrs x (t ∷ threads) zero after less none = go (is_inside instrs x t) refl (is_inside instrs x after) refl none
+  where
+    go : (b : Bool) → is_inside instrs x t ≡ b → (c : Bool) → is_inside instrs x after ≡ c → (b || some_inside instrs x threads) ≡ false
+        → (is_inside instrs x after || some_inside instrs x threads) ≡ false
+    go true was c is h = cc
+    go false was true is h = let z : false ≡ true = sym was ∙ less is in cc
+    go false was false is h = rw is h
+none_after instrs x (t ∷ threads) (suc a) after less none =
+    go (is_inside instrs x t) refl none (none_after instrs x threads a after less)
+  where
+    go : (b : Bool) → is_inside instrs x t ≡ b → (b || some_inside instrs x threads) ≡ false
+        → (some_inside instrs x threads ≡ false → some_inside instrs x (set threads a after) ≡ false)
+        → (is_inside instrs x t || some_inside instrs x (set threads a after)) ≡ false
+    go true was h later = cc
+    go false was h later = rw was (later h)
