@@ -2,7 +2,8 @@
 use Rattle.std.specs.Prelude.{ℕ, zero, suc, ◌+◌, nat_le, Bool, true, false, cond, List, Option, Some, None, option_and_then, slice_get}
 use Rattle.pb_base.specs.declared.pick.Pick.{Pick}
 use Rattle.pb_code.specs.Code.{CodeProcess, Instr, ProcessCode, Thread, Idle, Live, Ended, thread}
-use Rattle.pb_code.specs.Code.{Push, Load, Store, Compute1, Compute2, Jump, JumpIfZero, PrintTop, Take, Give, Fork, Join, End}
+use Rattle.pb_code.specs.Code.{Push, Load, Store, Compute1, Compute2, Jump, JumpIfZero, PrintTop, Take, Give, Fork, Join}
+use Rattle.pb_code.specs.Code.{Enter, Leave, End}
 use Rattle.pb_code.specs.Whole.{Code}
 use Rattle.pb_draw.specs.declared.accesses.Access.{Access}
 use Rattle.pb_draw.specs.declared.accesses.Access.TheVariants.{Assigns, Reads}
@@ -23,6 +24,8 @@ access_by (Take bundle) = None
 access_by (Give bundle) = None
 access_by (Fork first count) = None
 access_by (Join first count) = None
+access_by (Enter x) = None
+access_by (Leave x) = None
 access_by End = None
 
 -- what the next step of an arm does to an integer, if it is live and that step does something
