@@ -20,7 +20,7 @@ pub mod ProcessFaults
 pub mod ReachedPlaces
 pub mod ReachSearch
 pub mod RegionTables
-pub mod Regions
+pub mod InsideOnce
 pub mod Requests
 pub mod SharedHolds
 pub mod SoundBehaviour

@@ -34,7 +34,7 @@ use Rattle.pb_verifier.proofs.ArmPlaces.{Checked, follows_in_arm, fork_in_arm, p
 use Rattle.pb_verifier.proofs.ThreadTurns.{Turn, runs, traps, forks, joins, stops, Fit, turned, can_act}
 use Rattle.pb_verifier.proofs.PeakTables.{replicate_read}
 use Rattle.pb_verifier.proofs.ThreadOrder.{idle_before, order_next, fails_or_lives, fit_next, fit_start}
-use Rattle.pb_verifier.proofs.Regions.{OneInside, entered, one_next, one_start}
+use Rattle.pb_verifier.proofs.InsideOnce.{OneInside, entered, one_next, one_start}
 use Rattle.pb_verifier.proofs.ThreadHoldings.{holds, holds_next, holds_none, holds_start, part_of, under_peak}
 
 pub slice_set_same : {X : Type 0} (xs : List X) (i : ℕ) (x y : X) → slice_get (slice_set xs i x) i ≡ Some y → x ≡ y
