@@ -4,7 +4,7 @@ use Rattle.std.specs.Fmt.{decimal}
 use Rattle.pb_options.specs.Codes.{code_name}
 use Rattle.pb_options.specs.declared.code.Code.{Code}
 use Rattle.pb_options.specs.declared.code.Code.TheVariants.{L1, L2, L3, L4, P1, P2, P3, N1, N2, N3, N4, N6, C1, O1, O2}
-use Rattle.pb_options.specs.declared.code.Code.TheVariants.{V1, V2, V3, V4, V5, V6, V7, V8, V9, K1, K2, H1}
+use Rattle.pb_options.specs.declared.code.Code.TheVariants.{V1, V2, V3, V4, V5, V6, V7, V8, V9, V10, K1, K2, H1}
 use Rattle.pb_lexer.specs.declared.fault.LexFault.{LexFault}
 use Rattle.pb_lexer.specs.declared.fault.LexFault.TheVariants as lex
 use Rattle.pb_grammar.specs.declared.fault.ParseFault.{ParseFault}
@@ -88,6 +88,7 @@ verify_cause verify.NoDepths = plain V2
 verify_cause verify.NoHoldings = plain V4
 verify_cause verify.LeftAtEnd = plain V5
 verify_cause verify.OverClaim = plain V7
+verify_cause verify.WrongRegions = plain V10
 verify_cause verify.NoMemory = None
 
 -- the cause of bytes that give no safe code; there is none if they are out of memory

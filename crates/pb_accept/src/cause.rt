@@ -114,6 +114,7 @@ pub fn verify_cause(fault: VerifyFault) -> Option<Cause>
         VerifyFault::NoHoldings => plain(Code::V4),
         VerifyFault::LeftAtEnd => plain(Code::V5),
         VerifyFault::OverClaim => plain(Code::V7),
+        VerifyFault::WrongRegions => plain(Code::V10),
         VerifyFault::NoMemory => None,
     }
 }

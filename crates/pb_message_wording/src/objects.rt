@@ -81,6 +81,8 @@ fn in_words(fault: VerifyFault) -> &'static str {
             "a place is reached with different holdings, or a give does not match its take",
         VerifyFault::LeftAtEnd => "an arm ends with operands or holdings left",
         VerifyFault::OverClaim => "a process may hold more than it claims",
+        VerifyFault::WrongRegions =>
+            "a region is entered from inside one, left from outside, or jumped into or out of, or has a wait inside",
         VerifyFault::NoMemory => "out of memory",
     }
 }

@@ -3,7 +3,7 @@ use Rattle.std.specs.Prelude.{◌≡◌, ℕ, List, [], ◌∷◌, Result, Match
 use Rattle.pb_options.specs.declared.code.Code.{Code}
 use Rattle.pb_options.specs.declared.code.Code.TheVariants.{L1, L2, L3, L4, P1, P2, P3, N1, N2, N3, N4, N6, C1, E1}
 use Rattle.pb_options.specs.declared.code.Code.TheVariants.{O1, O2, V1}
-use Rattle.pb_options.specs.declared.code.Code.TheVariants.{V2, V3, V4, V5, V6, V7, V8, V9, K1, K2, H1, G1, G2, G3}
+use Rattle.pb_options.specs.declared.code.Code.TheVariants.{V2, V3, V4, V5, V6, V7, V8, V9, V10, K1, K2, H1, G1, G2, G3}
 use Rattle.pb_options.specs.declared.code.Code.TheVariants.{G4, B1, B2, B3, B4, B5, B6, B7, B8, B9, B10, B11, B12, B13, B14, W1, W2, W3, Input, Output}
 
 -- the word after `refused` or `warning`
@@ -33,6 +33,7 @@ code_name V6 = codes "V6"
 code_name V7 = codes "V7"
 code_name V8 = codes "V8"
 code_name V9 = codes "V9"
+code_name V10 = codes "V10"
 code_name K1 = codes "K1"
 code_name K2 = codes "K2"
 code_name H1 = codes "H1"
@@ -64,7 +65,7 @@ code_name Output = codes "output"
 abbrev pub all_codes : List Code
 all_codes =
     L1 ∷ L2 ∷ L3 ∷ L4 ∷ P1 ∷ P2 ∷ P3 ∷ N1 ∷ N2 ∷ N3 ∷ N4 ∷ N6 ∷ C1 ∷ E1 ∷ O1 ∷ O2 ∷ V1 ∷ V2 ∷ V3 ∷ V4 ∷
-    V5 ∷ V6 ∷ V7 ∷ V8 ∷ V9 ∷ K1 ∷ K2 ∷ H1 ∷ G1 ∷ G2 ∷ G3 ∷ G4 ∷ B1 ∷ B2 ∷ B3 ∷ B4 ∷ B5 ∷ B6 ∷ B7 ∷ B8 ∷
+    V5 ∷ V6 ∷ V7 ∷ V8 ∷ V9 ∷ V10 ∷ K1 ∷ K2 ∷ H1 ∷ G1 ∷ G2 ∷ G3 ∷ G4 ∷ B1 ∷ B2 ∷ B3 ∷ B4 ∷ B5 ∷ B6 ∷ B7 ∷ B8 ∷
     B9 ∷ B10 ∷ B11 ∷ B12 ∷ B13 ∷ B14 ∷ W1 ∷ W2 ∷ W3 ∷ Input ∷ Output ∷ []
 
 -- what is read of a text: the code of this name, or an error if no code has it

@@ -59,6 +59,8 @@ pub enum Code {
     V8,
     /// Code that is out of its limits.
     V9,
+    /// Regions that do not fit.
+    V10,
     /// A pick line that is not of its form.
     K1,
     /// Too many picks.
@@ -121,7 +123,7 @@ pub struct UnknownCode;
 impl Code {
     /// All codes, in the order in which they are listed: those of texts, of objects, of picks, of sessions and of
     /// the bank, those of warnings, and then those of inputs and outputs that are too long.
-    pub const ALL: [Code; 51] = [
+    pub const ALL: [Code; 52] = [
         Code::L1,
         Code::L2,
         Code::L3,
@@ -147,6 +149,7 @@ impl Code {
         Code::V7,
         Code::V8,
         Code::V9,
+        Code::V10,
         Code::K1,
         Code::K2,
         Code::H1,
@@ -205,6 +208,7 @@ impl Code {
             Code::V7 => "V7",
             Code::V8 => "V8",
             Code::V9 => "V9",
+            Code::V10 => "V10",
             Code::K1 => "K1",
             Code::K2 => "K2",
             Code::H1 => "H1",
