@@ -67,6 +67,7 @@ module _ (code : ProcessCode) where
     where
       forth (Enter number) read c place same = elim c [ ]
       forth (Leave number) read c place same = elim c [ ]
+
       forth : (i : Instr) → InstrAt code last i → Closes i → (place : ℕ) → place ≡ last → InstrAt code place End ⊎
           ((target : ℕ) × InstrAt code place (Jump target))
       forth (Push v) read c place same = elim c [ ]
