@@ -65,9 +65,6 @@ module _ (code : ProcessCode) where
   pub closed_by : (a last : ℕ) (i : Instr) → last + 1 ≡ arm_end code a → InstrAt code last i → Closes i ↔ IsClosed code a
   closed_by a last i e read = (λ c place u. forth i read c place (omega arith), λ closed. back i read (closed last e))
     where
-      forth (Enter number) read c place same = elim c [ ]
-      forth (Leave number) read c place same = elim c [ ]
-
       forth : (i : Instr) → InstrAt code last i → Closes i → (place : ℕ) → place ≡ last → InstrAt code place End ⊎
           ((target : ℕ) × InstrAt code place (Jump target))
       forth (Push v) read c place same = elim c [ ]
@@ -82,6 +79,8 @@ module _ (code : ProcessCode) where
       forth (Give bundle) read c place same = elim c [ ]
       forth (Fork first count) read c place same = elim c [ ]
       forth (Join first count) read c place same = elim c [ ]
+      forth (Enter number) read c place same = elim c [ ]
+      forth (Leave number) read c place same = elim c [ ]
       forth End read c place same = inl (ap (slice_get code.instrs) same ∙ read)
 
       back : (i : Instr) → InstrAt code last i → InstrAt code last End ⊎ ((target : ℕ) × InstrAt code last (Jump target)) → Closes i
