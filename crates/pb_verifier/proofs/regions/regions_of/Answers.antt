@@ -1,4 +1,4 @@
-use Rattle.std.proofs.Common.{◌≡◌, ℕ, Option, List, ◌∷◌, [], ◌++◌, ap, sym, ◌∙◌, subst, arith}
+use Rattle.std.proofs.Common.{◌+◌, ap, sym, ◌∙◌, subst}
 use Rattle.pb_code.specs.Code.{region_after}
 use Rattle.pb_code.proofs.Regions.{region_at_next}
 use Rattle.pb_verifier.specs.Given.{instrs_of, plain}
