@@ -13,7 +13,7 @@ loop-place-preserved c =
     record {
       below = subst (AreRegionsBelow instrs (place + 1)) (sym c.in_ok-push.ensures.items)
           (regions_more instrs place c.loop-place.regions.items c.loop-place.current c.loop-place.invariant.below c.loop-place.invariant.is);
-      is = c.region_behind.ensures c.args.code.now.bundles.items
+      is = c.region_behind-current.ensures c.args.code.now.bundles.items
           ∙ ap (region_after (plain c.args.code.now c.instr_at.result)) c.loop-place.invariant.is
           ∙ sym (region_at_next instrs place (plain c.args.code.now c.instr_at.result) c.instr_at.ensures);
     }
