@@ -21,7 +21,7 @@ DEFINED = re.compile(r"(?=.*\bpub )(?:(?:abbrev|unfoldable|opaque|data|record|pu
 HEAD = re.compile(r"( *)(?:pub(?:\(crate\))? )?(?:const )?fn \w+")
 LEAST_LINES = 3
 # What is left of each, which may become less.
-MOST = {"lemmas": 4, "functions": 23, "names": 288}
+MOST = {"lemmas": 4, "functions": 23, "names": 286}
 # Each crate that tells data has these, by the same name: what it says, as plain data, and as bytes in each form.
 ROLES = {"Saying", "said_view", "line_of", "json_of", "text_of", "in_objects"}
 
