@@ -31,10 +31,10 @@ const REFUSED: [&[u8]; 9] = [
     b"",
 ];
 
-/// How runs are compared.
-fn options_of(lend: Lend, states: u32, any_order: bool, fair: bool) -> OutcomesOptions {
+/// How runs are compared, by a search that is cut off early or that goes through all of them.
+fn options_of(lend: Lend, cut_off: bool, any_order: bool, fair: bool) -> OutcomesOptions {
     OutcomesOptions {
-        states,
+        states: if cut_off { 3 } else { 1_000 },
         lend,
         first_deadlock: false,
         prints: false,
@@ -65,8 +65,8 @@ fn all_are_alike(
 #[test]
 fn compared_runs_are_told_alike(rt: HostRuntime) {
     let alloc = rt.alloc();
-    let plain = options_of(Lend::Banker, 1_000, false, false);
-    let by_cash = options_of(Lend::Cash, 1_000, true, true);
+    let plain = options_of(Lend::Banker, false, false, false);
+    let by_cash = options_of(Lend::Cash, false, true, true);
     assert!(rt; matches!(all_are_alike(alloc, plain, &COMPARED), Ok(true)));
     assert!(rt; matches!(all_are_alike(alloc, by_cash, &COMPARED), Ok(true)));
 }
@@ -74,13 +74,13 @@ fn compared_runs_are_told_alike(rt: HostRuntime) {
 #[test]
 fn a_search_that_is_cut_off_is_told_alike(rt: HostRuntime) {
     let alloc = rt.alloc();
-    let few = options_of(Lend::Banker, 3, false, true);
+    let few = options_of(Lend::Banker, true, false, true);
     assert!(rt; matches!(all_are_alike(alloc, few, &COMPARED), Ok(true)));
 }
 
 #[test]
 fn refusals_of_what_is_asked_are_told_alike(rt: HostRuntime) {
     let alloc = rt.alloc();
-    let plain = options_of(Lend::Banker, 1_000, false, false);
+    let plain = options_of(Lend::Banker, false, false, false);
     assert!(rt; matches!(all_are_alike(alloc, plain, &REFUSED), Ok(true)));
 }
