@@ -7,7 +7,8 @@ use Rattle.std.proofs.lemmas.List.{take_more, drop_all, length-drop}
 use Rattle.pb_bank.specs.Answers.{first_of, rest_of}
 use Rattle.pb_bank.specs.Words.{is_blank, ends_word, before, cut_words, trimmed, words_of}
 
-next_at : (text : List ℕ) (i : ℕ) → i < length text → drop i text ≡ get_or text i 0 ∷ drop (i + 1) text
+-- what is left of a text from a place on begins with the byte there
+pub next_at : (text : List ℕ) (i : ℕ) → i < length text → drop i text ≡ get_or text i 0 ∷ drop (i + 1) text
 next_at text i lt =
     let n : suc i ≡ i + 1 = omega arith in
     drop-cons text i 0 lt ∙ ap (λ k. get_or text i 0 ∷ drop k text) n

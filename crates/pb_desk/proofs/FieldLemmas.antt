@@ -1,14 +1,9 @@
 -- A text, parted at its first space.
-use Rattle.std.proofs.Common.{◌≡◌, ℕ, suc, ◌+◌, ◌<◌, ◌++◌, eqb, Bool, true, false, cond, List, [], ◌∷◌, length, take, drop, get_or}
-use Rattle.std.proofs.Common.{sym, ap, ◌∙◌, arith, append-nil, append_assoc}
-use Rattle.std.proofs.Math.Seq.{drop-cons}
+use Rattle.std.proofs.Common.{◌≡◌, ℕ, ◌+◌, ◌<◌, ◌++◌, eqb, Bool, true, false, cond, List, [], ◌∷◌, length, take, drop, get_or}
+use Rattle.std.proofs.Common.{sym, ap, ◌∙◌, append-nil, append_assoc}
 use Rattle.std.proofs.lemmas.List.{take_more}
+use Rattle.pb_bank.proofs.WordLemmas.{next_at}
 use Rattle.pb_desk.specs.Entries.{field_of, after_field}
-
-next_at : (text : List ℕ) (i : ℕ) → i < length text → drop i text ≡ get_or text i 0 ∷ drop (i + 1) text
-next_at text i lt =
-    let n : suc i ≡ i + 1 = omega arith in
-    drop-cons text i 0 lt ∙ ap (λ k. get_or text i 0 ∷ drop k text) n
 
 -- a byte that is no space is of the field
 pub field_more : (text : List ℕ) (i : ℕ) → i < length text → eqb (get_or text i 0) 32 ≡ false
